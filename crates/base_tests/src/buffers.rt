@@ -44,8 +44,8 @@ fn is_given_so(room: &mut [u8], out: &mut MemSink, given: bool, written: usize) 
     }
     let printed = through::<MemSink, Brand>(room, out);
     let all = printed.result.is_ok();
-    let told = out.written();
-    all == given && told.len() == written && TEXT.starts_with(told)
+    let reported = out.written();
+    all == given && reported.len() == written && TEXT.starts_with(reported)
 }
 
 fn is_row(alloc: Global, row: &(usize, u64, bool, usize)) -> bool {

@@ -87,7 +87,7 @@ fn is_number(amount: Amount, units: i64) -> bool {
 }
 
 /// Whether the fact is what is known.
-fn tells(fact: Fact, known: Known) -> bool {
+fn observe(fact: Fact, known: Known) -> bool {
     let (undef, over, range) = parts(known);
     let numbers = match (fact.range, range) {
         (None, None) => true,
@@ -211,7 +211,7 @@ static CHOICES: [Row; 8] = [
 /// Whether the row says what is known.
 fn is_right(row: Row) -> bool {
     let (op, a, b, c, known) = row;
-    tells(fact_of(op, fact(a), fact(b), fact(c)), known)
+    observe(fact_of(op, fact(a), fact(b), fact(c)), known)
 }
 
 /// The first row that doesn't, if there is one.
@@ -247,8 +247,8 @@ fn facts_of_operators(rt: HostRuntime) {
 
 #[test]
 fn facts_of_literals_and_inputs(rt: HostRuntime) {
-    assert!(rt; tells(fact_of_value(Value::Undef), U) && tells(fact_of_value(Value::Over), O));
-    assert!(rt; tells(fact_of_value(number(-7)), N(-7)) && tells(fact_of_input(), M(LOW, TOP)));
+    assert!(rt; observe(fact_of_value(Value::Undef), U) && observe(fact_of_value(Value::Over), O));
+    assert!(rt; observe(fact_of_value(number(-7)), N(-7)) && observe(fact_of_input(), M(LOW, TOP)));
 }
 
 /// Whether the fact of what is known has one value, which is this.
@@ -269,7 +269,7 @@ fn lacks_zero(known: Known) -> bool {
 }
 
 #[test]
-fn what_a_fact_tells(rt: HostRuntime) {
+fn what_a_fact_holds(rt: HostRuntime) {
     assert!(rt; is_one(U, Value::Undef) && is_one(O, Value::Over) && is_one(N(4), number(4)));
     assert!(rt; is_none(R(4, 5)) && is_none(B) && is_none(M(4, 4)));
     assert!(rt; is_a_number(R(4, 5)) && !is_a_number(M(4, 5)) && !is_a_number(O));

@@ -4,7 +4,7 @@ use std::alloc::Global;
 use tax_print::{Fault, give_fault};
 
 /// Whether a fault is told by this text, by an output that takes a byte at a time, and whose call of this number fails.
-fn is_told(alloc: Global, fault: Fault<'_>, failing: u64, whole: bool, text: &[u8]) -> bool {
+fn is_reported(alloc: Global, fault: Fault<'_>, failing: u64, whole: bool, text: &[u8]) -> bool {
     let Ok(failing) = vec![in alloc; failing] else {
         return false;
     };
@@ -17,7 +17,7 @@ fn is_told(alloc: Global, fault: Fault<'_>, failing: u64, whole: bool, text: &[u
 #[test]
 fn an_input_that_is_too_long(rt: HostRuntime) {
     assert!(rt;
-        is_told(
+        is_reported(
             rt.alloc(),
             Fault::InputTooLong,
             99,
@@ -30,5 +30,5 @@ fn an_input_that_is_too_long(rt: HostRuntime) {
 /// A line whose third write fails ends with what the first two gave.
 #[test]
 fn a_line_that_is_cut(rt: HostRuntime) {
-    assert!(rt; is_told(rt.alloc(), Fault::ListLine(2), 3, false, b"re"));
+    assert!(rt; is_reported(rt.alloc(), Fault::ListLine(2), 3, false, b"re"));
 }

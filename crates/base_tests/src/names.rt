@@ -51,7 +51,7 @@ fn is_list(alloc: Global, last: &[u8], wanted: Option<NamesFault>) -> bool {
 }
 
 #[test]
-fn tells_the_first_name_that_stands_again(rt: HostRuntime) {
+fn finds_the_first_repeated_name(rt: HostRuntime) {
     assert!(rt; is_list(rt.alloc(), b"SEUIL", Some(NamesFault::Repeated(1, 2))));
     assert!(rt; is_list(rt.alloc(), b"REVENU", None));
 }

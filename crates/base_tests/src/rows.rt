@@ -12,7 +12,7 @@ pub fn check(alloc: Global, other: Option<usize>) -> Result<(), Fail> {
 
 fn other_at_row(alloc: Global, row: usize) -> Fail {
     match format!(in alloc; "another answer in row {row}") {
-        Ok(told) => Fail::from(told),
+        Ok(reported) => Fail::from(reported),
         Err(_) => Fail::from("another answer"),
     }
 }

@@ -6,7 +6,7 @@ use Rattle.m_ports.proofs.SinkLemmas.{append_known-append}
 use Rattle.std.specs.List.{AllByRecursion}
 use Rattle.std.proofs.lemmas.List.{drop_more, length-drop, length-map}
 use Rattle.m_fixed.specs.declared.amount.Value.{Value}
-use Rattle.observables.specs.Answers.{told_of}
+use Rattle.observables.specs.Answers.{observation}
 use Rattle.observables.specs.Inputs.{AreValuesOf}
 use Rattle.observables.specs.Outputs.{notes_of}
 use Rattle.observables.specs.declared.answer.Answer.{Answer}
@@ -21,12 +21,12 @@ use Rattle.m_batch.specs.Printing.{MayPrintEach, WritesRows, counted_to_end, pri
 use Rattle.m_batch.specs.declared.fault.PrintFault.{PrintFault}
 use Rattle.m_batch.specs.declared.fault.PrintFault.TheVariants.{Memory, Failed}
 use Rattle.m_cases.specs.Cases.{AreExpected, cases_of, numbered, numbered_cases}
-use Rattle.m_cases.specs.Mismatches.{answer_values, count_line, got_of, is_met, mismatch_count, mismatch_lines, named_values, output_names, told_values}
+use Rattle.m_cases.specs.Mismatches.{answer_values, count_line, got_of, is_met, mismatch_count, mismatch_lines, named_values, output_names, observation_values}
 use Rattle.m_cases.specs.declared.cases.Cases.{Cases}
 use Rattle.m_cases.specs.declared.expected.Expected.{Expected}
 use Rattle.m_cases.specs.declared.fault.CasesFault.{CasesFault}
 use Rattle.m_cases.proofs.Numbered.{count_numbered, lines_numbered}
-use Rattle.m_cases.proofs.ToldLemmas.{told_is}
+use Rattle.m_cases.proofs.ToldLemmas.{reported_is}
 use Rattle.command_plans.specs.Views.{OutputView, output_view}
 use Rattle.command_plans.specs.Status.{IsOfEnd}
 use Rattle.command_plans.specs.declared.status.Status.{Status}
@@ -35,10 +35,10 @@ use Rattle.code_answers.specs.Parts.{IsWrittenInParts, broke_off}
 use Rattle.code_answers.specs.Parts as parts
 use Rattle.code_answers.specs.Cases.{ComparedReplies, cases_count, cases_fault_line, cases_lines, cases_text, count_status, table_is_refused}
 use Rattle.code_answers.specs.Shown.{Shows}
-use Rattle.code_answers.specs.Schemes.{Scheme, told_to}
+use Rattle.code_answers.specs.Schemes.{Scheme, observation_for}
 use Rattle.code_answers.specs.inner.Printers.{MayBeCompared, case_count, case_text, compared_status, mismatches_by, misses_by}
 use Rattle.code_answers.proofs.CodeLemmas.{agrees, code_each}
-use Rattle.code_answers.proofs.Refusals.{TellsRefusal}
+use Rattle.code_answers.proofs.Refusals.{ReportsRefusal}
 
 -- ---- what is expected of the row at a place
 
@@ -92,10 +92,10 @@ cases_may loaded all at (row ∷ rows) (es ∷ expected) is many each =
 -- the values of a row by code are those that its scheme tells
 row_named : (scheme : Scheme) (loaded : Loaded) (row : Row) → Shows scheme loaded.face (machine_run loaded.code) → loaded.code.counts.inputs ≡ length scheme.inputs
     → AreValuesOf scheme.inputs (values_of row.household.pairs (length scheme.inputs))
-    → named_values (length (notes_of loaded.face.outputs)) (answer_values (row_answer loaded.code row)) ≡ told_values (told_to scheme row.household.pairs)
+    → named_values (length (notes_of loaded.face.outputs)) (answer_values (row_answer loaded.code row)) ≡ observation_values (observation_for scheme row.household.pairs)
 row_named scheme loaded row shown many given =
-    told_is loaded.face.labels (notes_of loaded.face.outputs) (row_answer loaded.code row) (told_to scheme row.household.pairs)
-    (ap (λ n. told_of loaded.face.labels (notes_of loaded.face.outputs) (machine_run loaded.code (values_of row.household.pairs n))) many
+    reported_is loaded.face.labels (notes_of loaded.face.outputs) (row_answer loaded.code row) (observation_for scheme row.household.pairs)
+    (ap (λ n. observation loaded.face.labels (notes_of loaded.face.outputs) (machine_run loaded.code (values_of row.household.pairs n))) many
     ∙ shown.answers (values_of row.household.pairs (length scheme.inputs)) given)
 
 -- the rows give values of the inputs' types
@@ -106,37 +106,37 @@ AreGiven scheme rows = AllByRecursion (λ row. AreValuesOf scheme.inputs (values
 abbrev by_face : Loaded → List (List (ℕ × Expected)) → List (List (ℕ × Expected))
 by_face loaded expected = map (numbered (length (notes_of loaded.face.outputs))) expected
 
-lines_told : (scheme : Scheme) (loaded : Loaded) (all : List (List (ℕ × Expected))) (at : ℕ) (rows : List Row) (expected : List (List (ℕ × Expected))) → Shows scheme loaded.face (machine_run loaded.code)
+lines_reported : (scheme : Scheme) (loaded : Loaded) (all : List (List (ℕ × Expected))) (at : ℕ) (rows : List Row) (expected : List (List (ℕ × Expected))) → Shows scheme loaded.face (machine_run loaded.code)
     → loaded.code.counts.inputs ≡ length scheme.inputs → AreGiven scheme rows → drop at all ≡ by_face loaded expected → length expected ≡ length rows
     → printed_text (mismatches_by loaded.face all) at rows (answers_of loaded.code rows) ≡ cases_lines scheme rows expected
-lines_told scheme loaded all at [] expected shown many given is long = refl
-lines_told scheme loaded all at (row ∷ rows) [] shown many given is long = absurd (omega (arith, long))
-lines_told scheme loaded all at (row ∷ rows) (es ∷ expected) shown many given is long =
+lines_reported scheme loaded all at [] expected shown many given is long = refl
+lines_reported scheme loaded all at (row ∷ rows) [] shown many given is long = absurd (omega (arith, long))
+lines_reported scheme loaded all at (row ∷ rows) (es ∷ expected) shown many given is long =
     let face = loaded.face in
     let vs = answer_values (row_answer loaded.code row) in
     let here = at_place all at (numbered (length (notes_of face.outputs)) es) (by_face loaded expected) [] is in
     let line = ap (mismatch_lines (output_names face.outputs) row.label vs) here.1 ∙ lines_numbered face.labels face.outputs row.label vs es face.notes
     ∙ (λ i. mismatch_lines (shown.names i) row.label (row_named scheme loaded row shown many given.0 i) es) in
-    let rest = lines_told scheme loaded all (at + 1) rows expected shown many given.1 here.2 (omega (arith, long)) in
+    let rest = lines_reported scheme loaded all (at + 1) rows expected shown many given.1 here.2 (omega (arith, long)) in
     λ i. line i ++ rest i
 
-count_told : (scheme : Scheme) (loaded : Loaded) (all : List (List (ℕ × Expected))) (at : ℕ) (rows : List Row) (expected : List (List (ℕ × Expected))) → Shows scheme loaded.face (machine_run loaded.code)
+count_reported : (scheme : Scheme) (loaded : Loaded) (all : List (List (ℕ × Expected))) (at : ℕ) (rows : List Row) (expected : List (List (ℕ × Expected))) → Shows scheme loaded.face (machine_run loaded.code)
     → loaded.code.counts.inputs ≡ length scheme.inputs → AreGiven scheme rows → drop at all ≡ by_face loaded expected → length expected ≡ length rows
     → printed_count (misses_by loaded.face all) at rows (answers_of loaded.code rows) ≡ cases_count scheme rows expected
-count_told scheme loaded all at [] expected shown many given is long = refl
-count_told scheme loaded all at (row ∷ rows) [] shown many given is long = absurd (omega (arith, long))
-count_told scheme loaded all at (row ∷ rows) (es ∷ expected) shown many given is long =
+count_reported scheme loaded all at [] expected shown many given is long = refl
+count_reported scheme loaded all at (row ∷ rows) [] shown many given is long = absurd (omega (arith, long))
+count_reported scheme loaded all at (row ∷ rows) (es ∷ expected) shown many given is long =
     let face = loaded.face in
     let vs = answer_values (row_answer loaded.code row) in
     let here = at_place all at (numbered (length (notes_of face.outputs)) es) (by_face loaded expected) [] is in
-    let one = ap (mismatch_count vs) here.1 ∙ count_numbered (length (notes_of face.outputs)) vs es ∙ ap (λ told. mismatch_count told es) (row_named scheme loaded row shown many given.0) in
-    let rest = count_told scheme loaded all (at + 1) rows expected shown many given.1 here.2 (omega (arith, long)) in
+    let one = ap (mismatch_count vs) here.1 ∙ count_numbered (length (notes_of face.outputs)) vs es ∙ ap (λ reported. mismatch_count reported es) (row_named scheme loaded row shown many given.0) in
+    let rest = count_reported scheme loaded all (at + 1) rows expected shown many given.1 here.2 (omega (arith, long)) in
     λ i. one i + rest i
 
 -- ---- from what was told and written to how the command ended
 
 pub case_table_refused : (scheme : Scheme) (table : List ℕ) (fault : CasesFault) (old new : OutputView) (status : Status)
-    → TellsRefusal (λ line. (cases_of scheme.inputs scheme.names table ≡ Err fault) × (cases_fault_line fault ≡ Some line)) old new status
+    → ReportsRefusal (λ line. (cases_of scheme.inputs scheme.names table ≡ Err fault) × (cases_fault_line fault ≡ Some line)) old new status
     → IsWrittenInParts (ComparedReplies scheme table) old new status
 case_table_refused scheme table fault old new status (inl (line, is, shown)) = parts.printed line Refused (table_is_refused fault is.0 is.1) tt shown
 case_table_refused scheme table fault old new status (inr (same, memory)) = parts.no_memory same memory
@@ -178,19 +178,19 @@ as_many notes cases given same many =
     sym (length-map cases.expected (numbered notes)) ∙ ap (λ (g : Cases). length g.expected) same ∙ many ∙ ap (λ (g : Cases). length g.rows) (sym same)
 
 -- the text by code is that by its scheme
-pub text_told : (scheme : Scheme) (loaded : Loaded) (cases given : Cases) → AreRead scheme loaded cases given → case_text loaded given.rows given.expected ≡ cases_text scheme cases
-text_told scheme loaded cases given read =
+pub text_reported : (scheme : Scheme) (loaded : Loaded) (cases given : Cases) → AreRead scheme loaded cases given → case_text loaded given.rows given.expected ≡ cases_text scheme cases
+text_reported scheme loaded cases given read =
     let rows = given_rows scheme loaded cases given read in
     let long = as_many _ cases given read.same read.many in
     ap (λ (g : Cases). case_text loaded g.rows g.expected) (sym read.same)
-    ∙ (λ i. lines_told scheme loaded (by_face loaded cases.expected) 0 cases.rows cases.expected read.shown read.inputs rows refl long i
-    ++ count_line (length cases.rows) (count_told scheme loaded (by_face loaded cases.expected) 0 cases.rows cases.expected read.shown read.inputs rows refl long i))
+    ∙ (λ i. lines_reported scheme loaded (by_face loaded cases.expected) 0 cases.rows cases.expected read.shown read.inputs rows refl long i
+    ++ count_line (length cases.rows) (count_reported scheme loaded (by_face loaded cases.expected) 0 cases.rows cases.expected read.shown read.inputs rows refl long i))
 
 -- and so is the count
-pub counted_told : (scheme : Scheme) (loaded : Loaded) (cases given : Cases) → AreRead scheme loaded cases given → case_count loaded given.rows given.expected ≡ cases_count scheme cases.rows cases.expected
-counted_told scheme loaded cases given read =
+pub counted_reported : (scheme : Scheme) (loaded : Loaded) (cases given : Cases) → AreRead scheme loaded cases given → case_count loaded given.rows given.expected ≡ cases_count scheme cases.rows cases.expected
+counted_reported scheme loaded cases given read =
     ap (λ (g : Cases). case_count loaded g.rows g.expected) (sym read.same)
-    ∙ count_told scheme loaded (by_face loaded cases.expected) 0 cases.rows cases.expected read.shown read.inputs (given_rows scheme loaded cases given read) refl (as_many _ cases given read.same read.many)
+    ∙ count_reported scheme loaded (by_face loaded cases.expected) 0 cases.rows cases.expected read.shown read.inputs (given_rows scheme loaded cases given read) refl (as_many _ cases given read.same read.many)
 
 -- ---- texts in parts
 

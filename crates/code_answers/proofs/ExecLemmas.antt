@@ -10,7 +10,7 @@ use Rattle.observables.specs.declared.answer.Answer.TheVariants.{Values, Stopped
 use Rattle.observables.specs.declared.face.Face.{Face}
 use Rattle.observables.specs.declared.face.FaceLabel.{FaceLabel}
 use Rattle.observables.specs.declared.face.FaceLabel.TheVariants.{DriverLine}
-use Rattle.observables.specs.Answers.{Told, values, stopped, cause_of, label_number, told_of}
+use Rattle.observables.specs.Answers.{Observation, values, stopped, cause_of, label_number, observation}
 use Rattle.observables.specs.Inputs.{codes_of}
 use Rattle.observables.specs.Outputs.{names_of, notes_of}
 use Rattle.reg_machine.specs.Machine.{machine_run}
@@ -23,17 +23,17 @@ use Rattle.code_answers.specs.Schemes.{Scheme}
 use Rattle.code_answers.proofs.Shown.{answer_within}
 
 -- what is told, or nothing
-abbrev told_or : Option Told → Told
-told_or None = values [] []
-told_or (Some told) = told
+abbrev reported_or : Option Observation → Observation
+reported_or None = values [] []
+reported_or (Some reported) = reported
 
 -- an answer within a face tells something
-tells : (face : Face) (answer : Answer) → AnswerIsWithin face answer → told_of face.labels (notes_of face.outputs) answer ≡ Some (told_or (told_of face.labels (notes_of face.outputs) answer))
-tells face (Values vs) is = refl
-tells face (Stopped stop) is = by (slice_get face.labels (label_number stop)) (slice_get-get_or face.labels (label_number stop) (DriverLine 0) is)
+observe : (face : Face) (answer : Answer) → AnswerIsWithin face answer → observation face.labels (notes_of face.outputs) answer ≡ Some (reported_or (observation face.labels (notes_of face.outputs) answer))
+observe face (Values vs) is = refl
+observe face (Stopped stop) is = by (slice_get face.labels (label_number stop)) (slice_get-get_or face.labels (label_number stop) (DriverLine 0) is)
   where
     by : (found : Option FaceLabel) → found ≡ Some (get_or face.labels (label_number stop) (DriverLine 0))
-        → option_map (λ label. stopped (cause_of stop label)) found ≡ Some (told_or (option_map (λ label. stopped (cause_of stop label)) found))
+        → option_map (λ label. stopped (cause_of stop label)) found ≡ Some (reported_or (option_map (λ label. stopped (cause_of stop label)) found))
     by None e = cc
     by (Some label) e = refl
 
@@ -42,14 +42,14 @@ abbrev pub code_scheme : Loaded → Scheme
 code_scheme loaded = record {
   inputs = loaded.face.inputs;
   names = names_of loaded.face.outputs;
-  tells = λ vs. told_or (told_of loaded.face.labels (notes_of loaded.face.outputs) (machine_run loaded.code vs));
+  observe = λ vs. reported_or (observation loaded.face.labels (notes_of loaded.face.outputs) (machine_run loaded.code vs));
 }
 
 pub code_shows : (loaded : Loaded) → IsRunnableCode loaded → Shows (code_scheme loaded) loaded.face (machine_run loaded.code)
 code_shows loaded runs = record {
   inputs = refl;
   names = refl;
-  answers = λ vs all. tells loaded.face (machine_run loaded.code vs) (answer_within loaded vs runs);
+  answers = λ vs all. observe loaded.face (machine_run loaded.code vs) (answer_within loaded vs runs);
 }
 
 -- ---- what is read of a code file can be run

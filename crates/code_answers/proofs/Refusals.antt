@@ -15,36 +15,36 @@ use Rattle.command_plans.specs.declared.status.Status.TheVariants.{Memory, Refus
 use Rattle.code_answers.specs.Cases.{cases_fault_line}
 use Rattle.code_answers.specs.Execs.{code_fault_line}
 use Rattle.code_answers.specs.Households.{household_fault_line}
-use Rattle.code_answers.specs.inner.Refusals.{TellsLine}
+use Rattle.code_answers.specs.inner.Refusals.{ReportsLine}
 
 -- A line of this kind was printed, or there was no memory.
-abbrev pub TellsRefusal : (List ℕ → Type 0) → OutputView → OutputView → Status → Type 0
-TellsRefusal IsLine old new status = ((line : List ℕ) × IsLine line × Prints line Refused old new status) ⊎ ((new ≡ old) × (status ≡ Memory))
+abbrev pub ReportsRefusal : (List ℕ → Type 0) → OutputView → OutputView → Status → Type 0
+ReportsRefusal IsLine old new status = ((line : List ℕ) × IsLine line × Prints line Refused old new status) ⊎ ((new ≡ old) × (status ≡ Memory))
 
 -- something was refused by a fault, which has a line but for running out of memory
-pub told_either : {IsFault IsMemory : Type 0} (whole found : Option (List ℕ)) (old new : OutputView) (status : Status) → whole ≡ found → ((IsMemory → ⊥) → IsFault) → (IsMemory → whole ≡ None)
-    → TellsLine found old new status → TellsRefusal (λ line. IsFault × (whole ≡ Some line)) old new status
-told_either whole None old new status is h none told = inr told
-told_either whole (Some line) old new status is h none told = inl (line, (h (λ m. let gone : whole ≡ None = none m in cc (gone, is)), is), told)
+pub reported_either : {IsFault IsMemory : Type 0} (whole found : Option (List ℕ)) (old new : OutputView) (status : Status) → whole ≡ found → ((IsMemory → ⊥) → IsFault) → (IsMemory → whole ≡ None)
+    → ReportsLine found old new status → ReportsRefusal (λ line. IsFault × (whole ≡ Some line)) old new status
+reported_either whole None old new status is h none reported = inr reported
+reported_either whole (Some line) old new status is h none reported = inl (line, (h (λ m. let gone : whole ≡ None = none m in cc (gone, is)), is), reported)
 
 -- a table of cases was refused by a fault
-pub cases_told : {IsFault : Type 0} (fault : CasesFault) (old new : OutputView) (status : Status) → (fault ≢ cases.Memory → IsFault)
-    → TellsLine (cases_fault_line fault) old new status → TellsRefusal (λ line. IsFault × (cases_fault_line fault ≡ Some line)) old new status
-cases_told fault old new status h told = told_either (cases_fault_line fault) (cases_fault_line fault) old new status refl h (λ m. ap cases_fault_line m) told
+pub cases_reported : {IsFault : Type 0} (fault : CasesFault) (old new : OutputView) (status : Status) → (fault ≢ cases.Memory → IsFault)
+    → ReportsLine (cases_fault_line fault) old new status → ReportsRefusal (λ line. IsFault × (cases_fault_line fault ≡ Some line)) old new status
+cases_reported fault old new status h reported = reported_either (cases_fault_line fault) (cases_fault_line fault) old new status refl h (λ m. ap cases_fault_line m) reported
 
 -- a code file was refused by a fault
-pub code_told : (bytes : List ℕ) (fault : CodeFault) (old new : OutputView) (status : Status) → (fault ≢ code.Memory → IsCodeFault bytes fault)
-    → TellsLine (code_fault_line fault) old new status → TellsRefusal (λ line. IsCodeFault bytes fault × (code_fault_line fault ≡ Some line)) old new status
-code_told bytes fault old new status h told = told_either (code_fault_line fault) (code_fault_line fault) old new status refl h (λ m. ap code_fault_line m) told
+pub code_reported : (bytes : List ℕ) (fault : CodeFault) (old new : OutputView) (status : Status) → (fault ≢ code.Memory → IsCodeFault bytes fault)
+    → ReportsLine (code_fault_line fault) old new status → ReportsRefusal (λ line. IsCodeFault bytes fault × (code_fault_line fault ≡ Some line)) old new status
+code_reported bytes fault old new status h reported = reported_either (code_fault_line fault) (code_fault_line fault) old new status refl h (λ m. ap code_fault_line m) reported
 
 -- a household or a table was refused, by codes
-pub household_refused : (fault : HouseholdFault) {IsFault : Type 0} (old new : OutputView) (status : Status) → (fault ≢ household.Memory → IsFault) → TellsLine (household_fault_line fault) old new status
-    → TellsRefusal (λ line. IsFault × (household_fault_line fault ≡ Some line)) old new status
-household_refused household.BadHeader old new status h told = inl (_, (h (λ m. cc m), refl), told)
-household_refused household.TooManyRows old new status h told = inl (_, (h (λ m. cc m), refl), told)
-household_refused (household.BadRow line) old new status h told = inl (_, (h (λ m. cc m), refl), told)
-household_refused (household.UnknownCode line) old new status h told = inl (_, (h (λ m. cc m), refl), told)
-household_refused (household.BadAmount line) old new status h told = inl (_, (h (λ m. cc m), refl), told)
-household_refused (household.CodeTwice line) old new status h told = inl (_, (h (λ m. cc m), refl), told)
-household_refused (household.NotOfType line) old new status h told = inl (_, (h (λ m. cc m), refl), told)
-household_refused household.Memory old new status h told = inr told
+pub household_refused : (fault : HouseholdFault) {IsFault : Type 0} (old new : OutputView) (status : Status) → (fault ≢ household.Memory → IsFault) → ReportsLine (household_fault_line fault) old new status
+    → ReportsRefusal (λ line. IsFault × (household_fault_line fault ≡ Some line)) old new status
+household_refused household.BadHeader old new status h reported = inl (_, (h (λ m. cc m), refl), reported)
+household_refused household.TooManyRows old new status h reported = inl (_, (h (λ m. cc m), refl), reported)
+household_refused (household.BadRow line) old new status h reported = inl (_, (h (λ m. cc m), refl), reported)
+household_refused (household.UnknownCode line) old new status h reported = inl (_, (h (λ m. cc m), refl), reported)
+household_refused (household.BadAmount line) old new status h reported = inl (_, (h (λ m. cc m), refl), reported)
+household_refused (household.CodeTwice line) old new status h reported = inl (_, (h (λ m. cc m), refl), reported)
+household_refused (household.NotOfType line) old new status h reported = inl (_, (h (λ m. cc m), refl), reported)
+household_refused household.Memory old new status h reported = inr reported

@@ -2,7 +2,7 @@
 use Rattle.std.proofs.Common.{◌≡◌, ℕ, List, [], ◌++◌, Result, Ok, Err, subst, inl, inr}
 use Rattle.std.specs.Prelude.{Option, Some}
 use Rattle.m_fixed.specs.declared.amount.Value.{Value}
-use Rattle.observables.specs.Answers.{Told, values, stopped}
+use Rattle.observables.specs.Answers.{Observation, values, stopped}
 use Rattle.observables.specs.Outputs.{notes_of}
 use Rattle.observables.specs.declared.answer.Answer.{Answer}
 use Rattle.observables.specs.declared.face.Face.{Face}
@@ -13,7 +13,7 @@ use Rattle.code_file.specs.declared.loaded.Loaded.{Loaded}
 use Rattle.household.specs.Household.{household_of}
 use Rattle.household.specs.Table.{table_of}
 use Rattle.household.specs.declared.fault.HouseholdFault.{HouseholdFault}
-use Rattle.tax_print.specs.Lines.{answer_lines, told_lines}
+use Rattle.tax_print.specs.Lines.{answer_lines, observation_lines}
 use Rattle.command_plans.specs.Printing.{IsAnswered, Prints, printed, no_memory}
 use Rattle.command_plans.specs.Status.{IsOfEnd}
 use Rattle.command_plans.specs.Views.{OutputView, output_view}
@@ -22,20 +22,20 @@ use Rattle.command_plans.specs.declared.status.Status.TheVariants.{Done, Refused
 use Rattle.code_answers.specs.Parts.{IsWrittenInParts, broke_off}
 use Rattle.code_answers.specs.Execs.{ExecReplies, code_fault_line}
 use Rattle.code_answers.specs.Execs as exec
-use Rattle.code_answers.specs.Households.{answer_status, household_fault_line, told_status}
+use Rattle.code_answers.specs.Households.{answer_status, household_fault_line, observation_status}
 use Rattle.code_answers.specs.Shown.{HouseholdReplies, Shows, TableReplies}
 use Rattle.code_answers.specs.Shown as households
-use Rattle.code_answers.specs.Schemes.{Scheme, told_to}
+use Rattle.code_answers.specs.Schemes.{Scheme, observation_for}
 use Rattle.m_batch.specs.Printing.{WritesRows}
 use Rattle.m_batch.specs.declared.fault.PrintFault.{PrintFault}
 use Rattle.m_batch.specs.declared.fault.PrintFault.TheVariants as rows
 use Rattle.code_answers.specs.inner.Answers.{IsAnswerOf}
 use Rattle.code_answers.specs.inner.Printers.{rows_status}
-use Rattle.code_answers.proofs.Refusals.{TellsRefusal}
-use Rattle.code_answers.proofs.Shown.{given_by, household_told, status_told, told_answer}
+use Rattle.code_answers.proofs.Refusals.{ReportsRefusal}
+use Rattle.code_answers.proofs.Shown.{given_by, household_reported, status_reported, reported_answer}
 use Rattle.code_answers.specs.Parts as parts
 
-of_end : (told : Told) → IsOfEnd (told_status told)
+of_end : (reported : Observation) → IsOfEnd (observation_status reported)
 of_end (values notes vs) = tt
 of_end (stopped cause) = tt
 
@@ -55,7 +55,7 @@ parts_as One Other old new status turn (broke_off text own replied prefix none m
 
 -- the household of these bytes was refused, by a program's codes
 pub rows_refused : (front : List ℕ) (scheme : Scheme) (face : Face) (runs : List Value → Answer) (rows : List ℕ) (fault : HouseholdFault) (old new : OutputView) (status : Status) → Shows scheme face runs
-    → TellsRefusal (λ line. (household_of face.inputs rows ≡ Err fault) × (household_fault_line fault ≡ Some line)) old new status
+    → ReportsRefusal (λ line. (household_of face.inputs rows ≡ Err fault) × (household_fault_line fault ≡ Some line)) old new status
     → IsAnswered (HouseholdReplies front scheme rows) old new status
 rows_refused front scheme face runs rows fault old new status shown (inl (line, refused, p)) =
     printed line Refused (households.is_refused fault (subst (λ inputs. household_of inputs rows ≡ Err fault) shown.inputs refused.0) refused.1) tt p
@@ -65,16 +65,16 @@ pub rows_printed : (front : List ℕ) (scheme : Scheme) (loaded : Loaded) (rows 
     → Shows scheme loaded.face (machine_run loaded.code) → (of : IsAnswerOf loaded rows answer)
     → Prints (front ++ answer_lines loaded.face answer) (answer_status answer) old new status → IsAnswered (HouseholdReplies front scheme rows) old new status
 rows_printed front scheme loaded rows answer old new status shown of p =
-    let told = told_to scheme of.pairs in
-    let is = household_told scheme loaded rows answer shown of in
-    printed (front ++ told_lines scheme.names told) (told_status told) (households.is_told of.pairs (given_by scheme loaded rows answer shown of)) (of_end told)
-    (subst (λ own. Prints (front ++ told_lines scheme.names told) own old new status) (status_told loaded.face.labels (notes_of loaded.face.outputs) answer told is)
-    (subst (λ text. Prints (front ++ text) (answer_status answer) old new status) (told_answer scheme loaded.face (machine_run loaded.code) answer told shown is) p))
+    let reported = observation_for scheme of.pairs in
+    let is = household_reported scheme loaded rows answer shown of in
+    printed (front ++ observation_lines scheme.names reported) (observation_status reported) (households.is_reported of.pairs (given_by scheme loaded rows answer shown of)) (of_end reported)
+    (subst (λ own. Prints (front ++ observation_lines scheme.names reported) own old new status) (status_reported loaded.face.labels (notes_of loaded.face.outputs) answer reported is)
+    (subst (λ text. Prints (front ++ text) (answer_status answer) old new status) (reported_answer scheme loaded.face (machine_run loaded.code) answer reported shown is) p))
 
 -- ---- tables
 
 pub table_refused : (scheme : Scheme) (face : Face) (runs : List Value → Answer) (table : List ℕ) (fault : HouseholdFault) (old new : OutputView) (status : Status) → Shows scheme face runs
-    → TellsRefusal (λ line. (table_of face.inputs table ≡ Err fault) × (household_fault_line fault ≡ Some line)) old new status
+    → ReportsRefusal (λ line. (table_of face.inputs table ≡ Err fault) × (household_fault_line fault ≡ Some line)) old new status
     → IsWrittenInParts (TableReplies scheme table) old new status
 table_refused scheme face runs table fault old new status shown (inl (line, refused, p)) =
     parts.printed line Refused (households.table_is_refused fault (subst (λ inputs. table_of inputs table ≡ Err fault) shown.inputs refused.0) refused.1) tt p
@@ -89,7 +89,7 @@ batch_written written faults old new (Err rows.Failed) text Replies status repli
 
 -- ---- code files that are read
 
-pub exec_refused : (code rows : List ℕ) (fault : CodeFault) (old new : OutputView) (status : Status) → TellsRefusal (λ line. IsCodeFault code fault × (code_fault_line fault ≡ Some line)) old new status
+pub exec_refused : (code rows : List ℕ) (fault : CodeFault) (old new : OutputView) (status : Status) → ReportsRefusal (λ line. IsCodeFault code fault × (code_fault_line fault ≡ Some line)) old new status
     → IsAnswered (ExecReplies code rows) old new status
 exec_refused code rows fault old new status (inl (line, refused, shown)) = printed line Refused (exec.code_is_refused fault refused.0 refused.1) tt shown
 exec_refused code rows fault old new status (inr (same, memory)) = no_memory same memory

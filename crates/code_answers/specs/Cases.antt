@@ -4,14 +4,14 @@ use Rattle.tax_print.specs.FaultLines.{household_header_line, household_line, to
 use Rattle.tax_print.specs.declared.fault.RowFault.TheVariants as row
 use Rattle.household.specs.declared.table.Row.{Row}
 use Rattle.m_cases.specs.Cases.{cases_of}
-use Rattle.m_cases.specs.Mismatches.{count_line, mismatch_count, mismatch_lines, told_values}
+use Rattle.m_cases.specs.Mismatches.{count_line, mismatch_count, mismatch_lines, observation_values}
 use Rattle.m_cases.specs.declared.cases.Cases.{Cases}
 use Rattle.m_cases.specs.declared.expected.Expected.{Expected}
 use Rattle.m_cases.specs.declared.fault.CasesFault.{CasesFault}
 use Rattle.m_cases.specs.declared.fault.CasesFault.TheVariants.{BadHeader, TooManyRows, BadRow, UnknownCode, UnknownOutput, CodeTwice, BadAmount, NotOfType, BadExpected, Memory}
 use Rattle.command_plans.specs.declared.status.Status.{Status}
 use Rattle.command_plans.specs.declared.status.Status.TheVariants.{Done, Refused, Stopped}
-use Rattle.code_answers.specs.Schemes.{Scheme, told_to}
+use Rattle.code_answers.specs.Schemes.{Scheme, observation_for}
 
 -- The line of a fault of a table of cases; running out of memory has none. A field `=IR` in the first record, where `IR` isn't asked for, has
 -- `refused household line 1: unknown output`.
@@ -29,12 +29,12 @@ cases_fault_line Memory = None
 
 -- the lines of cases, in their order: of each those of what it expects and isn't told
 abbrev pub cases_lines : Scheme → List Row → List (List (ℕ × Expected)) → List ℕ
-cases_lines scheme (row ∷ rows) (es ∷ expected) = mismatch_lines scheme.names row.label (told_values (told_to scheme row.household.pairs)) es ++ cases_lines scheme rows expected
+cases_lines scheme (row ∷ rows) (es ∷ expected) = mismatch_lines scheme.names row.label (observation_values (observation_for scheme row.household.pairs)) es ++ cases_lines scheme rows expected
 cases_lines scheme _ _ = []
 
 -- how much isn't told that cases expect
 abbrev pub cases_count : Scheme → List Row → List (List (ℕ × Expected)) → ℕ
-cases_count scheme (row ∷ rows) (es ∷ expected) = mismatch_count (told_values (told_to scheme row.household.pairs)) es + cases_count scheme rows expected
+cases_count scheme (row ∷ rows) (es ∷ expected) = mismatch_count (observation_values (observation_for scheme row.household.pairs)) es + cases_count scheme rows expected
 cases_count scheme _ _ = 0
 
 -- The text of a table of cases: their lines, and then how many cases and how many mismatches there are.

@@ -2,7 +2,7 @@
 use Rattle.std.specs.Prelude.{ℕ, List, Option, Some, None}
 use Rattle.tax_print.specs.FaultLines.{household_header_line, household_line, too_many_rows_line}
 use Rattle.tax_print.specs.declared.fault.RowFault.TheVariants as row
-use Rattle.observables.specs.Answers.{Told, values, stopped}
+use Rattle.observables.specs.Answers.{Observation, values, stopped}
 use Rattle.observables.specs.declared.answer.Answer.{Answer}
 use Rattle.observables.specs.declared.answer.Answer.TheVariants.{Values, Stopped as AnswerStopped}
 use Rattle.household.specs.declared.fault.HouseholdFault.{HouseholdFault}
@@ -22,9 +22,9 @@ household_fault_line (CodeTwice line) = Some (household_line line row.CodeTwice)
 household_fault_line Memory = None
 
 -- the status of what is told: the values, or what stopped the run
-abbrev pub told_status : Told → Status
-told_status (values notes vs) = Done
-told_status (stopped cause) = Stopped
+abbrev pub observation_status : Observation → Status
+observation_status (values notes vs) = Done
+observation_status (stopped cause) = Stopped
 
 -- the status of an answer of a program
 abbrev pub answer_status : Answer → Status

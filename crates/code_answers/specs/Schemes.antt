@@ -2,15 +2,15 @@
 use Rattle.std.specs.Prelude.{ℕ, ℤ, List, length}
 use Rattle.m_fixed.specs.declared.amount.Value.{Value}
 use Rattle.observables.specs.declared.inputs.Coded.{Coded}
-use Rattle.observables.specs.Answers.{Told}
+use Rattle.observables.specs.Answers.{Observation}
 use Rattle.household.specs.Household.{values_of}
 
 -- The inputs, the names of what is asked for, and what is told to values of the inputs.
 pub record Scheme : Type 0 where
   pub inputs : List Coded
   pub names : List (List ℕ)
-  pub tells : List Value → Told
+  pub observe : List Value → Observation
 
 -- what is told to the amounts of a household
-abbrev pub told_to : Scheme → List (ℕ × ℤ) → Told
-told_to scheme pairs = scheme.tells (values_of pairs (length scheme.inputs))
+abbrev pub observation_for : Scheme → List (ℕ × ℤ) → Observation
+observation_for scheme pairs = scheme.observe (values_of pairs (length scheme.inputs))

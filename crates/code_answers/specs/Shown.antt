@@ -4,7 +4,7 @@ use Rattle.m_fixed.specs.declared.amount.Value.{Value}
 use Rattle.m_names.specs.Names.{AreDistinct}
 use Rattle.observables.specs.declared.answer.Answer.{Answer}
 use Rattle.observables.specs.declared.face.Face.{Face}
-use Rattle.observables.specs.Answers.{told_of}
+use Rattle.observables.specs.Answers.{observation}
 use Rattle.observables.specs.Inputs.{AreValuesOf, codes_of}
 use Rattle.observables.specs.Outputs.{names_of, notes_of}
 use Rattle.reg_machine.specs.Flow.{code_fault}
@@ -13,11 +13,11 @@ use Rattle.household.specs.Household.{household_of}
 use Rattle.household.specs.Table.{table_of}
 use Rattle.household.specs.declared.fault.HouseholdFault.{HouseholdFault}
 use Rattle.household.specs.declared.table.Row.{Row}
-use Rattle.tax_print.specs.Lines.{told_lines}
+use Rattle.tax_print.specs.Lines.{observation_lines}
 use Rattle.command_plans.specs.declared.status.Status.{Status}
 use Rattle.command_plans.specs.declared.status.Status.TheVariants.{Done, Refused}
-use Rattle.code_answers.specs.Households.{household_fault_line, told_status}
-use Rattle.code_answers.specs.Schemes.{Scheme, told_to}
+use Rattle.code_answers.specs.Households.{household_fault_line, observation_status}
+use Rattle.code_answers.specs.Schemes.{Scheme, observation_for}
 use Rattle.code_answers.specs.Tables.{rows_lines}
 
 -- A program, in whatever form, is to households what a scheme is: its face has the same inputs, it gives what is asked for the same names, and what it
@@ -26,7 +26,7 @@ pub record Shows (scheme : Scheme) (face : Face) (runs : List Value → Answer) 
   pub inputs : face.inputs ≡ scheme.inputs
   pub names : names_of face.outputs ≡ scheme.names
   pub answers : (values : List Value) → AreValuesOf scheme.inputs values
-      → told_of face.labels (notes_of face.outputs) (runs values) ≡ Some (scheme.tells values)
+      → observation face.labels (notes_of face.outputs) (runs values) ≡ Some (scheme.observe values)
 
 -- Code that can be run for households, wherever it comes from: nothing is wrong with it, and its inputs have different codes.
 pub record IsRunnableCode (loaded : Loaded) : Type 0 where
@@ -37,11 +37,11 @@ pub record IsRunnableCode (loaded : Loaded) : Type 0 where
 pub data HouseholdReplies (front : List ℕ) (scheme : Scheme) (rows : List ℕ) : List ℕ → Status → Type 0 where
   is_refused : {line : List ℕ} (fault : HouseholdFault) → household_of scheme.inputs rows ≡ Err fault → household_fault_line fault ≡ Some line
       → HouseholdReplies front scheme rows line Refused
-  is_told : (pairs : List (ℕ × ℤ)) → household_of scheme.inputs rows ≡ Ok pairs
-      → HouseholdReplies front scheme rows (front ++ told_lines scheme.names (told_to scheme pairs)) (told_status (told_to scheme pairs))
+  is_reported : (pairs : List (ℕ × ℤ)) → household_of scheme.inputs rows ≡ Ok pairs
+      → HouseholdReplies front scheme rows (front ++ observation_lines scheme.names (observation_for scheme pairs)) (observation_status (observation_for scheme pairs))
 
 -- What is answered to the table of these bytes: the line by which it is refused, or the lines of all its rows.
 pub data TableReplies (scheme : Scheme) (table : List ℕ) : List ℕ → Status → Type 0 where
   table_is_refused : {line : List ℕ} (fault : HouseholdFault) → table_of scheme.inputs table ≡ Err fault → household_fault_line fault ≡ Some line
       → TableReplies scheme table line Refused
-  rows_are_told : (rows : List Row) → table_of scheme.inputs table ≡ Ok rows → TableReplies scheme table (rows_lines scheme rows) Done
+  rows_are_answered : (rows : List Row) → table_of scheme.inputs table ≡ Ok rows → TableReplies scheme table (rows_lines scheme rows) Done

@@ -3,12 +3,12 @@ use Rattle.std.specs.Prelude.{ℕ, List, [], ◌∷◌, ◌++◌, codes}
 use Rattle.m_text.specs.Pieces.{joined}
 use Rattle.household.specs.declared.table.Row.{Row}
 use Rattle.m_text.specs.Pieces.{new_line}
-use Rattle.tax_print.specs.Lines.{told_lines}
-use Rattle.code_answers.specs.Schemes.{Scheme, told_to}
+use Rattle.tax_print.specs.Lines.{observation_lines}
+use Rattle.code_answers.specs.Schemes.{Scheme, observation_for}
 
 -- the lines of a row: `household dupont`, and then those of what is told to its amounts
 abbrev pub row_lines : Scheme → Row → List ℕ
-row_lines scheme row = joined (codes "household " ∷ row.label ∷ new_line ∷ []) ++ told_lines scheme.names (told_to scheme row.household.pairs)
+row_lines scheme row = joined (codes "household " ∷ row.label ∷ new_line ∷ []) ++ observation_lines scheme.names (observation_for scheme row.household.pairs)
 
 -- The lines of a table's rows, in their order.
 abbrev pub rows_lines : Scheme → List Row → List ℕ

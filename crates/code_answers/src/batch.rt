@@ -14,7 +14,7 @@ ghost use Rattle.code_answers.specs.inner.Printers.{rows_status};
 
 use crate::given::codes_by;
 use crate::printers::AnswerLines;
-use crate::told::{tell_refusal, told_household};
+use crate::entries::{report_refusal, household_entry};
 use code_file::Loaded;
 use command_plans::Status;
 use household::{HouseholdFault, Row, read_table};
@@ -42,7 +42,7 @@ pub fn answer_batch<R: Threads + Sync, K: Sink>(
             let code = &loaded.code;
             status_of_rows(print_batch(rt, alloc, code, rows.as_slice(), &Open, &printer, out))
         }
-        Err(fault) => tell_refusal(out, told_household(fault)),
+        Err(fault) => report_refusal(out, household_entry(fault)),
     }
 }
 

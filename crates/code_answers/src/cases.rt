@@ -16,7 +16,7 @@ ghost use Rattle.code_answers.specs.inner.Printers.{compared_status};
 
 use crate::compared::print_cases;
 use crate::given::codes_by;
-use crate::told::{tell_refusal, told_cases};
+use crate::entries::{report_refusal, cases_entry};
 use code_file::Loaded;
 use command_plans::Status;
 use m_batch::PrintFault;
@@ -47,7 +47,7 @@ pub fn answer_cases<R: Threads + Sync, K: Sink>(
             cases.expected.as_slice(),
             out,
         )),
-        Err(fault) => tell_refusal(out, told_cases(fault)),
+        Err(fault) => report_refusal(out, cases_entry(fault)),
     }
 }
 

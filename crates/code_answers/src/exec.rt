@@ -6,7 +6,7 @@ ghost use Rattle.command_plans.specs.Views.{output_view};
 ghost use Rattle.code_answers.specs.Execs.{ExecReplies};
 
 use crate::run::answer_run;
-use crate::told::{tell_refusal, told_code};
+use crate::entries::{report_refusal, code_entry};
 use code_file::read_code;
 use command_plans::Status;
 use m_ports::Sink;
@@ -20,6 +20,6 @@ pub fn exec_code<K: Sink>(alloc: Global, code: &[u8], household: &[u8], out: &mu
 {
     match read_code(alloc, code) {
         Ok(loaded) => answer_run(alloc, &loaded, household, out),
-        Err(fault) => tell_refusal(out, told_code(fault)),
+        Err(fault) => report_refusal(out, code_entry(fault)),
     }
 }

@@ -16,7 +16,7 @@ ghost use Rattle.code_answers.specs.Schemes.{Scheme};
 
 use crate::run::answer_of;
 use crate::texts::{ANSWER_ROOM, give_large};
-use crate::told::status_of;
+use crate::entries::status_of;
 use code_file::Loaded;
 use command_plans::{Status, printed};
 use household::HouseholdFault;

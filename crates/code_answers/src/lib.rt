@@ -14,7 +14,7 @@ mod large;
 mod printers;
 mod run;
 mod texts;
-mod told;
+mod entries;
 
 pub use batch::answer_batch;
 pub use cases::answer_cases;
@@ -23,4 +23,4 @@ pub use given::read_given;
 pub use large::answer_large;
 pub use run::answer_run;
 pub use texts::give_code;
-pub use told::{tell_refusal, told_household};
+pub use entries::{report_refusal, household_entry};

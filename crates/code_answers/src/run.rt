@@ -12,7 +12,7 @@ ghost use Rattle.code_answers.specs.inner.Answers.{IsAnswerOf};
 
 use crate::given::codes_by;
 use crate::texts::{ANSWER_ROOM, give_answer};
-use crate::told::{status_of, tell_refusal, told_household};
+use crate::entries::{status_of, report_refusal, household_entry};
 use code_file::Loaded;
 use command_plans::{Status, printed};
 use household::{Household, HouseholdFault, read_household};
@@ -35,7 +35,7 @@ pub fn answer_run<K: Sink>(alloc: Global, loaded: &Loaded, household: &[u8], out
             give_answer(&loaded.face, &answer, &mut held, out),
             status_of(&answer),
         ),
-        Err(fault) => tell_refusal(out, told_household(fault)),
+        Err(fault) => report_refusal(out, household_entry(fault)),
     }
 }
 

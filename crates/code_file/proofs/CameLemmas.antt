@@ -17,26 +17,26 @@ use Rattle.observables.specs.Inputs.{codes_of}
 use Rattle.observables.specs.Outputs.{are_named, notes_stand_first, verif_at}
 use Rattle.code_file.specs.declared.fault.CodeFault.TheVariants.{BadLine, BadOrder}
 use Rattle.code_file.specs.Text.{lines, slots_line, input_line, label_line, output_line}
-use Rattle.code_file.specs.Reading.{Entry, version, slot_count, an_input, a_label, an_output, code_start, an_instr, code_end, entry_line, IsEntry, IsShort, Draft, blank, due, said, AreDue, Ends, ReadsUnwritten, IsCodeFault}
+use Rattle.code_file.specs.Reading.{Entry, version, slot_count, an_input, a_label, an_output, code_start, an_instr, code_end, entry_line, IsEntry, IsShort, Draft, blank, due, stated, AreDue, Ends, ReadsUnwritten, IsCodeFault}
 use Rattle.code_file.specs.inner.Faces.{IsRightInput, IsRightLabel, IsRightOutput}
 use Rattle.code_file.specs.inner.Came.{Came, face_so_far, face_text, IsRightFace}
 use Rattle.code_file.proofs.FrontLemmas.{lines-push}
 
 -- ---- one line more
 
-due-push : (d : Draft) (es : List Entry) (e : Entry) → AreDue d es → IsEntry e → IsTrue (due e (fold said d es)) → AreDue d (es ++ e ∷ [])
+due-push : (d : Draft) (es : List Entry) (e : Entry) → AreDue d es → IsEntry e → IsTrue (due e (fold stated d es)) → AreDue d (es ++ e ∷ [])
 due-push d [] e h i t = (i, t, tt)
-due-push d (x ∷ es) e h i t = (h.0, h.1, due-push (said d x) es e h.2 i t)
+due-push d (x ∷ es) e h i t = (h.0, h.1, due-push (stated d x) es e h.2 i t)
 
 pub came-none : (bytes : List ℕ) → Came bytes blank 0 bytes
 came-none bytes = record { entries = []; text = refl; due = tt; is = refl; count = refl }
 
-pub came-next : (bytes rest behind : List ℕ) (d : Draft) (n : ℕ) (e : Entry) → Came bytes d n rest → IsEntry e → IsTrue (due e d) → rest ≡ entry_line e ++ behind → Came bytes (said d e) (suc n) behind
+pub came-next : (bytes rest behind : List ℕ) (d : Draft) (n : ℕ) (e : Entry) → Came bytes d n rest → IsEntry e → IsTrue (due e d) → rest ≡ entry_line e ++ behind → Came bytes (stated d e) (suc n) behind
 came-next bytes rest behind d n e c i t h = record {
   entries = c.entries ++ e ∷ [];
   text = lines-push entry_line bytes rest behind c.entries e c.text h;
   due = due-push blank c.entries e c.due i (subst (λ x. IsTrue (due e x)) (sym c.is) t);
-  is = fold-append said blank c.entries (e ∷ []) ∙ ap (λ x. said x e) c.is;
+  is = fold-append stated blank c.entries (e ∷ []) ∙ ap (λ x. stated x e) c.is;
   count = omega (arith, length-append c.entries (e ∷ []), c.count);
 }
 
@@ -157,7 +157,7 @@ came-outputs bytes rest behind slots n m inputs labels done (x ∷ xs) all c e r
 -- after the count of slots
 pub came-slots : (bytes rest : List ℕ) (slots : ℕ) → IsShort slots → bytes ≡ face_text slots [] [] [] rest → Came bytes (face_so_far slots [] [] []) 2 rest
 came-slots bytes rest slots short e =
-    came-next bytes (slots_line slots ++ rest) rest (said blank version) 1 (slot_count slots) (came-next bytes bytes (slots_line slots ++ rest) blank 0 version (came-none bytes) tt refl e) short refl refl
+    came-next bytes (slots_line slots ++ rest) rest (stated blank version) 1 (slot_count slots) (came-next bytes bytes (slots_line slots ++ rest) blank 0 version (came-none bytes) tt refl e) short refl refl
 
 -- after a face
 pub came-face : (bytes rest : List ℕ) (slots n : ℕ) (inputs : List Coded) (labels : List FaceLabel) (outputs : List FaceOutput) → IsRightFace slots inputs labels outputs → bytes ≡ face_text slots inputs labels outputs rest → n ≡ length inputs + (length labels + (length outputs + 2)) → Came bytes (face_so_far slots inputs labels outputs) n rest

@@ -22,7 +22,7 @@ use Rattle.code_file.specs.declared.fault.CodeFault.TheVariants.{BadLine}
 use Rattle.code_file.specs.declared.loaded.Loaded.{Loaded}
 use Rattle.code_file.specs.Text.{lines, instr_line}
 use Rattle.code_file.specs.Printable.{IsFreeWord, IsPrintable, IsPrintableLabel, IsPrintableOutput, AreApart}
-use Rattle.code_file.specs.Reading.{version, slot_count, an_input, a_label, an_output, code_start, an_instr, code_end, IsInstr, IsShort, IsFittingLabel, IsFittingOutput, Draft, said, Ends, IsCodeFault, IsFormOf}
+use Rattle.code_file.specs.Reading.{version, slot_count, an_input, a_label, an_output, code_start, an_instr, code_end, IsInstr, IsShort, IsFittingLabel, IsFittingOutput, Draft, stated, Ends, IsCodeFault, IsFormOf}
 use Rattle.code_file.specs.inner.Spelled.{cut, instr_of}
 use Rattle.code_file.specs.inner.Faces.{IsRightInput, IsRightLabel, IsRightOutput, IsNoFront}
 use Rattle.code_file.specs.inner.Came.{Came, code_so_far, code_with, IsCodeSoFar, text_so_far, IsRightFace, fault_of}
@@ -140,7 +140,7 @@ pub missing-fault : (bytes rest behind : List ℕ) (slots n m : ℕ) (face : Fac
 missing-fault bytes rest behind slots n m face code w c k e f q =
     other-fault bytes rest slots n m face code c k (end-is-no-instr rest behind e) (λ more h t. false≢true (ap is_none (sym f) ∙ t)) q
 
-whole-ends : (d : Draft) (rest : List ℕ) → Ends (said d code_end) rest
+whole-ends : (d : Draft) (rest : List ℕ) → Ends (stated d code_end) rest
 whole-ends d rest version more h i t = false≢true t
 whole-ends d rest (slot_count n) more h i t = false≢true t
 whole-ends d rest (an_input x) more h i t = false≢true t
@@ -155,7 +155,7 @@ pub behind-fault : (bytes rest behind : List ℕ) (slots n m : ℕ) (face : Face
 behind-fault bytes rest behind slots n m face code c k e f other q =
     let d = code_so_far slots face code.instrs in
     let came = came-next bytes rest behind d n code_end c tt (ap (λ l. is_none (code_fault l)) (sym k.is) ∙ ap is_none f) e in
-    fault-line bytes behind (said d code_end) (suc n) m came (omega arith) (whole-ends d behind) (λ p. other) (λ u. omega (arith, u.4)) (omega (arith, q))
+    fault-line bytes behind (stated d code_end) (suc n) m came (omega arith) (whole-ends d behind) (λ p. other) (λ u. omega (arith, u.4)) (omega (arith, q))
 
 -- ---- the form
 

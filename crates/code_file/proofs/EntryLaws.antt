@@ -14,7 +14,7 @@ use Rattle.m_text.specs.Pieces.{joined, new_line}
 use Rattle.code_file.specs.declared.fault.CodeFault.{CodeFault}
 use Rattle.code_file.specs.declared.fault.CodeFault.TheVariants.{BadHeader, BadLine, BadOrder, Memory}
 use Rattle.code_file.specs.Text.{lines, slots_line, input_line, label_line, output_line, instr_line, op_word}
-use Rattle.code_file.specs.Reading.{AreDue, Draft, Ends, Entry, IsCodeFault, IsEntry, ReadsUnwritten, Stops, version, slot_count, an_input, a_label, an_output, code_start, an_instr, code_end, blank, draft_of, entry_line, said}
+use Rattle.code_file.specs.Reading.{AreDue, Draft, Ends, Entry, IsCodeFault, IsEntry, ReadsUnwritten, Stops, version, slot_count, an_input, a_label, an_output, code_start, an_instr, code_end, blank, draft_of, entry_line, stated}
 use Rattle.code_file.specs.inner.Faces.{slots_of, input_of, label_of, output_of}
 use Rattle.code_file.specs.inner.Spelled.{instr_of}
 use Rattle.code_file.proofs.FaceLemmas.{slots-spelling, input-spelling, label-spelling, output-spelling, instr-spelling}
@@ -111,7 +111,7 @@ pub never-empty : (d : Draft) → Ends d []
 never-empty d entry behind e h due = none≢some _ (cut-line entry_line entry_of entry (entry-spells entry h) [] behind e)
 
 -- two lists of lines that may come, after which no line may, are one
-pub same-stops : (d : Draft) (es fs : List Entry) (rest left : List ℕ) → lines entry_line es ++ rest ≡ lines entry_line fs ++ left → AreDue d es → AreDue d fs → Ends (fold said d es) rest → Ends (fold said d fs) left
+pub same-stops : (d : Draft) (es fs : List Entry) (rest left : List ℕ) → lines entry_line es ++ rest ≡ lines entry_line fs ++ left → AreDue d es → AreDue d fs → Ends (fold stated d es) rest → Ends (fold stated d fs) left
     → (es ≡ fs) × (rest ≡ left)
 same-stops d [] [] rest left e a b s t = (refl, e)
 same-stops d [] (f ∷ fs) rest left e a b s t = absurd (s f (lines entry_line fs ++ left) (e ∙ append_assoc (entry_line f) (lines entry_line fs) left) b.0 b.1)
@@ -119,9 +119,9 @@ same-stops d (x ∷ es) [] rest left e a b s t = absurd (t x (lines entry_line e
 same-stops d (x ∷ es) (f ∷ fs) rest left e a b s t =
     let u = one-front (lines entry_line (x ∷ es) ++ rest) (lines entry_line es ++ rest) (lines entry_line fs ++ left) x f a.0 b.0
     (append_assoc (entry_line x) (lines entry_line es) rest) (e ∙ append_assoc (entry_line f) (lines entry_line fs) left) in
-    let b' : AreDue (said d x) fs = subst (λ (y : Entry). AreDue (said d y) fs) (sym u.0) b.2 in
-    let t' : Ends (fold said (said d x) fs) left = subst (λ (y : Entry). Ends (fold said (said d y) fs) left) (sym u.0) t in
-    let r = same-stops (said d x) es fs rest left u.1 a.2 b' s t' in
+    let b' : AreDue (stated d x) fs = subst (λ (y : Entry). AreDue (stated d y) fs) (sym u.0) b.2 in
+    let t' : Ends (fold stated (stated d x) fs) left = subst (λ (y : Entry). Ends (fold stated (stated d y) fs) left) (sym u.0) t in
+    let r = same-stops (stated d x) es fs rest left u.1 a.2 b' s t' in
     (λ i. u.0 i ∷ r.0 i, r.1)
 
 one-stop : (bytes : List ℕ) (es fs : List Entry) (rest left : List ℕ) → Stops bytes es rest → Stops bytes fs left → (es ≡ fs) × (rest ≡ left)

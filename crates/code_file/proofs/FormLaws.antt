@@ -27,7 +27,7 @@ use Rattle.code_file.specs.declared.loaded.Loaded.{Loaded}
 use Rattle.code_file.specs.Loading.{text_with}
 use Rattle.code_file.specs.Printable.{AreApart, IsFreeWord, IsPrintableLabel, IsPrintableOutput}
 use Rattle.code_file.specs.Text.{lines, slots_line, input_line, label_line, output_line, instr_line}
-use Rattle.code_file.specs.Reading.{AreDue, Draft, Entry, IsCodeFault, IsFittingLabel, IsFittingOutput, IsFormOf, IsInstr, version, slot_count, an_input, a_label, an_output, code_start, an_instr, code_end, blank, draft_of, entry_line, said}
+use Rattle.code_file.specs.Reading.{AreDue, Draft, Entry, IsCodeFault, IsFittingLabel, IsFittingOutput, IsFormOf, IsInstr, version, slot_count, an_input, a_label, an_output, code_start, an_instr, code_end, blank, draft_of, entry_line, stated}
 use Rattle.code_file.proofs.EntryLaws.{fault-stops, never-empty, same-stops}
 
 -- ---- the lines of loaded code
@@ -57,29 +57,29 @@ form-text loaded =
 abbrev draft : ℕ → ℕ → List Coded → List FaceLabel → List FaceOutput → List Instr → Draft
 draft part slots inputs labels outputs instrs = record { part = part; slots = slots; inputs = inputs; labels = labels; outputs = outputs; instrs = instrs }
 
-said-inputs : (s : ℕ) (i xs : List Coded) (behind : List Entry) → fold said (draft 2 s i [] [] []) (map an_input xs ++ behind) ≡ fold said (draft 2 s (i ++ xs) [] [] []) behind
-said-inputs s i [] behind = ap (λ z. fold said (draft 2 s z [] [] []) behind) (sym (append-nil i))
-said-inputs s i (x ∷ xs) behind = said-inputs s (i ++ x ∷ []) xs behind ∙ ap (λ z. fold said (draft 2 s z [] [] []) behind) (append_assoc i (x ∷ []) xs)
+stated-inputs : (s : ℕ) (i xs : List Coded) (behind : List Entry) → fold stated (draft 2 s i [] [] []) (map an_input xs ++ behind) ≡ fold stated (draft 2 s (i ++ xs) [] [] []) behind
+stated-inputs s i [] behind = ap (λ z. fold stated (draft 2 s z [] [] []) behind) (sym (append-nil i))
+stated-inputs s i (x ∷ xs) behind = stated-inputs s (i ++ x ∷ []) xs behind ∙ ap (λ z. fold stated (draft 2 s z [] [] []) behind) (append_assoc i (x ∷ []) xs)
 
-said-labels : (s : ℕ) (i : List Coded) (l xs : List FaceLabel) (behind : List Entry) → fold said (draft 2 s i l [] []) (map a_label xs ++ behind) ≡ fold said (draft 2 s i (l ++ xs) [] []) behind
-said-labels s i l [] behind = ap (λ z. fold said (draft 2 s i z [] []) behind) (sym (append-nil l))
-said-labels s i l (x ∷ xs) behind = said-labels s i (l ++ x ∷ []) xs behind ∙ ap (λ z. fold said (draft 2 s i z [] []) behind) (append_assoc l (x ∷ []) xs)
+stated-labels : (s : ℕ) (i : List Coded) (l xs : List FaceLabel) (behind : List Entry) → fold stated (draft 2 s i l [] []) (map a_label xs ++ behind) ≡ fold stated (draft 2 s i (l ++ xs) [] []) behind
+stated-labels s i l [] behind = ap (λ z. fold stated (draft 2 s i z [] []) behind) (sym (append-nil l))
+stated-labels s i l (x ∷ xs) behind = stated-labels s i (l ++ x ∷ []) xs behind ∙ ap (λ z. fold stated (draft 2 s i z [] []) behind) (append_assoc l (x ∷ []) xs)
 
-said-outputs : (s : ℕ) (i : List Coded) (l : List FaceLabel) (o xs : List FaceOutput) (behind : List Entry) → fold said (draft 2 s i l o []) (map an_output xs ++ behind) ≡ fold said (draft 2 s i l (o ++ xs) []) behind
-said-outputs s i l o [] behind = ap (λ z. fold said (draft 2 s i l z []) behind) (sym (append-nil o))
-said-outputs s i l o (x ∷ xs) behind = said-outputs s i l (o ++ x ∷ []) xs behind ∙ ap (λ z. fold said (draft 2 s i l z []) behind) (append_assoc o (x ∷ []) xs)
+stated-outputs : (s : ℕ) (i : List Coded) (l : List FaceLabel) (o xs : List FaceOutput) (behind : List Entry) → fold stated (draft 2 s i l o []) (map an_output xs ++ behind) ≡ fold stated (draft 2 s i l (o ++ xs) []) behind
+stated-outputs s i l o [] behind = ap (λ z. fold stated (draft 2 s i l z []) behind) (sym (append-nil o))
+stated-outputs s i l o (x ∷ xs) behind = stated-outputs s i l (o ++ x ∷ []) xs behind ∙ ap (λ z. fold stated (draft 2 s i l z []) behind) (append_assoc o (x ∷ []) xs)
 
-said-instrs : (s : ℕ) (i : List Coded) (l : List FaceLabel) (o : List FaceOutput) (c xs : List Instr) (behind : List Entry)
-    → fold said (draft 3 s i l o c) (map an_instr xs ++ behind) ≡ fold said (draft 3 s i l o (c ++ xs)) behind
-said-instrs s i l o c [] behind = ap (λ z. fold said (draft 3 s i l o z) behind) (sym (append-nil c))
-said-instrs s i l o c (x ∷ xs) behind = said-instrs s i l o (c ++ x ∷ []) xs behind ∙ ap (λ z. fold said (draft 3 s i l o z) behind) (append_assoc c (x ∷ []) xs)
+stated-instrs : (s : ℕ) (i : List Coded) (l : List FaceLabel) (o : List FaceOutput) (c xs : List Instr) (behind : List Entry)
+    → fold stated (draft 3 s i l o c) (map an_instr xs ++ behind) ≡ fold stated (draft 3 s i l o (c ++ xs)) behind
+stated-instrs s i l o c [] behind = ap (λ z. fold stated (draft 3 s i l o z) behind) (sym (append-nil c))
+stated-instrs s i l o c (x ∷ xs) behind = stated-instrs s i l o (c ++ x ∷ []) xs behind ∙ ap (λ z. fold stated (draft 3 s i l o z) behind) (append_assoc c (x ∷ []) xs)
 
-all-said : (loaded : Loaded) → draft_of (entries_of loaded) ≡ draft 4 loaded.code.counts.slots loaded.face.inputs loaded.face.labels loaded.face.outputs loaded.code.instrs
-all-said loaded =
-    said-inputs loaded.code.counts.slots [] loaded.face.inputs _
-    ∙ said-labels loaded.code.counts.slots loaded.face.inputs [] loaded.face.labels _
-    ∙ said-outputs loaded.code.counts.slots loaded.face.inputs loaded.face.labels [] loaded.face.outputs (code_start ∷ (map an_instr loaded.code.instrs ++ code_end ∷ []))
-    ∙ said-instrs loaded.code.counts.slots loaded.face.inputs loaded.face.labels loaded.face.outputs [] loaded.code.instrs (code_end ∷ [])
+all-stated : (loaded : Loaded) → draft_of (entries_of loaded) ≡ draft 4 loaded.code.counts.slots loaded.face.inputs loaded.face.labels loaded.face.outputs loaded.code.instrs
+all-stated loaded =
+    stated-inputs loaded.code.counts.slots [] loaded.face.inputs _
+    ∙ stated-labels loaded.code.counts.slots loaded.face.inputs [] loaded.face.labels _
+    ∙ stated-outputs loaded.code.counts.slots loaded.face.inputs loaded.face.labels [] loaded.face.outputs (code_start ∷ (map an_instr loaded.code.instrs ++ code_end ∷ []))
+    ∙ stated-instrs loaded.code.counts.slots loaded.face.inputs loaded.face.labels loaded.face.outputs [] loaded.code.instrs (code_end ∷ [])
 
 -- ---- codes that differ
 
@@ -223,7 +223,7 @@ no-fault-of-form bytes loaded fault form is =
     let f = fault-stops bytes fault is in
     let same = same-stops blank f.0 (entries_of loaded) f.1 [] (sym f.2.text ∙ form.text ∙ sym (form-text loaded) ∙ sym (append-nil (lines entry_line (entries_of loaded))))
     f.2.due (form-due bytes loaded form) f.2.ends (never-empty (draft_of (entries_of loaded))) in
-    f.2.open_end (ap {A = List Entry} {B = ℕ} (λ l. (draft_of l).part) same.0 ∙ ap {A = Draft} {B = ℕ} (λ d. d.part) (all-said loaded)) same.1
+    f.2.open_end (ap {A = List Entry} {B = ℕ} (λ l. (draft_of l).part) same.0 ∙ ap {A = Draft} {B = ℕ} (λ d. d.part) (all-stated loaded)) same.1
 
 -- A text is the form of one code with one face.
 pub one-form : (bytes : List ℕ) (one other : Loaded) → IsFormOf bytes one → IsFormOf bytes other
@@ -231,7 +231,7 @@ pub one-form : (bytes : List ℕ) (one other : Loaded) → IsFormOf bytes one �
 one-form bytes one other a b =
     let same = same-stops blank (entries_of one) (entries_of other) [] [] (ap (λ t. t ++ []) (form-text one ∙ sym a.text ∙ b.text ∙ sym (form-text other)))
     (form-due bytes one a) (form-due bytes other b) (never-empty (draft_of (entries_of one))) (never-empty (draft_of (entries_of other))) in
-    let d = sym (all-said one) ∙ ap draft_of same.0 ∙ all-said other in (
+    let d = sym (all-stated one) ∙ ap draft_of same.0 ∙ all-stated other in (
       listing-is one ∙ (λ i. code_of (length (d i).inputs) (d i).slots (length (d i).labels) (length (d i).outputs) (d i).instrs) ∙ sym (listing-is other),
       ap {A = Draft} {B = List Coded} (λ x. x.inputs) d,
       ap {A = Draft} {B = List FaceLabel} (λ x. x.labels) d,

@@ -16,7 +16,7 @@ use Rattle.observables.specs.declared.face.Face.{Face}
 use Rattle.observables.specs.Inputs.{codes_of}
 use Rattle.code_file.specs.declared.fault.CodeFault.TheVariants.{BadHeader, BadLine}
 use Rattle.code_file.specs.Text.{lines, slots_line, input_line, label_line, output_line, instr_line}
-use Rattle.code_file.specs.Reading.{Entry, version, slot_count, an_input, a_label, an_output, code_start, an_instr, code_end, entry_line, IsInstr, IsShort, Draft, blank, said, Ends, IsCodeFault}
+use Rattle.code_file.specs.Reading.{Entry, version, slot_count, an_input, a_label, an_output, code_start, an_instr, code_end, entry_line, IsInstr, IsShort, Draft, blank, stated, Ends, IsCodeFault}
 use Rattle.code_file.specs.inner.Spelled.{cut}
 use Rattle.code_file.specs.inner.Faces.{IsRightInput, IsRightLabel, IsNoFront, IsRun, AreOutputs, IsAgain, input_of}
 use Rattle.code_file.specs.inner.Came.{Came, face_so_far, code_so_far, EndsFace, IsCodeSoFar, face_text, text_so_far, IsRightFace}
@@ -53,9 +53,9 @@ header-fault bytes other = record { text = refl; due = tt; ends = ends; open_end
 
 pub slots-fault : (bytes rest : List ℕ) (m : ℕ) → bytes ≡ codes "mcode 1\n" ++ rest → IsNoFront slots_line IsShort rest → m ≡ 2 → IsCodeFault bytes (BadLine m)
 slots-fault bytes rest m e other k =
-    fault-line bytes rest (said blank version) 1 m (came-next bytes bytes rest blank 0 version (came-none bytes) tt refl e) (omega arith) ends (λ p. absurd (omega (arith, p))) (λ r. omega (arith, r.4)) (omega (arith, k))
+    fault-line bytes rest (stated blank version) 1 m (came-next bytes bytes rest blank 0 version (came-none bytes) tt refl e) (omega arith) ends (λ p. absurd (omega (arith, p))) (λ r. omega (arith, r.4)) (omega (arith, k))
   where
-    ends : Ends (said blank version) rest
+    ends : Ends (stated blank version) rest
     ends version behind h i t = false≢true t
     ends (slot_count n) behind h i t = other n behind i h
     ends (an_input x) behind h i t = false≢true t
@@ -209,7 +209,7 @@ none-there [] h = refl
 none-there (e ∷ es) h = absurd (omega (arith, h))
 
 pub some-came : (bytes rest : List ℕ) (d : Draft) (n : ℕ) → d.part ≡ 3 → Came bytes d n rest → 0 < n
-some-came bytes rest d zero p c = absurd (omega (arith, p, ap (λ x. x.part) (sym c.is ∙ ap (fold said blank) (none-there c.entries c.count))))
+some-came bytes rest d zero p c = absurd (omega (arith, p, ap (λ x. x.part) (sym c.is ∙ ap (fold stated blank) (none-there c.entries c.count))))
 some-came bytes rest d (suc n) p c = omega arith
 
 -- a line that is neither an instruction nor `end`

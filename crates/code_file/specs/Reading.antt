@@ -123,24 +123,24 @@ due (an_instr i) d = (d.part == 3) && is_some (reading (with_instr (code_in d) i
 due code_end d = (d.part == 3) && is_none (code_fault (code_in d))
 
 -- what the lines say with one more
-abbrev pub said : Draft → Entry → Draft
-said d version = record d { part = 1 }
-said d (slot_count n) = record d { part = 2; slots = n }
-said d (an_input input) = record d { inputs = d.inputs ++ input ∷ [] }
-said d (a_label label) = record d { labels = d.labels ++ label ∷ [] }
-said d (an_output output) = record d { outputs = d.outputs ++ output ∷ [] }
-said d code_start = record d { part = 3 }
-said d (an_instr i) = record d { instrs = d.instrs ++ i ∷ [] }
-said d code_end = record d { part = 4 }
+abbrev pub stated : Draft → Entry → Draft
+stated d version = record d { part = 1 }
+stated d (slot_count n) = record d { part = 2; slots = n }
+stated d (an_input input) = record d { inputs = d.inputs ++ input ∷ [] }
+stated d (a_label label) = record d { labels = d.labels ++ label ∷ [] }
+stated d (an_output output) = record d { outputs = d.outputs ++ output ∷ [] }
+stated d code_start = record d { part = 3 }
+stated d (an_instr i) = record d { instrs = d.instrs ++ i ∷ [] }
+stated d code_end = record d { part = 4 }
 
 -- each of these may come next, in turn
 abbrev pub AreDue : Draft → List Entry → Type 0
 AreDue d [] = Unit {0}
-AreDue d (entry ∷ entries) = IsEntry entry × IsTrue (due entry d) × AreDue (said d entry) entries
+AreDue d (entry ∷ entries) = IsEntry entry × IsTrue (due entry d) × AreDue (stated d entry) entries
 
 -- what they say together
 abbrev pub draft_of : List Entry → Draft
-draft_of entries = fold said blank entries
+draft_of entries = fold stated blank entries
 
 -- ---- the first fault
 

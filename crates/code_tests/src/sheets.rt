@@ -10,7 +10,7 @@ use std::test::Fail;
 use value_sheet::{Sheet, Steps};
 
 // Whether what a sheet tells of its program's answers is right, from one settle to the next.
-fn tells<L: Ledger>(sheet: &mut Sheet, blank: Blank) -> bool
+fn observe<L: Ledger>(sheet: &mut Sheet, blank: Blank) -> bool
     requires name { blank.name ≡ L.name }
     requires parts { blank.parts ≡ L.parts }
     requires some { 0 < L.parts }
@@ -32,6 +32,6 @@ fn tells<L: Ledger>(sheet: &mut Sheet, blank: Blank) -> bool
 #[test]
 fn answers(rt: HostRuntime) -> Result<(), Fail> {
     let mut sheet = Sheet::new(rt.alloc(), tidied(rt.alloc())?)?;
-    assert!(rt; tells::<Brand>(&mut sheet, Blank::new(1)));
+    assert!(rt; observe::<Brand>(&mut sheet, Blank::new(1)));
     Ok(())
 }

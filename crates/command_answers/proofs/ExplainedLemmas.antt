@@ -47,7 +47,7 @@ is_explained source declared ordered rules valid order = record {
   rules = rules;
   lines = λ values c. why_lines ordered (environment (start_of declared values)) c;
   reasons = λ values c low. why-reason ordered (environment (start_of declared values)) c valid order low;
-  said = λ values name. ap (λ (env : List Value). explanation declared (λ c. why_lines ordered (environment env) c) name) (same_start declared values);
+  stated = λ values name. ap (λ (env : List Value). explanation declared (λ c. why_lines ordered (environment env) c) name) (same_start declared values);
 }
 
 -- a prepared program has an input for each that is declared
@@ -55,4 +55,4 @@ pub as_many_inputs : (source : Source) (program : Program) (declared : Declared)
     → length program.face.inputs ≡ length (inputs_from 0 declared.variables)
 as_many_inputs source program declared base is rules =
     let same = (one_rules source is.valid.declared declared is.valid.base base is.valid.valid.rules rules).0 in
-    ap length is.shows.inputs ∙ ap (λ (s : Scheme). length s.inputs) is.valid.said ∙ many_inputs is.valid.declared ∙ ap (λ (d : Declared). length (inputs_from 0 d.variables)) same
+    ap length is.shows.inputs ∙ ap (λ (s : Scheme). length s.inputs) is.valid.stated ∙ many_inputs is.valid.declared ∙ ap (λ (d : Declared). length (inputs_from 0 d.variables)) same

@@ -2,7 +2,7 @@
 use Rattle.std.proofs.Common.{◌≡◌, ◌≢◌, ℕ, ℤ, ◌≤◌, List, Ok, None, refl, sym, ◌∙◌, ap, subst}
 use Rattle.household.specs.Household.{household_of}
 use Rattle.code_file.specs.declared.loaded.Loaded.{Loaded}
-use Rattle.driver_core.specs.Inputs.{inputs_said}
+use Rattle.driver_core.specs.Inputs.{inputs_declared}
 use Rattle.m_large.specs.Large.{household_text}
 use Rattle.m_compile.specs.Faults.{IsSourceFault}
 use Rattle.m_compile.specs.declared.fault.SourceFault.{SourceFault}
@@ -13,7 +13,7 @@ use Rattle.large_validity.proofs.Valid.{is_valid}
 use Rattle.command_plans.specs.Printing.{IsAnswered}
 use Rattle.command_plans.specs.Views.{OutputView}
 use Rattle.command_plans.specs.declared.status.Status.{Status}
-use Rattle.command_answers.specs.LargeAnswers.{LargeReplies, is_told}
+use Rattle.command_answers.specs.LargeAnswers.{LargeReplies, is_reported}
 use Rattle.code_answers.specs.Larges.{ReadsLarge}
 use Rattle.code_answers.specs.Larges.{large_line}
 use Rattle.code_answers.specs.Shown.{HouseholdReplies}
@@ -45,7 +45,7 @@ given : (n : ℕ) → 1 ≤ n → n ≤ 100000 → (scheme : Scheme) → IsSchem
 given n some few scheme v =
     let is = is_valid n some few in
     let same = one_validity (large_source n) is.declared v.declared is.base v.base None v.written is.requests v.requests is.valid v.valid in
-    let inputs : inputs_said is.declared ≡ scheme.inputs = ap inputs_said same.0 ∙ sym (ap (λ (s : Scheme). s.inputs) v.said) in
+    let inputs : inputs_declared is.declared ≡ scheme.inputs = ap inputs_declared same.0 ∙ sym (ap (λ (s : Scheme). s.inputs) v.stated) in
     (is.pairs, subst (λ inputs. household_of inputs (household_text n) ≡ Ok is.pairs) inputs is.given)
 
 pub reads_large : (n : ℕ) → 1 ≤ n → n ≤ 100000 → (loaded : Loaded) → IsPreparedCode (large_source n) loaded → ReadsLarge n loaded.face
@@ -56,7 +56,7 @@ reads_large n some few loaded is =
 large_as : (n : ℕ) → 1 ≤ n → n ≤ 100000 → (scheme : Scheme) → IsScheme (large_source n) scheme → (text : List ℕ) (own : Status)
     → HouseholdReplies (large_line n) scheme (household_text n) text own → LargeReplies n text own
 large_as n some few scheme valid text own (households.is_refused fault faulty line) = let g = (given n some few scheme valid).1 in cc
-large_as n some few scheme valid text own (households.is_told pairs said) = is_told scheme pairs valid said
+large_as n some few scheme valid text own (households.is_reported pairs stated) = is_reported scheme pairs valid stated
 
 pub large_answered : (n : ℕ) → 1 ≤ n → n ≤ 100000 → (loaded : Loaded) (old new : OutputView) (status : Status) → (is : IsPreparedCode (large_source n) loaded)
     → IsAnswered (HouseholdReplies (large_line n) is.scheme (household_text n)) old new status → IsAnswered (LargeReplies n) old new status

@@ -10,8 +10,8 @@ use Rattle.household_session.specs.Replies.{command_reply, command_values, ended
 use Rattle.household_session.specs.Sessions.{Showing, line}
 use Rattle.household_session.proofs.ReplyLemmas.{ended_lines-begin, input_lines-begin}
 use Rattle.household_session.proofs.TypeLemmas.{command_keeps}
-use Rattle.why_session.specs.Explains.{Explaining, explained_replies, name_asked}
-use Rattle.why_session.proofs.LineLemmas.{asked_replies, replies-begin}
+use Rattle.why_session.specs.Explains.{Explaining, explained_replies, why_name}
+use Rattle.why_session.proofs.LineLemmas.{requested_replies, replies-begin}
 use Rattle.code_answers.specs.Schemes.{Scheme}
 use Rattle.command_answers.specs.Sessions.{ended_replies, replies_by, scheme_showing, session_replies}
 
@@ -42,8 +42,8 @@ same_values inputs one other values bad = refl
 same_turn : (inputs : List Coded) (one other : List Value → List ℕ) (explains : Explaining) (first : List ℕ) (lines : List (List ℕ))
     → ((values : List Value) → AreValuesOf inputs values → one values ≡ other values)
     → ((values : List Value) → AreValuesOf inputs values → explained_replies (with_text inputs one) explains values lines ≡ explained_replies (with_text inputs other) explains values lines)
-    → (values : List Value) → AreValuesOf inputs values → (asked : Option (List ℕ))
-    → asked_replies (with_text inputs one) explains values first lines asked ≡ asked_replies (with_text inputs other) explains values first lines asked
+    → (values : List Value) → AreValuesOf inputs values → (wanted : Option (List ℕ))
+    → requested_replies (with_text inputs one) explains values first lines wanted ≡ requested_replies (with_text inputs other) explains values first lines wanted
 same_turn inputs one other explains first lines same rest values all (Some name) = ap (λ text. explains values name ++ text) (rest values all)
 same_turn inputs one other explains first lines same rest values all None =
     ap (λ reply. reply ++ explained_replies (with_text inputs one) explains (command_values (with_text inputs one) values (session_command first)) lines) (same_reply inputs one other values (session_command first) (same values all))
@@ -56,7 +56,7 @@ same_lines : (inputs : List Coded) (one other : List Value → List ℕ) (explai
     → explained_replies (with_text inputs one) explains values lines ≡ explained_replies (with_text inputs other) explains values lines
 same_lines inputs one other explains same [] values all = refl
 same_lines inputs one other explains same (first ∷ lines) values all =
-    same_turn inputs one other explains first lines same (λ vs h. same_lines inputs one other explains same lines vs h) values all (name_asked first)
+    same_turn inputs one other explains first lines same (λ vs h. same_lines inputs one other explains same lines vs h) values all (why_name first)
 
 -- the replies to lines
 pub replies_are : (one other : Showing) (explains : Explaining) → one.inputs ≡ other.inputs → ((values : List Value) → AreValuesOf other.inputs values → one.text values ≡ other.text values)

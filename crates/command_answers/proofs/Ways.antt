@@ -5,7 +5,7 @@ use Rattle.m_fixed.specs.declared.amount.Value.{Value}
 use Rattle.m_names.specs.Names.{AreDistinct}
 use Rattle.m_places.specs.declared.source.Source.{Source}
 use Rattle.tax_print.specs.FaultLines.{input_too_long_line, unreadable_input_line}
-use Rattle.observables.specs.Answers.{told_of}
+use Rattle.observables.specs.Answers.{observation}
 use Rattle.observables.specs.Inputs.{AreValuesOf, codes_of}
 use Rattle.observables.specs.Outputs.{notes_of}
 use Rattle.observables.specs.declared.answer.Answer.{Answer}
@@ -51,14 +51,14 @@ use Rattle.command_answers.specs.Serves.{IsServed}
 use Rattle.command_answers.specs.Serves as serve
 use Rattle.command_answers.specs.Serving.{Served, to_its_end, unread, too_long, unwritten, unwritten_at_end}
 use Rattle.command_answers.specs.Sessions.{ended_replies, replies_by, scheme_showing, session_replies}
-use Rattle.command_answers.specs.Sources.{IsScheme, Refuses, households_are_refused, scheme_said}
+use Rattle.command_answers.specs.Sources.{IsScheme, Refuses, households_are_refused, source_scheme}
 use Rattle.command_answers.specs.declared.program.Program.{Program}
 use Rattle.command_answers.specs.inner.Answers.{IsBegun, IsExplainerOf, IsFileOf, IsPrepared, IsServedBy, is_file}
 use Rattle.command_answers.specs.inner.Answers as prepared
 use Rattle.code_answers.proofs.CodeLemmas.{spells_whole}
-use Rattle.code_answers.proofs.Refusals.{TellsRefusal}
+use Rattle.code_answers.proofs.Refusals.{ReportsRefusal}
 use Rattle.command_answers.proofs.SessionLemmas.{replies_are}
-use Rattle.code_answers.proofs.Shown.{as_many, lines_told}
+use Rattle.code_answers.proofs.Shown.{as_many, lines_reported}
 use Rattle.command_answers.specs.Cases.{CasesReplies}
 use Rattle.command_answers.specs.Cases as cases
 use Rattle.code_answers.specs.Cases.{ComparedReplies}
@@ -68,14 +68,14 @@ use Rattle.code_answers.proofs.Ways.{answered_as, parts_as}
 
 -- ---- runs
 
-pub run_refused : (source : Source) (rows : List ℕ) (old new : OutputView) (status : Status) → TellsRefusal (Refuses source (λ inputs. household_of inputs rows)) old new status
+pub run_refused : (source : Source) (rows : List ℕ) (old new : OutputView) (status : Status) → ReportsRefusal (Refuses source (λ inputs. household_of inputs rows)) old new status
     → IsAnswered (RunReplies source rows) old new status
 run_refused source rows old new status (inl (line, refused, shown)) = printed line Refused (run.is_refused refused) tt shown
 run_refused source rows old new status (inr (same, memory)) = no_memory same memory
 
 run_as : (source : Source) (scheme : Scheme) (rows : List ℕ) → IsScheme source scheme → (text : List ℕ) (own : Status) → HouseholdReplies [] scheme rows text own → RunReplies source rows text own
 run_as source scheme rows valid text own (households.is_refused fault faulty line) = run.is_refused (households_are_refused scheme fault valid faulty line)
-run_as source scheme rows valid text own (households.is_told pairs given) = run.is_told scheme pairs valid given
+run_as source scheme rows valid text own (households.is_reported pairs given) = run.is_reported scheme pairs valid given
 
 pub run_answered : (source : Source) (loaded : Loaded) (rows : List ℕ) (old new : OutputView) (status : Status) → (is : IsPreparedCode source loaded)
     → IsAnswered (HouseholdReplies [] is.scheme rows) old new status → IsAnswered (RunReplies source rows) old new status
@@ -83,14 +83,14 @@ run_answered source loaded rows old new status is a = answered_as (HouseholdRepl
 
 -- ---- batches
 
-pub batch_refused : (source : Source) (table : List ℕ) (old new : OutputView) (status : Status) → TellsRefusal (Refuses source (λ inputs. table_of inputs table)) old new status
+pub batch_refused : (source : Source) (table : List ℕ) (old new : OutputView) (status : Status) → ReportsRefusal (Refuses source (λ inputs. table_of inputs table)) old new status
     → IsWrittenInParts (BatchReplies source table) old new status
 batch_refused source table old new status (inl (line, refused, shown)) = parts.printed line Refused (batch.is_refused refused) tt shown
 batch_refused source table old new status (inr (same, memory)) = parts.no_memory same memory
 
 table_as : (source : Source) (scheme : Scheme) (table : List ℕ) → IsScheme source scheme → (text : List ℕ) (own : Status) → TableReplies scheme table text own → BatchReplies source table text own
 table_as source scheme table valid text own (households.table_is_refused fault faulty line) = batch.is_refused (households_are_refused scheme fault valid faulty line)
-table_as source scheme table valid text own (households.rows_are_told rows given) = batch.is_told scheme rows valid given
+table_as source scheme table valid text own (households.rows_are_answered rows given) = batch.is_reported scheme rows valid given
 
 pub batch_answered : (source : Source) (loaded : Loaded) (table : List ℕ) (old new : OutputView) (status : Status) → (is : IsPreparedCode source loaded)
     → IsWrittenInParts (TableReplies is.scheme table) old new status → IsWrittenInParts (BatchReplies source table) old new status
@@ -99,7 +99,7 @@ batch_answered source loaded table old new status is a = parts_as (TableReplies 
 -- ---- cases
 
 pub cases_refused : (source : Source) (table : List ℕ) (fault : SourceFault) (old new : OutputView) (status : Status)
-    → TellsRefusal (λ line. IsSourceFault source fault × (source_line source.texts fault ≡ Some line)) old new status → IsWrittenInParts (CasesReplies source table) old new status
+    → ReportsRefusal (λ line. IsSourceFault source fault × (source_line source.texts fault ≡ Some line)) old new status → IsWrittenInParts (CasesReplies source table) old new status
 cases_refused source table fault old new status (inl (line, is, shown)) = parts.printed line Refused (cases.source_is_refused fault is.0 is.1) tt shown
 cases_refused source table fault old new status (inr (same, memory)) = parts.no_memory same memory
 
@@ -110,36 +110,36 @@ cases_answered source loaded table old new status is a =
 
 -- ---- sessions
 
-pub serve_refused : (source : Source) (rows : List ℕ) (heard : InputView) (old new : OutputView) (status : Status) → TellsRefusal (Refuses source (λ inputs. household_of inputs rows)) old new status
+pub serve_refused : (source : Source) (rows : List ℕ) (heard : InputView) (old new : OutputView) (status : Status) → ReportsRefusal (Refuses source (λ inputs. household_of inputs rows)) old new status
     → IsServed source rows heard heard old new status
 serve_refused source rows heard old new status (inl (line, refused, shown)) = serve.refused line refused refl shown
 serve_refused source rows heard old new status (inr (same, memory)) = serve.no_memory refl same memory
 
 pub session_refused : (scheme : Scheme) (explains : Explaining) (face : Face) (runs : List Value → Answer) (rows : List ℕ) (fault : HouseholdFault) (heard : InputView) (old new : OutputView) (status : Status) → Shows scheme face runs
-    → TellsRefusal (λ line. (household_of face.inputs rows ≡ Err fault) × (household_fault_line fault ≡ Some line)) old new status
+    → ReportsRefusal (λ line. (household_of face.inputs rows ≡ Err fault) × (household_fault_line fault ≡ Some line)) old new status
     → IsServedBy scheme explains rows heard heard old new status
 session_refused scheme explains face runs rows fault heard old new status shown (inl (line, refused, p)) =
     prepared.refused line fault (subst (λ inputs. household_of inputs rows ≡ Err fault) shown.inputs refused.0) refused.1 refl p
 session_refused scheme explains face runs rows fault heard old new status shown (inr (same, memory)) = prepared.no_memory refl same memory
 
-pub serve_answered : (source : Source) (program : Program) (rows : List ℕ) (heard told : InputView) (old new : OutputView) (status : Status) (explains : Explaining) → (is : IsPrepared source program) → IsExplained source explains
-    → IsServedBy is.scheme explains rows heard told old new status → IsServed source rows heard told old new status
-serve_answered source program rows heard told old new status explains is reasons (prepared.refused line fault faulty said same p) = serve.refused line (households_are_refused is.scheme fault is.valid faulty said) same p
-serve_answered source program rows heard told old new status explains is reasons (prepared.no_memory same none memory) = serve.no_memory same none memory
-serve_answered source program rows heard told old new status explains is reasons (prepared.served pairs given s) = serve.served is.scheme explains pairs (record { valid = is.valid; explained = reasons; given = given }) s
+pub serve_answered : (source : Source) (program : Program) (rows : List ℕ) (heard reported : InputView) (old new : OutputView) (status : Status) (explains : Explaining) → (is : IsPrepared source program) → IsExplained source explains
+    → IsServedBy is.scheme explains rows heard reported old new status → IsServed source rows heard reported old new status
+serve_answered source program rows heard reported old new status explains is reasons (prepared.refused line fault faulty stated same p) = serve.refused line (households_are_refused is.scheme fault is.valid faulty stated) same p
+serve_answered source program rows heard reported old new status explains is reasons (prepared.no_memory same none memory) = serve.no_memory same none memory
+serve_answered source program rows heard reported old new status explains is reasons (prepared.served pairs given s) = serve.served is.scheme explains pairs (record { valid = is.valid; explained = reasons; given = given }) s
 
 -- the same replies
-served_as : (one ended other also : List ℕ → List ℕ) (heard told : InputView) (old new : OutputView) (status : Status) → ((bytes : List ℕ) → one bytes ≡ other bytes) → ((bytes : List ℕ) → ended bytes ≡ also bytes)
-    → Served one ended heard told old new status → Served other also heard told old new status
-served_as one ended other also heard told old new status w e (to_its_end taken moved few none calm appends is) =
+served_as : (one ended other also : List ℕ → List ℕ) (heard reported : InputView) (old new : OutputView) (status : Status) → ((bytes : List ℕ) → one bytes ≡ other bytes) → ((bytes : List ℕ) → ended bytes ≡ also bytes)
+    → Served one ended heard reported old new status → Served other also heard reported old new status
+served_as one ended other also heard reported old new status w e (to_its_end taken moved few none calm appends is) =
     to_its_end taken moved few none calm (subst (λ text. Appends text old new) (w taken) appends) is
-served_as one ended other also heard told old new status w e (unread taken moved few rose shown) =
+served_as one ended other also heard reported old new status w e (unread taken moved few rose shown) =
     unread taken moved few rose (subst (λ text. Prints (text ++ unreadable_input_line) ReadFault old new status) (e taken) shown)
-served_as one ended other also heard told old new status w e (too_long taken moved full calm shown) =
+served_as one ended other also heard reported old new status w e (too_long taken moved full calm shown) =
     too_long taken moved full calm (subst (λ text. Prints (text ++ input_too_long_line) Refused old new status) (e taken) shown)
-served_as one ended other also heard told old new status w e (unwritten taken moved within calm breaks is) =
+served_as one ended other also heard reported old new status w e (unwritten taken moved within calm breaks is) =
     unwritten taken moved within calm (subst (λ text. Breaks text old new) (e taken) breaks) is
-served_as one ended other also heard told old new status w e (unwritten_at_end taken moved few none calm breaks is) =
+served_as one ended other also heard reported old new status w e (unwritten_at_end taken moved few none calm breaks is) =
     unwritten_at_end taken moved few none calm (subst (λ text. Breaks text old new) (w taken) breaks) is
 
 -- what a session of a program replies is what its scheme says
@@ -149,7 +149,7 @@ same_replies : (scheme : Scheme) (program : Program) (rows : List ℕ) (session 
 same_replies scheme program rows session explains runs shown of given lines =
     ap (λ (sitting : Sitting). explained_replies (showing_of sitting) explains sitting.values lines) of.begins
     ∙ ap (λ n. explained_replies (showing_of (begun program.tidy program.face of.pairs)) explains (values_of of.pairs n) lines) (sym runs.shown.inputs ∙ as_many scheme program.face (flat_run program.tidy) shown)
-    ∙ replies_are (showing_of (begun program.tidy program.face of.pairs)) (scheme_showing scheme) explains shown.inputs (λ vs all. lines_told scheme program.face (flat_run program.tidy) vs shown all)
+    ∙ replies_are (showing_of (begun program.tidy program.face of.pairs)) (scheme_showing scheme) explains shown.inputs (λ vs all. lines_reported scheme program.face (flat_run program.tidy) vs shown all)
     lines (values_of of.pairs (length scheme.inputs)) (household_gives scheme.inputs rows of.pairs given)
 
 joined_same : (scheme : Scheme) (program : Program) (declared : Declared) (ordered : Ordered) (rows : List ℕ) (joined : Joined) → IsRunnable program.face program.tidy
@@ -161,24 +161,24 @@ joined_same scheme program declared ordered rows joined runs shown of given line
 
 pub session_served : (scheme : Scheme) (program : Program) (declared : Declared) (ordered : Ordered) (rows : List ℕ) (joined : Joined) → IsRunnable program.face program.tidy
     → Shows scheme program.face (flat_run program.tidy) → (of : IsExplainerOf program declared ordered rows joined)
-    → (heard told : InputView) (old new : OutputView) (status : Status)
-    → Served (whole_of (joined_replies joined)) (ended_of (joined_replies joined)) heard told old new status → IsServedBy scheme (explains_by declared ordered) rows heard told old new status
-session_served scheme program declared ordered rows joined runs shown of heard told old new status done =
+    → (heard reported : InputView) (old new : OutputView) (status : Status)
+    → Served (whole_of (joined_replies joined)) (ended_of (joined_replies joined)) heard reported old new status → IsServedBy scheme (explains_by declared ordered) rows heard reported old new status
+session_served scheme program declared ordered rows joined runs shown of heard reported old new status done =
     let given : household_of scheme.inputs rows ≡ Ok of.session.pairs = subst (λ inputs. household_of inputs rows ≡ Ok of.session.pairs) shown.inputs of.session.given in
     prepared.served of.session.pairs given
     (served_as (whole_of (joined_replies joined)) (ended_of (joined_replies joined)) (session_replies scheme (explains_by declared ordered) of.session.pairs)
     (ended_replies scheme (explains_by declared ordered) of.session.pairs)
-    heard told old new status (λ bytes. joined_same scheme program declared ordered rows joined runs shown of given (input_lines bytes))
+    heard reported old new status (λ bytes. joined_same scheme program declared ordered rows joined runs shown of given (input_lines bytes))
     (λ bytes. joined_same scheme program declared ordered rows joined runs shown of given (ended_lines bytes)) done)
 
 -- ---- preparing
 
 -- the scheme of a source that is compiled
 abbrev scheme_of : (source : Source) (compiled : Compiled) → IsCompiled source compiled → Scheme
-scheme_of source compiled is = scheme_said is.declared is.base is.written is.requests
+scheme_of source compiled is = source_scheme is.declared is.base is.written is.requests
 
 valid_of : (source : Source) (compiled : Compiled) → (is : IsCompiled source compiled) → IsScheme source (scheme_of source compiled is)
-valid_of source compiled is = record { declared = is.declared; base = is.base; written = is.written; requests = is.requests; valid = is.valid; said = refl }
+valid_of source compiled is = record { declared = is.declared; base = is.base; written = is.written; requests = is.requests; valid = is.valid; stated = refl }
 
 -- what has the answers of the tidy program shows it
 shows_of : (source : Source) (compiled : Compiled) → (is : IsCompiled source compiled) → (runs : List Value → Answer) → ((vs : List Value) → runs vs ≡ flat_run compiled.tidy vs)
@@ -186,7 +186,7 @@ shows_of : (source : Source) (compiled : Compiled) → (is : IsCompiled source c
 shows_of source compiled is runs same = record {
   inputs = is.inputs;
   names = is.names;
-  answers = λ vs all. ap (told_of compiled.face.labels (notes_of compiled.face.outputs)) (same vs) ∙ is.answers vs (subst (λ inputs. AreValuesOf inputs vs) (sym is.inputs) all);
+  answers = λ vs all. ap (observation compiled.face.labels (notes_of compiled.face.outputs)) (same vs) ∙ is.answers vs (subst (λ inputs. AreValuesOf inputs vs) (sym is.inputs) all);
 }
 
 -- what a source is compiled to is prepared
@@ -218,7 +218,7 @@ is_runnable_code source compiled loaded same_code same_face is = record {
 
 -- ---- code files that are written
 
-pub compile_refused : (source : Source) (fault : SourceFault) (old new : OutputView) (status : Status) → TellsRefusal (λ line. IsSourceFault source fault × (source_line source.texts fault ≡ Some line)) old new status
+pub compile_refused : (source : Source) (fault : SourceFault) (old new : OutputView) (status : Status) → ReportsRefusal (λ line. IsSourceFault source fault × (source_line source.texts fault ≡ Some line)) old new status
     → IsAnswered (CompileReplies source) old new status
 compile_refused source fault old new status (inl (line, refused, shown)) = printed line Refused (compile.is_refused fault refused.0 refused.1) tt shown
 compile_refused source fault old new status (inr (same, memory)) = no_memory same memory

@@ -19,4 +19,4 @@ pub record IsExplained (source : Source) (explains : Explaining) : Type 0 where
   pub rules : HasRules source declared base
   pub lines : List Value → ℕ → List ReportLine
   pub reasons : (values : List Value) (c : ℕ) → c < base.cells → IsReasonOf base (environment (start_of declared values)) c (lines values c)
-  pub said : (values : List Value) (name : List ℕ) → explains values name ≡ explanation declared (lines values) name
+  pub stated : (values : List Value) (name : List ℕ) → explains values name ≡ explanation declared (lines values) name

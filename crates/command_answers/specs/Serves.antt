@@ -37,9 +37,9 @@ pub data ServeCutOff (source : Source) (rows taken : List ℕ) : List ℕ → Ty
       → ServeCutOff source rows taken (ended_replies scheme explains pairs taken ++ unreadable_input_line)
 
 -- `serve` ended: with an error or for lack of memory before anything was taken from the input, or the session began and had its lines.
-pub data IsServed (source : Source) (rows : List ℕ) (heard told : InputView) (old new : OutputView) (status : Status) : Type 0 where
-  refused : (line : List ℕ) → Refuses source (λ inputs. household_of inputs rows) line → told ≡ heard → Prints line Refused old new status
-      → IsServed source rows heard told old new status
-  no_memory : told ≡ heard → new ≡ old → status ≡ Memory → IsServed source rows heard told old new status
+pub data IsServed (source : Source) (rows : List ℕ) (heard reported : InputView) (old new : OutputView) (status : Status) : Type 0 where
+  refused : (line : List ℕ) → Refuses source (λ inputs. household_of inputs rows) line → reported ≡ heard → Prints line Refused old new status
+      → IsServed source rows heard reported old new status
+  no_memory : reported ≡ heard → new ≡ old → status ≡ Memory → IsServed source rows heard reported old new status
   served : (scheme : Scheme) (explains : Explaining) (pairs : List (ℕ × ℤ)) → IsSession source rows scheme explains pairs
-      → Served (session_replies scheme explains pairs) (ended_replies scheme explains pairs) heard told old new status → IsServed source rows heard told old new status
+      → Served (session_replies scheme explains pairs) (ended_replies scheme explains pairs) heard reported old new status → IsServed source rows heard reported old new status

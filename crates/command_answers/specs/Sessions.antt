@@ -3,13 +3,13 @@ use Rattle.std.specs.Prelude.{ℕ, ℤ, List, length}
 use Rattle.household.specs.Household.{values_of}
 use Rattle.household_session.specs.Replies.{ended_lines, input_lines}
 use Rattle.household_session.specs.Sessions.{Showing}
-use Rattle.tax_print.specs.Lines.{told_lines}
+use Rattle.tax_print.specs.Lines.{observation_lines}
 use Rattle.why_session.specs.Explains.{Explaining, explained_replies}
 use Rattle.code_answers.specs.Schemes.{Scheme}
 
 -- what a session shows: the inputs, and the lines of what is told to values
 abbrev pub scheme_showing : Scheme → Showing
-scheme_showing scheme = record { inputs = scheme.inputs; text = λ values. told_lines scheme.names (scheme.tells values) }
+scheme_showing scheme = record { inputs = scheme.inputs; text = λ values. observation_lines scheme.names (scheme.observe values) }
 
 -- The replies to lines, where a session begins with these pairs and tells this of names that it is asked about. Of the pair of `1AJ`
 -- and 5, to `set 1AJ x` and `clear 1AJ` the lines `refused bad amount` and `ok`.

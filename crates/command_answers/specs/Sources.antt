@@ -11,18 +11,18 @@ use Rattle.m_compile.specs.Sources.{IsValid}
 use Rattle.m_compile.specs.Faults.{IsSourceFault}
 use Rattle.m_compile.specs.Lines.{source_line}
 use Rattle.m_compile.specs.Answers.{answer_to}
-use Rattle.driver_core.specs.Inputs.{inputs_said}
+use Rattle.driver_core.specs.Inputs.{inputs_declared}
 use Rattle.m_compile.specs.declared.fault.SourceFault.{SourceFault}
 use Rattle.code_answers.specs.Households.{household_fault_line}
 use Rattle.code_answers.specs.Schemes.{Scheme}
 
 -- what is said by declarations, a base, the driver that was written, and what is asked for: the inputs, the names of the cells that are
 -- asked for, and what the driver over the rules answers
-abbrev pub scheme_said : Declared → Base → Option Core → List ℕ → Scheme
-scheme_said declared base written requests = record {
-  inputs = inputs_said declared;
+abbrev pub source_scheme : Declared → Base → Option Core → List ℕ → Scheme
+source_scheme declared base written requests = record {
+  inputs = inputs_declared declared;
   names = map (cell_name declared) requests;
-  tells = answer_to declared base written requests;
+  observe = answer_to declared base written requests;
 }
 
 -- The source is valid, and this is what it is to households.
@@ -32,11 +32,11 @@ pub record IsScheme (source : Source) (scheme : Scheme) : Type 0 where
   pub written : Option Core
   pub requests : List ℕ
   pub valid : IsValid source declared base written requests
-  pub said : scheme ≡ scheme_said declared base written requests
+  pub stated : scheme ≡ source_scheme declared base written requests
 
 -- The line by which a source is refused, or the file of households after it, of which `said` is what it says by the inputs: the fault of the
 -- source, and in a valid source the fault of that file.
-pub data Refuses (source : Source) {Given : Type 0} (said : List Coded → Result Given HouseholdFault) (line : List ℕ) : Type 0 where
-  source_is_refused : (fault : SourceFault) → IsSourceFault source fault → source_line source.texts fault ≡ Some line → Refuses source said line
-  households_are_refused : (scheme : Scheme) (fault : HouseholdFault) → IsScheme source scheme → said scheme.inputs ≡ Err fault → household_fault_line fault ≡ Some line
-      → Refuses source said line
+pub data Refuses (source : Source) {Given : Type 0} (stated : List Coded → Result Given HouseholdFault) (line : List ℕ) : Type 0 where
+  source_is_refused : (fault : SourceFault) → IsSourceFault source fault → source_line source.texts fault ≡ Some line → Refuses source stated line
+  households_are_refused : (scheme : Scheme) (fault : HouseholdFault) → IsScheme source scheme → stated scheme.inputs ≡ Err fault → household_fault_line fault ≡ Some line
+      → Refuses source stated line

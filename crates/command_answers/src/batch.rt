@@ -6,7 +6,7 @@ ghost use Rattle.command_answers.specs.Batches.{BatchReplies};
 ghost use Rattle.code_answers.specs.Parts.{IsWrittenInParts};
 
 use crate::program::prepare_code;
-use crate::refusal::tell_source;
+use crate::refusal::report_source;
 use code_answers::answer_batch;
 use command_plans::Status;
 use m_places::Source;
@@ -29,6 +29,6 @@ pub fn batch_source<R: Threads + Sync, K: Sink>(
 {
     match prepare_code(rt, alloc, source) {
         Ok(loaded) => answer_batch(rt, alloc, &loaded, table, out),
-        Err(fault) => tell_source(source, fault, out),
+        Err(fault) => report_source(source, fault, out),
     }
 }

@@ -6,7 +6,7 @@ ghost use Rattle.code_answers.specs.Parts.{IsWrittenInParts};
 ghost use Rattle.command_answers.specs.Cases.{CasesReplies};
 
 use crate::program::prepare_code;
-use crate::refusal::tell_source;
+use crate::refusal::report_source;
 use code_answers::answer_cases;
 use command_plans::Status;
 use m_places::Source;
@@ -29,6 +29,6 @@ pub fn cases_source<R: Threads + Sync, K: Sink>(
 {
     match prepare_code(rt, alloc, source) {
         Ok(loaded) => answer_cases(rt, alloc, &loaded, table, out),
-        Err(fault) => tell_source(source, fault, out),
+        Err(fault) => report_source(source, fault, out),
     }
 }

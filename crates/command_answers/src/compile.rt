@@ -6,7 +6,7 @@ ghost use Rattle.command_answers.specs.Compiles.{CompileReplies};
 ghost use Rattle.command_answers.specs.inner.Answers.{IsFileOf};
 
 use crate::program::prepare_code;
-use crate::refusal::tell_source;
+use crate::refusal::report_source;
 use code_answers::give_code;
 use code_file::Loaded;
 use command_plans::{Status, printed};
@@ -27,7 +27,7 @@ pub fn compile_source<R: Threads + Sync, K: Sink>(
 {
     match prepare_code(rt, alloc, source) {
         Ok(loaded) => answer_compile(loaded, out),
-        Err(fault) => tell_source(source, fault, out),
+        Err(fault) => report_source(source, fault, out),
     }
 }
 

@@ -6,7 +6,7 @@ ghost use Rattle.command_plans.specs.Views.{output_view};
 ghost use Rattle.command_answers.specs.Runs.{RunReplies};
 
 use crate::program::prepare_code;
-use crate::refusal::tell_source;
+use crate::refusal::report_source;
 use code_answers::answer_run;
 use command_plans::Status;
 use m_places::Source;
@@ -28,6 +28,6 @@ pub fn run_source<R: Threads + Sync, K: Sink>(
 {
     match prepare_code(rt, alloc, source) {
         Ok(loaded) => answer_run(alloc, &loaded, household, out),
-        Err(fault) => tell_source(source, fault, out),
+        Err(fault) => report_source(source, fault, out),
     }
 }

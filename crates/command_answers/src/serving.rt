@@ -21,9 +21,9 @@ ghost use Rattle.command_answers.specs.Serving.{Served};
 ghost use Rattle.command_answers.specs.inner.Answers.{IsBegun, IsExplainerOf, IsServedBy};
 
 use crate::program::{Program, program_of};
-use crate::refusal::tell_source;
+use crate::refusal::report_source;
 use crate::session::serve_session;
-use code_answers::{read_given, tell_refusal, told_household};
+use code_answers::{read_given, report_refusal, household_entry};
 use command_plans::Status;
 use household::HouseholdFault;
 use household_session::Session;
@@ -53,7 +53,7 @@ pub fn serve_source<R: Threads + Sync, S: Input, K: Sink>(
         Ok((made, compiled)) => {
             answer_serve(alloc, program_of(compiled), made, household, input, out)
         }
-        Err(fault) => tell_source(source, fault, out),
+        Err(fault) => report_source(source, fault, out),
     }
 }
 
@@ -79,7 +79,7 @@ fn answer_serve<S: Input, K: Sink>(
 {
     match explainer_of(alloc, program, made, household) {
         Ok(explainer) => serve_explained(explainer, input, out),
-        Err(fault) => tell_refusal(out, told_household(fault)),
+        Err(fault) => report_refusal(out, household_entry(fault)),
     }
 }
 

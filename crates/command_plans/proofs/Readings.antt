@@ -12,7 +12,7 @@ use Rattle.command_plans.specs.declared.list_fault.ListFault.TheVariants.{BadLin
 use Rattle.command_plans.specs.Files.{files_of}
 use Rattle.command_plans.specs.Listing.{IsFileLine, IsFirstBad, missing, no_word, no_name, IsListing, IsListFault, ReadsAs}
 use Rattle.command_plans.specs.inner.Reading.{is_word, is_file_line, first_bad_from, files_read, lines_read, list_of}
-use Rattle.command_plans.specs.inner.Says.{word_test, test_word, file_line_test, test_file_line, list_says}
+use Rattle.command_plans.specs.inner.Says.{word_test, test_word, file_line_test, test_file_line, list_meaning}
 
 -- the other way round
 no_bad : (number : ℕ) (lines : List (List ℕ)) → AllByRecursion IsFileLine lines → first_bad_from number lines ≡ None
@@ -60,9 +60,9 @@ pub reads_one : (bytes : List ℕ) (one other : Result Listing ListFault) → Re
 reads_one bytes one other h k = sym (reads_this bytes one h) ∙ reads_this bytes other k
 
 -- what the reader of lines answers
-pub read_says : (bytes : List ℕ) (result : Result Listing ListFault) → Says Memory result (λ listing. listing) (list_of bytes) → Outcome Memory result (IsListing bytes) (IsListFault bytes)
-read_says bytes (Ok listing) e = subst (ReadsAs bytes) e (list_says bytes)
-read_says bytes (Err fault) k = λ other. subst (ReadsAs bytes) (k other) (list_says bytes)
+pub read_meaning : (bytes : List ℕ) (result : Result Listing ListFault) → Says Memory result (λ listing. listing) (list_of bytes) → Outcome Memory result (IsListing bytes) (IsListFault bytes)
+read_meaning bytes (Ok listing) e = subst (ReadsAs bytes) e (list_meaning bytes)
+read_meaning bytes (Err fault) k = λ other. subst (ReadsAs bytes) (k other) (list_meaning bytes)
 
 -- the test, as a call answers it
 pub test_is : (t : List ℕ) (r : Bool) → (r ≡ true → IsWord t) → (IsWord t → r ≡ true) → r ≡ is_word t

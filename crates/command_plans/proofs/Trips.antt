@@ -17,11 +17,11 @@ use Rattle.command_plans.proofs.Walks.{walks_then, walks_ended}
 pub along_then : {A B : Type 0} (plan : Plan A) (next : A → Plan B) (before mid after : FilesView) (all : A) (result : Result B Ending)
     → GoesAlong plan before mid (Ok all) → GoesAlong (next all) mid after result → GoesAlong (and_then plan next) before after result
 along_then plan next before mid after all result a b = record {
-  told = b.told ∙ a.told;
+  known_files = b.known_files ∙ a.known_files;
   made = a.made ++ b.made;
   spent = a.spent + b.spent;
-  walk = walks_then before.told next plan a.made b.made a.spent b.spent all (Ok all) result a.walk refl
-      (subst (λ (t : Option Disk). Walks t (next all) b.made b.spent result) a.told b.walk);
+  walk = walks_then before.known_files next plan a.made b.made a.spent b.spent all (Ok all) result a.walk refl
+      (subst (λ (t : Option Disk). Walks t (next all) b.made b.spent result) a.known_files b.walk);
   attempts = b.attempts ∙ ap (λ l. l ++ b.made) a.attempts ∙ append_assoc before.attempts a.made b.made;
   taken = omega (arith, a.taken, b.taken);
 }
@@ -30,18 +30,18 @@ along_then plan next before mid after all result a b = record {
 pub along_ended : {A B : Type 0} (plan : Plan A) (next : A → Plan B) (before after : FilesView) (ending : Ending)
     → GoesAlong plan before after (Err ending) → GoesAlong (and_then plan next) before after (Err ending)
 along_ended plan next before after ending a = record {
-  told = a.told;
+  known_files = a.known_files;
   made = a.made;
   spent = a.spent;
-  walk = walks_ended before.told next plan a.made a.spent ending (Err ending) a.walk refl;
+  walk = walks_ended before.known_files next plan a.made a.spent ending (Err ending) a.walk refl;
   attempts = a.attempts;
   taken = a.taken;
 }
 
 -- where nothing is fetched
-still : {A : Type 0} (plan : Plan A) (view : FilesView) (result : Result A Ending) → Walks view.told plan [] 0 result → GoesAlong plan view view result
+still : {A : Type 0} (plan : Plan A) (view : FilesView) (result : Result A Ending) → Walks view.known_files plan [] 0 result → GoesAlong plan view view result
 still plan view result walk = record {
-  told = refl;
+  known_files = refl;
   made = [];
   spent = 0;
   walk = walk;
@@ -71,11 +71,11 @@ exits_ended plan next before after ending (Err e) a h = subst (λ x. GoesAlong (
 
 -- one fetch, under a name that is a copy
 pub along_fetch : (copy name : List ℕ) (limit : ℕ) (before after : FilesView) (made : List Attempt) (result : Result (List ℕ) Ending)
-    → copy ≡ name → Walks before.told (file_plan copy limit) made (limit + 1) result
-    → after.told ≡ before.told → after.attempts ≡ before.attempts ++ made → after.taken ≤ before.taken + (limit + 1)
+    → copy ≡ name → Walks before.known_files (file_plan copy limit) made (limit + 1) result
+    → after.known_files ≡ before.known_files → after.attempts ≡ before.attempts ++ made → after.taken ≤ before.taken + (limit + 1)
     → GoesAlong (file_plan name limit) before after result
-along_fetch copy name limit before after made result same walk told attempts taken = subst (λ (n : List ℕ). GoesAlong (file_plan n limit) before after result) same (record {
-  told = told;
+along_fetch copy name limit before after made result same walk known_files attempts taken = subst (λ (n : List ℕ). GoesAlong (file_plan n limit) before after result) same (record {
+  known_files = known_files;
   made = made;
   spent = limit + 1;
   walk = walk;
@@ -84,9 +84,9 @@ along_fetch copy name limit before after made result same walk told attempts tak
 })
 
 -- a walk that had the one file that it asked for
-pub walks_one : (told : Option Disk) (name bytes all : List ℕ) (limit : ℕ) → Holds told name bytes → length bytes ≤ limit → all ≡ bytes
-    → Walks told (file_plan name limit) (record { name = name; failed = false } ∷ []) (limit + 1) (Ok all)
-walks_one told name bytes all limit h l e =
+pub walks_one : (known_files : Option Disk) (name bytes all : List ℕ) (limit : ℕ) → Holds known_files name bytes → length bytes ≤ limit → all ≡ bytes
+    → Walks known_files (file_plan name limit) (record { name = name; failed = false } ∷ []) (limit + 1) (Ok all)
+walks_one known_files name bytes all limit h l e =
     let zero : limit + 1 + 0 ≡ limit + 1 = omega arith in
-    subst (λ x. Walks told (file_plan name limit) (record { name = name; failed = false } ∷ []) (limit + 1) (Ok x)) (sym e)
-    (subst (λ n. Walks told (file_plan name limit) (record { name = name; failed = false } ∷ []) n (Ok bytes)) zero (goes_on bytes h l ends))
+    subst (λ x. Walks known_files (file_plan name limit) (record { name = name; failed = false } ∷ []) (limit + 1) (Ok x)) (sym e)
+    (subst (λ n. Walks known_files (file_plan name limit) (record { name = name; failed = false } ∷ []) n (Ok bytes)) zero (goes_on bytes h l ends))

@@ -8,23 +8,23 @@ use Rattle.tax_print.specs.FaultLines.{too_long_line}
 pub data Plan (Gathered : Type 0) : Type 0 where
   done : Gathered → Plan Gathered
   refuses : (line : List ℕ) → Plan Gathered
-  asks : (name : List ℕ) (limit : ℕ) (behind : List ℕ → Plan Gathered) → Plan Gathered
+  fetches : (name : List ℕ) (limit : ℕ) (behind : List ℕ → Plan Gathered) → Plan Gathered
 
 -- whether a plan asks for a file
-abbrev pub asks_file : {Gathered : Type 0} → Plan Gathered → Bool
-asks_file (done all) = false
-asks_file (refuses line) = false
-asks_file (asks name limit behind) = true
+abbrev pub requests_file : {Gathered : Type 0} → Plan Gathered → Bool
+requests_file (done all) = false
+requests_file (refuses line) = false
+requests_file (fetches name limit behind) = true
 
 -- the plan that asks for one file, and is done with its bytes
 abbrev pub file_plan : List ℕ → ℕ → Plan (List ℕ)
-file_plan name limit = asks name limit done
+file_plan name limit = fetches name limit done
 
 -- one plan, and after it another, which may look at what the first gathered
 abbrev pub and_then : {A B : Type 0} → Plan A → (A → Plan B) → Plan B
 and_then (done gathered) next = next gathered
 and_then (refuses line) next = refuses line
-and_then (asks name limit behind) next = asks name limit (λ bytes. and_then (behind bytes) next)
+and_then (fetches name limit behind) next = fetches name limit (λ bytes. and_then (behind bytes) next)
 
 -- what a plan comes to over the files of a disk: all was gathered, or a line refuses it, or a file is missing
 pub data End (Gathered : Type 0) : Type 0 where
@@ -33,16 +33,16 @@ pub data End (Gathered : Type 0) : Type 0 where
   missing : (name : List ℕ) → End Gathered
 
 -- what comes of asking for a file that has these bytes or isn't there
-abbrev pub asked : {Gathered : Type 0} → List ℕ → ℕ → (List ℕ → End Gathered) → Option (List ℕ) → End Gathered
-asked name limit behind None = missing name
-asked name limit behind (Some bytes) = if nat_le (length bytes) limit then behind bytes else refused (too_long_line name)
+abbrev pub fetched_end : {Gathered : Type 0} → List ℕ → ℕ → (List ℕ → End Gathered) → Option (List ℕ) → End Gathered
+fetched_end name limit behind None = missing name
+fetched_end name limit behind (Some bytes) = if nat_le (length bytes) limit then behind bytes else refused (too_long_line name)
 
 -- What a plan comes to. A plan that asks for `a.m` of at most 3 bytes, and is done with them, comes to `gathered "abc"` where
 -- the file has these bytes, to `refused "refused file too long a.m"` where it has four, and to `missing "a.m"` where there is none.
 abbrev pub end_of : {Gathered : Type 0} → Disk → Plan Gathered → End Gathered
 end_of disk (done all) = gathered all
 end_of disk (refuses line) = refused line
-end_of disk (asks name limit behind) = asked name limit (λ bytes. end_of disk (behind bytes)) (disk name)
+end_of disk (fetches name limit behind) = fetched_end name limit (λ bytes. end_of disk (behind bytes)) (disk name)
 
 -- the names after a file that has these bytes or isn't there: none where it can't be had
 abbrev pub names_behind : ℕ → (List ℕ → List (List ℕ)) → Option (List ℕ) → List (List ℕ)
@@ -53,4 +53,4 @@ names_behind limit behind (Some bytes) = if nat_le (length bytes) limit then beh
 abbrev pub names_fetched : {Gathered : Type 0} → Disk → Plan Gathered → List (List ℕ)
 names_fetched disk (done all) = []
 names_fetched disk (refuses line) = []
-names_fetched disk (asks name limit behind) = name ∷ names_behind limit (λ bytes. names_fetched disk (behind bytes)) (disk name)
+names_fetched disk (fetches name limit behind) = name ∷ names_behind limit (λ bytes. names_fetched disk (behind bytes)) (disk name)

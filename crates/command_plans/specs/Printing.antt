@@ -25,10 +25,10 @@ abbrev pub Prints : List ℕ → Status → OutputView → OutputView → Status
 Prints text own old new status = (Appends text old new × (status ≡ own)) ⊎ (Breaks text old new × (status ≡ WriteFault))
 
 -- What ended a command was told, with the status that belongs to it. Where there was no memory nothing is printed.
-abbrev pub Tells : Ending → OutputView → OutputView → Status → Type 0
-Tells (ending.Refused refusal) old new status = Prints (refusal_line refusal) Refused old new status
-Tells (ending.Unreadable name) old new status = Prints (unreadable_line name) ReadFault old new status
-Tells ending.Memory old new status = (new ≡ old) × (status ≡ Memory)
+abbrev pub ReportsEnding : Ending → OutputView → OutputView → Status → Type 0
+ReportsEnding (ending.Refused refusal) old new status = Prints (refusal_line refusal) Refused old new status
+ReportsEnding (ending.Unreadable name) old new status = Prints (unreadable_line name) ReadFault old new status
+ReportsEnding ending.Memory old new status = (new ≡ old) × (status ≡ Memory)
 
 -- An answer was printed, with a status of a command that went to its end; or there was no memory for it, and nothing
 -- was written. `Replies` says of a text and its status that they are the answer.

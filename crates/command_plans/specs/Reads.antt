@@ -4,8 +4,8 @@ use Rattle.command_plans.specs.declared.listing.Listing.{Listing}
 use Rattle.command_plans.specs.declared.list_fault.ListFault.{ListFault}
 use Rattle.command_plans.specs.Listing.{ReadsAs}
 use Rattle.command_plans.specs.inner.Reading.{list_of}
-use Rattle.command_plans.specs.inner.Says.{list_says}
+use Rattle.command_plans.specs.inner.Says.{list_meaning}
 
 -- What a list file says, or its fault. Of it nothing is known but its type; by the law `one_reading` that leaves no choice.
 pub reading_of : (bytes : List ℕ) → (read : Result Listing ListFault) × ReadsAs bytes read
-reading_of bytes = (list_of bytes, list_says bytes)
+reading_of bytes = (list_of bytes, list_meaning bytes)

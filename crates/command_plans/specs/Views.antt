@@ -8,7 +8,7 @@ Disk = List ℕ → Option (List ℕ)
 
 -- the files: what they hold, where they tell it, the attempts on them, and how many bytes were taken
 pub record FilesView : Type 0 where
-  pub told : Option Disk
+  pub known_files : Option Disk
   pub attempts : List Attempt
   pub taken : ℕ
 
@@ -24,7 +24,7 @@ pub record OutputView : Type 0 where
 
 -- the view of files, by the ghost members of `Files`
 abbrev pub files_view : {F : Type 0} → (F → Option Disk) → (F → List Attempt) → (F → ℕ) → F → FilesView
-files_view told attempts taken files = record { told = told files; attempts = attempts files; taken = taken files }
+files_view known_files attempts taken files = record { known_files = known_files files; attempts = attempts files; taken = taken files }
 
 -- the view of an input, by the ghost members of `Source`
 abbrev pub input_view : {S : Type 0} → (S → Option (List ℕ)) → (S → ℕ) → S → InputView

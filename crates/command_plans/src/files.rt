@@ -16,8 +16,8 @@ pub fn fetch<F: Files>(
     name: &Name,
     limit: u64,
 ) -> Result<Seq<u8>, Ending>
-    ensures along { GoesAlong (file_plan name.now limit) (files_view F.told F.attempts F.taken files.old)
-        (files_view F.told F.attempts F.taken files.new) result }
+    ensures along { GoesAlong (file_plan name.now limit) (files_view F.known_files F.attempts F.taken files.old)
+        (files_view F.known_files F.attempts F.taken files.new) result }
     ensures within { IfOk result (λ bytes. length bytes ≤ limit) }
 {
     let name = name.copy(alloc)?;

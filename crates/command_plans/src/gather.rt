@@ -26,8 +26,8 @@ pub fn gather_source<F: Files>(
     files: &mut F,
     names: &SourceNames,
 ) -> Result<Source, Ending>
-    ensures along { GoesAlong (source_plan names.now) (files_view F.told F.attempts F.taken files.old)
-        (files_view F.told F.attempts F.taken files.new) result }
+    ensures along { GoesAlong (source_plan names.now) (files_view F.known_files F.attempts F.taken files.old)
+        (files_view F.known_files F.attempts F.taken files.new) result }
     ensures within { IfOk result SourceKeepsLimits }
 {
     let Listing {
@@ -40,8 +40,8 @@ pub fn gather_source<F: Files>(
 
 // Fetches the list, and reads it.
 fn gather_list<F: Files>(alloc: Global, files: &mut F, name: &Name) -> Result<Listing, Ending>
-    ensures along { GoesAlong (list_plan name.now) (files_view F.told F.attempts F.taken files.old)
-        (files_view F.told F.attempts F.taken files.new) result }
+    ensures along { GoesAlong (list_plan name.now) (files_view F.known_files F.attempts F.taken files.old)
+        (files_view F.known_files F.attempts F.taken files.new) result }
     ensures few { IfOk result (λ listing. length listing.files ≤ LIST_FILES) }
 {
     let bytes = fetch(alloc, files, name, FILE_BYTES)?;
@@ -56,8 +56,8 @@ fn gather_list<F: Files>(alloc: Global, files: &mut F, name: &Name) -> Result<Li
 // Fetches the rule files.
 fn gather_rules<F: Files>(alloc: Global, files: &mut F, names: &[Name]) -> Result<Seq<Text>, Ending>
     requires { length names.now ≤ LIST_FILES }
-    ensures along { GoesAlong (rules_plan RULE_BYTES names.now) (files_view F.told F.attempts F.taken files.old)
-        (files_view F.told F.attempts F.taken files.new) result }
+    ensures along { GoesAlong (rules_plan RULE_BYTES names.now) (files_view F.known_files F.attempts F.taken files.old)
+        (files_view F.known_files F.attempts F.taken files.new) result }
     ensures within { IfOk result TextsAreWithin }
 {
     let mut texts = Vec::new(alloc);
@@ -84,8 +84,8 @@ pub fn gather_optional<F: Files>(
     files: &mut F,
     name: &Name,
 ) -> Result<Option<Seq<u8>>, Ending>
-    ensures along { GoesAlong (optional_plan name.now) (files_view F.told F.attempts F.taken files.old)
-        (files_view F.told F.attempts F.taken files.new) result }
+    ensures along { GoesAlong (optional_plan name.now) (files_view F.known_files F.attempts F.taken files.old)
+        (files_view F.known_files F.attempts F.taken files.new) result }
     ensures within { IfOk result FileIsWithin }
 {
     if is_none(name) {
@@ -103,8 +103,8 @@ fn gather_parts<F: Files>(
     application: Name,
     texts: Seq<Text>,
 ) -> Result<Source, Ending>
-    ensures along { GoesAlong (parts_plan names.now application texts) (files_view F.told F.attempts F.taken files.old)
-        (files_view F.told F.attempts F.taken files.new) result }
+    ensures along { GoesAlong (parts_plan names.now application texts) (files_view F.known_files F.attempts F.taken files.old)
+        (files_view F.known_files F.attempts F.taken files.new) result }
     ensures texts { IfOk result (λ source. source.texts ≡ texts) }
     ensures driver { IfOk result (λ source. FileIsWithin source.driver) }
     ensures requests { IfOk result (λ source. FileIsWithin source.requests) }

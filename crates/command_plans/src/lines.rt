@@ -2,7 +2,7 @@
 //! where there is none.
 ghost use Rattle.std.specs.Prelude.{◌≡◌, MatchResult};
 ghost use Rattle.tax_print.specs.FaultLines.{fault_line};
-ghost use Rattle.command_plans.specs.Printing.{Prints, Tells};
+ghost use Rattle.command_plans.specs.Printing.{Prints, ReportsEnding};
 ghost use Rattle.command_plans.specs.Views.{output_view};
 
 use crate::{Ending, Status};
@@ -27,8 +27,8 @@ pub fn print_fault<K: Sink>(out: &mut K, fault: Fault<'_>, own: Status) -> Statu
 }
 
 /// Prints what ended a command, and answers its status. It takes no memory.
-pub fn tell<K: Sink>(out: &mut K, ending: &Ending) -> Status
-    ensures { Tells ending.now (output_view K.written K.faults out.old) (output_view K.written K.faults out.new) result }
+pub fn report_ending<K: Sink>(out: &mut K, ending: &Ending) -> Status
+    ensures { ReportsEnding ending.now (output_view K.written K.faults out.old) (output_view K.written K.faults out.new) result }
 {
     match ending {
         Ending::Refused(refusal) => print_fault(out, refusal.fault(), Status::Refused),

@@ -6,7 +6,7 @@ ghost use Rattle.command_plans.specs.declared.listing.Listing.{Listing};
 ghost use Rattle.command_plans.specs.Listing.{ReadsAs};
 
 /// Each list says something, or has a fault.
-pub fn list_says()
+pub fn list_meaning()
     ensures { (bytes : List ℕ) → (read : Result Listing ListFault) × ReadsAs bytes read }
 {}
 

@@ -21,7 +21,7 @@ use Rattle.flat_code.specs.inner.Renumber.{AreValid, renamed, moved}
 use Rattle.flat_code.proofs.RunLemmas.{one_of_all}
 use Rattle.flat_code.proofs.ReadLemmas.{entry-at, entry-by, at-push, are-nodes}
 use Rattle.flat_code.proofs.PartLemmas.{reads-node, entry-renamed}
-use Rattle.fold_terms.specs.Drafts.{Draft, Grows, StandsFor}
+use Rattle.fold_terms.specs.Drafts.{Draft, Grows, Denotes}
 use Rattle.dead_rules.specs.inner.Steps.{look, with_nodes, IsCarried}
 
 pub ok-then : {X E : Type 0} (r : Result X E) (P Q : X → Type 0) → ((x : X) → P x → Q x) → IfOk r P → IfOk r Q
@@ -140,7 +140,7 @@ grown xs ys g = ⊎_elim (λ e. let z : length ys.nodes ≡ length xs.nodes = ap
 draft-grows : (inputs : List Value) (xs ys : Draft) → Grows xs ys → (p : ℕ) → p < length xs.nodes → entry_at (values_for inputs) ys.nodes p ≡ entry_at (values_for inputs) xs.nodes p
 draft-grows inputs xs ys g p lt = ⊎_elim (λ e. ap (λ (d : Draft). entry_at (values_for inputs) d.nodes p) e) (λ n. ap (λ (d : Draft). entry_at (values_for inputs) d.nodes p) n.1 ∙ at-push (values_for inputs) xs.nodes n.0 p lt) g
 
-pub carried-step : (count : ℕ) (nodes : List Node) (i : ℕ) (old new : Draft) (numbers : List ℕ) (k : ℕ) → AreValid count nodes → i < length nodes → IsCarried nodes i old.nodes numbers → Grows old new → StandsFor new.nodes (renamed (look numbers) (node_at nodes i)) k → IsCarried nodes (i + 1) new.nodes (numbers ++ k ∷ [])
+pub carried-step : (count : ℕ) (nodes : List Node) (i : ℕ) (old new : Draft) (numbers : List ℕ) (k : ℕ) → AreValid count nodes → i < length nodes → IsCarried nodes i old.nodes numbers → Grows old new → Denotes new.nodes (renamed (look numbers) (node_at nodes i)) k → IsCarried nodes (i + 1) new.nodes (numbers ++ k ∷ [])
 carried-step count nodes i old new numbers k valid lt h grows stands =
     let size : length numbers ≡ i = h.size in
     let few : length old.nodes ≤ i = h.few in

@@ -2,7 +2,7 @@
 use Rattle.std.proofs.Common.{◌≡◌, ℕ, zero, suc, ◌+◌, ◌<◌, ◌≤◌, Bool, true, false, List, length, get_or, set, slice_get, replicate, refl, sym, ap, ◌∙◌, subst, arith, ◌⊎◌, inl, inr, eqb}
 use Rattle.std.proofs.lemmas.List.{length-set, get_or-set_same, get_or-set_other}
 use Rattle.std.proofs.lemmas.Option.{slice_get-get_or}
-use Rattle.std.proofs.lemmas.Bool.Decides.{eqb_tells}
+use Rattle.std.proofs.lemmas.Bool.Decides.{eqb_holds}
 use Rattle.micro_m.specs.declared.base.Base.{Base}
 use Rattle.driver_core.specs.declared.program.Core.{Core}
 use Rattle.driver_core.specs.Actions.{Action, assign, clear, branch, partition, call, solve, Block, no_actions, an_action}
@@ -52,7 +52,7 @@ table-first core base n weights done ew ed = record {
 pub table-next : (core : Core) (base : Base) (weights : List ℕ) (done : List Bool) (count f rules w : ℕ) → f < length weights → rules ≡ capped (base_weight base) → CallsOnly (IsDone done) (body_of core f) → w ≡ capped (block_weight rules base.cells (λ g. get_or weights g 0) (body_of core f)) → IsTable core base weights done count → IsTable core base (set weights f w) (set done f true) (count + 1)
 table-next core base weights done count f rules w low er calls ew t = record {
   size = length-set weights f w ∙ t.size ∙ sym (length-set done f true);
-  weighed = λ g h turns l. by g h turns l (eqb_tells g f);
+  weighed = λ g h turns l. by g h turns l (eqb_holds g f);
 }
   where
     here : (turns : ℕ) → count + 1 ≤ turns → w ≡ capped (weight_in core base turns f)

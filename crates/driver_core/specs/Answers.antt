@@ -9,7 +9,7 @@ use Rattle.m_symbols.specs.declared.variable.Variable.{Variable}
 use Rattle.m_symbols.specs.Declarations.{Declared}
 use Rattle.micro_m.specs.declared.base.Base.{Base}
 use Rattle.micro_m.specs.Values.{environment}
-use Rattle.observables.specs.Answers.{Told, values, stopped}
+use Rattle.observables.specs.Answers.{Observation, values, stopped}
 use Rattle.driver_core.specs.declared.program.Core.{Core}
 use Rattle.driver_core.specs.Meaning.{Env, RunState, goes, stops, run_of}
 
@@ -35,11 +35,11 @@ abbrev pub start_of : Declared → List Value → Env
 start_of declared inputs = start_from inputs 0 declared.variables
 
 -- what is noted, and what is told of the requested cells
-abbrev pub told_by : List ℕ → RunState → Told
-told_by requests (goes notes env) = values notes (map (environment env) requests)
-told_by requests (stops cause) = stopped cause
+abbrev pub observation_by : List ℕ → RunState → Observation
+observation_by requests (goes notes env) = values notes (map (environment env) requests)
+observation_by requests (stops cause) = stopped cause
 
 -- What a driver answers over the rules of a base, for the inputs' values in order of declaration: what ended the run, or what it
 -- noted and the values of the requested cells after it.
-abbrev pub answer_of : Core → Base → Declared → List ℕ → List Value → Told
-answer_of core base declared requests inputs = told_by requests (run_of core base (start_of declared inputs))
+abbrev pub answer_of : Core → Base → Declared → List ℕ → List Value → Observation
+answer_of core base declared requests inputs = observation_by requests (run_of core base (start_of declared inputs))

@@ -9,14 +9,14 @@ use Rattle.observables.specs.declared.inputs.InputType.TheVariants.{Any}
 use Rattle.observables.specs.Inputs.{type_of}
 
 -- the type that a declaration says by its word, if it has one
-abbrev pub type_said : Option (List ℕ) → InputType
-type_said None = Any
-type_said (Some word) = type_of word
+abbrev pub type_declared : Option (List ℕ) → InputType
+type_declared None = Any
+type_declared (Some word) = type_of word
 
 -- a variable as an input, where it is one: its code, and its type
-abbrev pub input_said : Variable → Option Coded
-input_said v = option_map (λ code. record { code = code; kind = type_said v.item.value_word }) (code_of v)
+abbrev pub input_declared : Variable → Option Coded
+input_declared v = option_map (λ code. record { code = code; kind = type_declared v.item.value_word }) (code_of v)
 
 -- The inputs that are declared, in order. `V : saisie alias 0AX : "" type BOOLEEN ;` is the input `0AX` of the type `Truth`.
-abbrev pub inputs_said : Declared → List Coded
-inputs_said declared = filter_map input_said declared.variables
+abbrev pub inputs_declared : Declared → List Coded
+inputs_declared declared = filter_map input_declared declared.variables

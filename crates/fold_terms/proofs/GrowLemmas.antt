@@ -149,9 +149,9 @@ last-number old new node k added absent within is = ⊎_elim
     (push-cases old node k (subst (λ nodes. k < length nodes) added within))
 
 -- what the table adds is its answer
-pub asked-entered : {E : Type 0} (r : Result ℕ E) (old noted new : List Node) (node : Node) → new ≡ noted → IfOk r (IsEntered old noted node) → IfOk r (AddsAnswer old new)
-asked-entered (Ok k) old noted new node kept entered = ⊎_elim
+pub wanted-entered : {E : Type 0} (r : Result ℕ E) (old noted new : List Node) (node : Node) → new ≡ noted → IfOk r (IsEntered old noted node) → IfOk r (AddsAnswer old new)
+wanted-entered (Ok k) old noted new node kept entered = ⊎_elim
     (λ e. inl (kept ∙ e))
     (λ a. inr (last-number old noted node k a.0 a.1 entered.within entered.is))
     entered.adds
-asked-entered (Err e) old noted new node kept entered = tt
+wanted-entered (Err e) old noted new node kept entered = tt

@@ -23,7 +23,7 @@ use Rattle.flat_code.specs.Tidy.{IsNormal, IsOpen, is_literal_of, is_null, is_te
 use Rattle.flat_code.specs.inner.Renumber.{entry_by, AreValid}
 use Rattle.flat_code.proofs.ReadLemmas.{entry-by, entry-at, entry-same}
 use Rattle.flat_code.proofs.FactLemmas.{step-holds, holds-at}
-use Rattle.fold_terms.specs.Drafts.{StandsFor}
+use Rattle.fold_terms.specs.Drafts.{Denotes}
 use Rattle.fold_terms.specs.inner.Built.{Longer, normalised, IsOpposite, choice_of, is_decided}
 use Rattle.fold_terms.proofs.GrowLemmas.{at-grows}
 use Rattle.fold_terms.proofs.ValueLemmas.{null-value, one-value, same-sum, same-sum-left, same-difference, same-product, same-product-left, twice-opposite, truth-of-test, choice-is}
@@ -33,8 +33,8 @@ ok-both (Ok k) P Q R f p q = f k p q
 ok-both (Err e) P Q R f p q = tt
 
 -- a node stands for itself
-pub stands-node : (count : ℕ) (nodes : List Node) (node : Node) (k : ℕ) → AreValid count nodes → k < length nodes → node_at nodes k ≡ node → StandsFor nodes node k
-stands-node count nodes node k valid lt e = record {
+pub denoted-node : (count : ℕ) (nodes : List Node) (node : Node) (k : ℕ) → AreValid count nodes → k < length nodes → node_at nodes k ≡ node → Denotes nodes node k
+denoted-node count nodes node k valid lt e = record {
   within = lt;
   value = λ inputs plain. entry-at (values_for inputs) count nodes k valid lt ∙ ap (entry_by (values_for inputs) (entry_at (values_for inputs) nodes)) e ∙ sym (entry-by (values_for inputs) (node_values inputs nodes) node);
 }
@@ -72,8 +72,8 @@ value-is count nodes inputs k plain valid lt fact = held_is_value (entry_at fact
 
 -- ---- the forms
 
-pub stands-sum : (count : ℕ) (nodes : List Node) (a b c : ℕ) → AreValid count nodes → a < length nodes → b < length nodes → is_literal_of is_null (node_at nodes b) ≡ true → (entry_at facts nodes a).undef ≡ false → IsFact (entry_at facts nodes a) → StandsFor nodes (Do Add a b c) a
-stands-sum count nodes a b c valid la lb null sure fact = record {
+pub denoted-sum : (count : ℕ) (nodes : List Node) (a b c : ℕ) → AreValid count nodes → a < length nodes → b < length nodes → is_literal_of is_null (node_at nodes b) ≡ true → (entry_at facts nodes a).undef ≡ false → IsFact (entry_at facts nodes a) → Denotes nodes (Do Add a b c) a
+denoted-sum count nodes a b c valid la lb null sure fact = record {
   within = la;
   value = λ inputs plain.
       let v = value nodes inputs in
@@ -81,8 +81,8 @@ stands-sum count nodes a b c valid la lb null sure fact = record {
       sym (ap (λ x. op_value Add (v a) x (v c)) (null-at count nodes inputs b valid lb null) ∙ same-sum (v a) (v c) (value-is count nodes inputs a plain valid la fact) (not-undef (entry_at facts nodes a) (v a) h sure));
 }
 
-pub stands-sum-right : (count : ℕ) (nodes : List Node) (a b c : ℕ) → AreValid count nodes → a < length nodes → b < length nodes → is_literal_of is_null (node_at nodes a) ≡ true → (entry_at facts nodes b).undef ≡ false → IsFact (entry_at facts nodes b) → StandsFor nodes (Do Add a b c) b
-stands-sum-right count nodes a b c valid la lb null sure fact = record {
+pub denoted-sum-right : (count : ℕ) (nodes : List Node) (a b c : ℕ) → AreValid count nodes → a < length nodes → b < length nodes → is_literal_of is_null (node_at nodes a) ≡ true → (entry_at facts nodes b).undef ≡ false → IsFact (entry_at facts nodes b) → Denotes nodes (Do Add a b c) b
+denoted-sum-right count nodes a b c valid la lb null sure fact = record {
   within = lb;
   value = λ inputs plain.
       let v = value nodes inputs in
@@ -90,8 +90,8 @@ stands-sum-right count nodes a b c valid la lb null sure fact = record {
       sym (ap (λ x. op_value Add x (v b) (v c)) (null-at count nodes inputs a valid la null) ∙ same-sum-left (v b) (v c) (value-is count nodes inputs b plain valid lb fact) (not-undef (entry_at facts nodes b) (v b) h sure));
 }
 
-pub stands-difference : (count : ℕ) (nodes : List Node) (a b c : ℕ) → AreValid count nodes → a < length nodes → b < length nodes → is_literal_of is_null (node_at nodes b) ≡ true → (entry_at facts nodes a).undef ≡ false → IsFact (entry_at facts nodes a) → StandsFor nodes (Do Sub a b c) a
-stands-difference count nodes a b c valid la lb null sure fact = record {
+pub denoted-difference : (count : ℕ) (nodes : List Node) (a b c : ℕ) → AreValid count nodes → a < length nodes → b < length nodes → is_literal_of is_null (node_at nodes b) ≡ true → (entry_at facts nodes a).undef ≡ false → IsFact (entry_at facts nodes a) → Denotes nodes (Do Sub a b c) a
+denoted-difference count nodes a b c valid la lb null sure fact = record {
   within = la;
   value = λ inputs plain.
       let v = value nodes inputs in
@@ -99,16 +99,16 @@ stands-difference count nodes a b c valid la lb null sure fact = record {
       sym (ap (λ x. op_value Sub (v a) x (v c)) (null-at count nodes inputs b valid lb null) ∙ same-difference (v a) (v c) (value-is count nodes inputs a plain valid la fact) (not-undef (entry_at facts nodes a) (v a) h sure));
 }
 
-pub stands-product : (count : ℕ) (nodes : List Node) (a b c : ℕ) → AreValid count nodes → a < length nodes → b < length nodes → is_literal_of is_one (node_at nodes b) ≡ true → IsFact (entry_at facts nodes a) → StandsFor nodes (Do Mul a b c) a
-stands-product count nodes a b c valid la lb one fact = record {
+pub denoted-product : (count : ℕ) (nodes : List Node) (a b c : ℕ) → AreValid count nodes → a < length nodes → b < length nodes → is_literal_of is_one (node_at nodes b) ≡ true → IsFact (entry_at facts nodes a) → Denotes nodes (Do Mul a b c) a
+denoted-product count nodes a b c valid la lb one fact = record {
   within = la;
   value = λ inputs plain.
       let v = value nodes inputs in
       sym (ap (λ x. op_value Mul (v a) x (v c)) (one-at count nodes inputs b valid lb one) ∙ same-product (v a) (v c) (value-is count nodes inputs a plain valid la fact));
 }
 
-pub stands-product-right : (count : ℕ) (nodes : List Node) (a b c : ℕ) → AreValid count nodes → a < length nodes → b < length nodes → is_literal_of is_one (node_at nodes a) ≡ true → IsFact (entry_at facts nodes b) → StandsFor nodes (Do Mul a b c) b
-stands-product-right count nodes a b c valid la lb one fact = record {
+pub denoted-product-right : (count : ℕ) (nodes : List Node) (a b c : ℕ) → AreValid count nodes → a < length nodes → b < length nodes → is_literal_of is_one (node_at nodes a) ≡ true → IsFact (entry_at facts nodes b) → Denotes nodes (Do Mul a b c) b
+denoted-product-right count nodes a b c valid la lb one fact = record {
   within = lb;
   value = λ inputs plain.
       let v = value nodes inputs in
@@ -119,8 +119,8 @@ stands-product-right count nodes a b c valid la lb one fact = record {
 pub opposite-within : (count a x : ℕ) (node : Node) → IsNode count a node → IsOpposite node x → x < a
 opposite-within count a x node h n = let early : IsNode count a (Do Neg x n.second n.third) = subst (IsNode count a) n.is h in early.0
 
-pub stands-opposite : (count : ℕ) (nodes : List Node) (a b c x : ℕ) → AreValid count nodes → a < length nodes → IsOpposite (node_at nodes a) x → ((k : ℕ) → k < length nodes → IsFact (entry_at facts nodes k)) → StandsFor nodes (Do Neg a b c) x
-stands-opposite count nodes a b c x valid la n all =
+pub denoted-opposite : (count : ℕ) (nodes : List Node) (a b c x : ℕ) → AreValid count nodes → a < length nodes → IsOpposite (node_at nodes a) x → ((k : ℕ) → k < length nodes → IsFact (entry_at facts nodes k)) → Denotes nodes (Do Neg a b c) x
+denoted-opposite count nodes a b c x valid la n all =
     let early = opposite-within count a x (node_at nodes a) (valid a la) n in
     let lx : x < length nodes = omega arith in
     record {
@@ -145,8 +145,8 @@ test-step inputs before (Do op a b c) v d e t is u o = truth-of-test op (before 
 test-step inputs before (Input n) v d e t is u o = absurd (true≢false (sym t))
 test-step inputs before (Lit w) v d e t is u o = absurd (true≢false (sym t))
 
-pub stands-truth : (count : ℕ) (nodes : List Node) (a b c : ℕ) → AreValid count nodes → a < length nodes → is_made_by is_test (node_at nodes a) ≡ true → is_number (entry_at facts nodes a) ≡ true → StandsFor nodes (Do Truth a b c) a
-stands-truth count nodes a b c valid la test sure =
+pub denoted-truth : (count : ℕ) (nodes : List Node) (a b c : ℕ) → AreValid count nodes → a < length nodes → is_made_by is_test (node_at nodes a) ≡ true → is_number (entry_at facts nodes a) ≡ true → Denotes nodes (Do Truth a b c) a
+denoted-truth count nodes a b c valid la test sure =
     let f = entry_at facts nodes a in
     record {
       within = la;
@@ -157,8 +157,8 @@ stands-truth count nodes a b c valid la test sure =
     }
 
 -- a choice whose condition is a literal
-pub stands-literal-choice : (count : ℕ) (nodes : List Node) (a b c : ℕ) (w : Value) → AreValid count nodes → a < length nodes → b < length nodes → c < length nodes → node_at nodes a ≡ Lit w → StandsFor nodes (Do Choose a b c) (choice_of w a b c)
-stands-literal-choice count nodes a b c w valid la lb lc e = record {
+pub denoted-literal-choice : (count : ℕ) (nodes : List Node) (a b c : ℕ) (w : Value) → AreValid count nodes → a < length nodes → b < length nodes → c < length nodes → node_at nodes a ≡ Lit w → Denotes nodes (Do Choose a b c) (choice_of w a b c)
+denoted-literal-choice count nodes a b c w valid la lb lc e = record {
   within = within w;
   value = λ inputs plain.
       let v = value nodes inputs in
@@ -223,8 +223,8 @@ sure-choice f (Num n) x y h s which = ⊎_elim (λ same. go (is_zero n) same) (�
     go true same = sym same
     go false same = refl
 
-pub stands-decided : (count : ℕ) (nodes : List Node) (a b c : ℕ) → AreValid count nodes → a < length nodes → b < length nodes → is_decided (entry_at facts nodes a) (eqb b c) ≡ true → StandsFor nodes (Do Choose a b c) b
-stands-decided count nodes a b c valid la lb decided = record {
+pub denoted-decided : (count : ℕ) (nodes : List Node) (a b c : ℕ) → AreValid count nodes → a < length nodes → b < length nodes → is_decided (entry_at facts nodes a) (eqb b c) ≡ true → Denotes nodes (Do Choose a b c) b
+denoted-decided count nodes a b c valid la lb decided = record {
   within = lb;
   value = λ inputs plain.
       let v = value nodes inputs in
@@ -274,8 +274,8 @@ normal-entry inputs before (Lit v) = refl
 normal-entry inputs before (Do op a b c) = further op before a b c (nat_lt (arity_of op) 2) (nat_lt (arity_of op) 3) (ltb-true (arity_of op) 2) (ltb-true (arity_of op) 3)
 
 -- what stands for the node with other arguments past the arity stands for the node
-pub stands-normal : (nodes : List Node) (node : Node) (k : ℕ) → StandsFor nodes (normalised node) k → StandsFor nodes node k
-stands-normal nodes node k h = record {
+pub denoted-normal : (nodes : List Node) (node : Node) (k : ℕ) → Denotes nodes (normalised node) k → Denotes nodes node k
+denoted-normal nodes node k h = record {
   within = h.within;
   value = λ inputs plain.
       let r = values_for inputs in
@@ -284,8 +284,8 @@ stands-normal nodes node k h = record {
 }
 
 -- a literal stands for a node of which its value alone is possible
-pub stands-literal : (count : ℕ) (old new : List Node) (node : Node) (w : Value) (k : ℕ) → AreValid count old → AreValid count new → Longer old new → IsNode count (length old) node → one_value (entry_of facts (entries_of facts old) node) ≡ Some w → k < length new → node_at new k ≡ Lit w → StandsFor new node k
-stands-literal count old new node w k valid valid' grows h e lt is = record {
+pub denoted-literal : (count : ℕ) (old new : List Node) (node : Node) (w : Value) (k : ℕ) → AreValid count old → AreValid count new → Longer old new → IsNode count (length old) node → one_value (entry_of facts (entries_of facts old) node) ≡ Some w → k < length new → node_at new k ≡ Lit w → Denotes new node k
+denoted-literal count old new node w k valid valid' grows h e lt is = record {
   within = lt;
   value = λ inputs plain.
       let r = values_for inputs in

@@ -20,6 +20,6 @@ abbrev pub AddsAnswer : List Node → List Node → ℕ → Type 0
 AddsAnswer old new k = (new ≡ old) ⊎ (k ≡ length old)
 
 -- Node k is there, and has the value of this node over these nodes, for each list of values that programs are asked for.
-pub record StandsFor (nodes : List Node) (node : Node) (k : ℕ) : Type 0 where
+pub record Denotes (nodes : List Node) (node : Node) (k : ℕ) : Type 0 where
   pub within : k < length nodes
   pub value : (inputs : List Value) → ArePlain inputs → entry_at (values_for inputs) nodes k ≡ entry_of (values_for inputs) (node_values inputs nodes) node

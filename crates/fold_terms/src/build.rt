@@ -4,7 +4,7 @@ ghost use Rattle.std.specs.List.{AllByRecursion};
 ghost use Rattle.definedness.specs.Facts.{IsFact, one_value, fact_of_value};
 ghost use Rattle.flat_code.specs.Runs.{IsNode, IsCheck, IsFlat};
 ghost use Rattle.flat_code.specs.Tidy.{IsFolded};
-ghost use Rattle.fold_terms.specs.Drafts.{Draft, Grows, AddsAnswer, StandsFor};
+ghost use Rattle.fold_terms.specs.Drafts.{Draft, Grows, AddsAnswer, Denotes};
 ghost use Rattle.fold_terms.specs.inner.Built.{IsBuilt, Longer};
 
 use crate::known::KnownFacts;
@@ -43,9 +43,9 @@ impl Parts {
         ensures inputs { self.new.inputs ≡ self.old.inputs }
         ensures built { IsBuilt self.old.inputs self.new.nodes self.new.facts }
         ensures grows { Longer self.old.nodes self.new.nodes }
-        ensures asked { IfOk result (AddsAnswer self.old.nodes self.new.nodes) }
+        ensures wanted { IfOk result (AddsAnswer self.old.nodes self.new.nodes) }
         ensures err { OnErr result (self.new.nodes ≡ self.old.nodes) }
-        ensures stands { IfOk result (StandsFor self.new.nodes node) }
+        ensures denoted { IfOk result (Denotes self.new.nodes node) }
     {
         let node = normalised(node);
         let fact = self.fact_of_node(&node);
@@ -122,9 +122,9 @@ impl Builder {
     pub fn push(&mut self, node: Node) -> Result<u32, AllocError>
         requires node { IsNode self.old.inputs (length self.old.nodes) node }
         requires room { length self.old.nodes < 4_294_967_295 }
-        ensures stands { IfOk result (StandsFor self.new.nodes node) }
+        ensures denoted { IfOk result (Denotes self.new.nodes node) }
         ensures grows { Grows self.old self.new }
-        ensures asked { IfOk result (AddsAnswer self.old.nodes self.new.nodes) }
+        ensures wanted { IfOk result (AddsAnswer self.old.nodes self.new.nodes) }
         ensures err { OnErr result (self.new ≡ self.old) }
         ensures folded { IsFolded self.new.nodes }
     {

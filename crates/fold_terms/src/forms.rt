@@ -2,7 +2,7 @@
 ghost use Rattle.std.specs.Prelude.{◌≡◌, ◌<◌, false, length, IfSome, IfNone};
 ghost use Rattle.flat_code.specs.Runs.{IsNode};
 ghost use Rattle.flat_code.specs.Tidy.{has_form};
-ghost use Rattle.fold_terms.specs.Drafts.{StandsFor};
+ghost use Rattle.fold_terms.specs.Drafts.{Denotes};
 ghost use Rattle.fold_terms.specs.inner.Built.{IsBuilt};
 
 use crate::parts::Parts;
@@ -17,7 +17,7 @@ impl Parts {
     fn simple_sum(&self, a: u32, b: u32, c: u32) -> Option<u32>
         requires built { IsBuilt self.now.inputs self.now.nodes self.now.facts }
         requires node { IsNode self.now.inputs (length self.now.nodes) (Node.Do Op.Add a b c) }
-        ensures some { IfSome result (StandsFor self.now.nodes (Node.Do Op.Add a b c)) }
+        ensures some { IfSome result (Denotes self.now.nodes (Node.Do Op.Add a b c)) }
         ensures none { IfNone result (has_form self.now.nodes (Node.Do Op.Add a b c) ≡ false) }
     {
         if is_zero_literal(self.node_at(b)) && !self.fact_at(a).undef {
@@ -33,7 +33,7 @@ impl Parts {
     fn simple_difference(&self, a: u32, b: u32, c: u32) -> Option<u32>
         requires built { IsBuilt self.now.inputs self.now.nodes self.now.facts }
         requires node { IsNode self.now.inputs (length self.now.nodes) (Node.Do Op.Sub a b c) }
-        ensures some { IfSome result (StandsFor self.now.nodes (Node.Do Op.Sub a b c)) }
+        ensures some { IfSome result (Denotes self.now.nodes (Node.Do Op.Sub a b c)) }
         ensures none { IfNone result (has_form self.now.nodes (Node.Do Op.Sub a b c) ≡ false) }
     {
         if is_zero_literal(self.node_at(b)) && !self.fact_at(a).undef {
@@ -46,7 +46,7 @@ impl Parts {
     fn simple_product(&self, a: u32, b: u32, c: u32) -> Option<u32>
         requires built { IsBuilt self.now.inputs self.now.nodes self.now.facts }
         requires node { IsNode self.now.inputs (length self.now.nodes) (Node.Do Op.Mul a b c) }
-        ensures some { IfSome result (StandsFor self.now.nodes (Node.Do Op.Mul a b c)) }
+        ensures some { IfSome result (Denotes self.now.nodes (Node.Do Op.Mul a b c)) }
         ensures none { IfNone result (has_form self.now.nodes (Node.Do Op.Mul a b c) ≡ false) }
     {
         if is_unit_literal(self.node_at(b)) {
@@ -62,7 +62,7 @@ impl Parts {
     fn simple_opposite(&self, a: u32, b: u32, c: u32) -> Option<u32>
         requires built { IsBuilt self.now.inputs self.now.nodes self.now.facts }
         requires node { IsNode self.now.inputs (length self.now.nodes) (Node.Do Op.Neg a b c) }
-        ensures some { IfSome result (StandsFor self.now.nodes (Node.Do Op.Neg a b c)) }
+        ensures some { IfSome result (Denotes self.now.nodes (Node.Do Op.Neg a b c)) }
         ensures none { IfNone result (has_form self.now.nodes (Node.Do Op.Neg a b c) ≡ false) }
     {
         opposite_of(self.node_at(a))
@@ -72,7 +72,7 @@ impl Parts {
     fn simple_truth(&self, a: u32, b: u32, c: u32) -> Option<u32>
         requires built { IsBuilt self.now.inputs self.now.nodes self.now.facts }
         requires node { IsNode self.now.inputs (length self.now.nodes) (Node.Do Op.Truth a b c) }
-        ensures some { IfSome result (StandsFor self.now.nodes (Node.Do Op.Truth a b c)) }
+        ensures some { IfSome result (Denotes self.now.nodes (Node.Do Op.Truth a b c)) }
         ensures none { IfNone result (has_form self.now.nodes (Node.Do Op.Truth a b c) ≡ false) }
     {
         if is_test_node(self.node_at(a)) && self.fact_at(a).is_number() {
@@ -85,7 +85,7 @@ impl Parts {
     fn simple_choice(&self, a: u32, b: u32, c: u32) -> Option<u32>
         requires built { IsBuilt self.now.inputs self.now.nodes self.now.facts }
         requires node { IsNode self.now.inputs (length self.now.nodes) (Node.Do Op.Choose a b c) }
-        ensures some { IfSome result (StandsFor self.now.nodes (Node.Do Op.Choose a b c)) }
+        ensures some { IfSome result (Denotes self.now.nodes (Node.Do Op.Choose a b c)) }
         ensures none { IfNone result (has_form self.now.nodes (Node.Do Op.Choose a b c) ≡ false) }
     {
         if let Some(value) = literal(self.node_at(a)) {
@@ -101,7 +101,7 @@ impl Parts {
     fn simple_operator(&self, op: Op, a: u32, b: u32, c: u32) -> Option<u32>
         requires built { IsBuilt self.now.inputs self.now.nodes self.now.facts }
         requires node { IsNode self.now.inputs (length self.now.nodes) (Node.Do op a b c) }
-        ensures some { IfSome result (StandsFor self.now.nodes (Node.Do op a b c)) }
+        ensures some { IfSome result (Denotes self.now.nodes (Node.Do op a b c)) }
         ensures none { IfNone result (has_form self.now.nodes (Node.Do op a b c) ≡ false) }
     {
         match op {
@@ -119,7 +119,7 @@ impl Parts {
     pub fn simple(&self, node: &Node) -> Option<u32>
         requires built { IsBuilt self.now.inputs self.now.nodes self.now.facts }
         requires node { IsNode self.now.inputs (length self.now.nodes) node.now }
-        ensures some { IfSome result (StandsFor self.now.nodes node.now) }
+        ensures some { IfSome result (Denotes self.now.nodes node.now) }
         ensures none { IfNone result (has_form self.now.nodes node.now ≡ false) }
     {
         match *node {

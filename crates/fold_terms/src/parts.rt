@@ -103,7 +103,7 @@ impl Parts {
         ensures inputs { self.new.inputs ≡ self.old.inputs }
         ensures built { IsBuilt self.old.inputs self.new.nodes self.new.facts }
         ensures grows { Longer self.old.nodes self.new.nodes }
-        ensures asked { IfOk result (AddsAnswer self.old.nodes self.new.nodes) }
+        ensures wanted { IfOk result (AddsAnswer self.old.nodes self.new.nodes) }
         ensures err { OnErr result (self.new.nodes ≡ self.old.nodes) }
         ensures within { IfOk result (λ k. k < length self.new.nodes) }
         ensures node { IfOk result (λ k. node_at self.new.nodes k ≡ node) }

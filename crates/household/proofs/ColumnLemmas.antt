@@ -17,7 +17,7 @@ use Rattle.household.specs.declared.fault.HouseholdFault.TheVariants.{NotOfType}
 use Rattle.household.specs.declared.table.Row.{Row}
 use Rattle.household.specs.InTurn.{in_turn, if_read}
 use Rattle.household.specs.Household.{AreDifferent, AreInputs, AreOfTypes, inputs_of, is_fitting, is_input_among, line_behind}
-use Rattle.household.specs.Table.{amount_said, are_fitting, cells_read, column_of, fitting_pairs, is_label, labelled, new_column, pairs_read, table_row}
+use Rattle.household.specs.Table.{parsed_amount, are_fitting, cells_read, column_of, fitting_pairs, is_label, labelled, new_column, pairs_read, table_row}
 use Rattle.household.proofs.InputLemmas.{AllByRecursion-push, AreDifferent-push, code_known, if_ok, inputs_of-push, other_than_error, read_before, turns_keep}
 
 -- numbers below n, none of which stands twice
@@ -57,9 +57,9 @@ columns_known inputs fields columns h =
     record { known = AllByRecursion-push (λ i. i < length inputs) before input q.known k.0; once = AreDifferent-push before input k.1 q.once })
     [] fields columns (record { known = tt; once = tt }) h
 
-said_input : (line input : ℕ) (r : Result ℤ AmountFault) (pair : ℕ × ℤ) → amount_said line input r ≡ Ok pair → pair.0 ≡ input
-said_input line input (Err why) pair h = cc h
-said_input line input (Ok z) pair h = cc h
+stated_input : (line input : ℕ) (r : Result ℤ AmountFault) (pair : ℕ × ℤ) → parsed_amount line input r ≡ Ok pair → pair.0 ≡ input
+stated_input line input (Err why) pair h = cc h
+stated_input line input (Ok z) pair h = cc h
 
 -- the pairs of a row's cells
 cells_known : {n : ℕ} (line : ℕ) (before : List (ℕ × ℤ)) (columns : List ℕ) (cells : List (List ℕ)) (pairs : List (ℕ × ℤ)) → AreColumns n (inputs_of before ++ columns) → cells_read line before columns cells ≡ Ok pairs
@@ -70,24 +70,24 @@ cells_known {n} line before (input ∷ columns) (cell ∷ cells) pairs q h =
     by (eqb (length cell) 0) h (cells_known line before columns cells pairs (AreColumns-without (inputs_of before) columns input q))
     (λ pair e. cells_known line (before ++ pair ∷ []) columns cells pairs
     (subst (λ (xs : List ℕ). AreColumns n (xs ++ columns)) (sym (inputs_of-push before pair))
-    (rw append_assoc (subst (λ (i : ℕ). AreColumns n (inputs_of before ++ i ∷ columns)) (sym (said_input line input (amount_read (text_value cell)) pair e)) q))))
+    (rw append_assoc (subst (λ (i : ℕ). AreColumns n (inputs_of before ++ i ∷ columns)) (sym (stated_input line input (amount_read (text_value cell)) pair e)) q))))
   where
-    by : (b : Bool) → cond b (cells_read line before columns cells) (if_read (λ pair. cells_read line (before ++ pair ∷ []) columns cells) (amount_said line input (amount_read (text_value cell)))) ≡ Ok pairs
+    by : (b : Bool) → cond b (cells_read line before columns cells) (if_read (λ pair. cells_read line (before ++ pair ∷ []) columns cells) (parsed_amount line input (amount_read (text_value cell)))) ≡ Ok pairs
         → (cells_read line before columns cells ≡ Ok pairs → AreColumns n (inputs_of pairs))
-        → ((pair : ℕ × ℤ) → amount_said line input (amount_read (text_value cell)) ≡ Ok pair → cells_read line (before ++ pair ∷ []) columns cells ≡ Ok pairs → AreColumns n (inputs_of pairs))
+        → ((pair : ℕ × ℤ) → parsed_amount line input (amount_read (text_value cell)) ≡ Ok pair → cells_read line (before ++ pair ∷ []) columns cells ≡ Ok pairs → AreColumns n (inputs_of pairs))
         → AreColumns n (inputs_of pairs)
     by true g empty filled = empty g
     by false g empty filled =
-        let r = read_before (λ pair. cells_read line (before ++ pair ∷ []) columns cells) (amount_said line input (amount_read (text_value cell))) pairs g in
+        let r = read_before (λ pair. cells_read line (before ++ pair ∷ []) columns cells) (parsed_amount line input (amount_read (text_value cell))) pairs g in
         filled r.0 r.1 r.2
 
 -- the pairs of a row's cells are of their inputs' types
-said_amount : (line input : ℕ) (said : Option ℤ) (pair : ℕ × ℤ) → amount_said line input (amount_read said) ≡ Ok pair → IsAmount pair.1
-said_amount line input said pair h = by (amount_read said) refl h
+stated_amount : (line input : ℕ) (stated : Option ℤ) (pair : ℕ × ℤ) → parsed_amount line input (amount_read stated) ≡ Ok pair → IsAmount pair.1
+stated_amount line input stated pair h = by (amount_read stated) refl h
   where
-    by : (r : Result ℤ AmountFault) → amount_read said ≡ r → amount_said line input r ≡ Ok pair → IsAmount pair.1
+    by : (r : Result ℤ AmountFault) → amount_read stated ≡ r → parsed_amount line input r ≡ Ok pair → IsAmount pair.1
     by (Err why) e g = cc g
-    by (Ok z) e g = let same : z ≡ pair.1 = cc in subst IsAmount same (read_amount said z e)
+    by (Ok z) e g = let same : z ≡ pair.1 = cc in subst IsAmount same (read_amount stated z e)
 
 abbrev AreAmounts : List (ℕ × ℤ) → Type 0
 AreAmounts pairs = AllByRecursion (λ pair. IsAmount pair.1) pairs
@@ -97,15 +97,15 @@ cells_amounts line before [] cells pairs q h = let same : before ≡ pairs = cc 
 cells_amounts line before (input ∷ columns) [] pairs q h = let same : before ≡ pairs = cc in subst AreAmounts same q
 cells_amounts line before (input ∷ columns) (cell ∷ cells) pairs q h =
     by (eqb (length cell) 0) h (cells_amounts line before columns cells pairs q)
-    (λ pair e. cells_amounts line (before ++ pair ∷ []) columns cells pairs (AllByRecursion-push (λ (p : ℕ × ℤ). IsAmount p.1) before pair q (said_amount line input (text_value cell) pair e)))
+    (λ pair e. cells_amounts line (before ++ pair ∷ []) columns cells pairs (AllByRecursion-push (λ (p : ℕ × ℤ). IsAmount p.1) before pair q (stated_amount line input (text_value cell) pair e)))
   where
-    by : (b : Bool) → cond b (cells_read line before columns cells) (if_read (λ pair. cells_read line (before ++ pair ∷ []) columns cells) (amount_said line input (amount_read (text_value cell)))) ≡ Ok pairs
+    by : (b : Bool) → cond b (cells_read line before columns cells) (if_read (λ pair. cells_read line (before ++ pair ∷ []) columns cells) (parsed_amount line input (amount_read (text_value cell)))) ≡ Ok pairs
         → (cells_read line before columns cells ≡ Ok pairs → AreAmounts pairs)
-        → ((pair : ℕ × ℤ) → amount_said line input (amount_read (text_value cell)) ≡ Ok pair → cells_read line (before ++ pair ∷ []) columns cells ≡ Ok pairs → AreAmounts pairs)
+        → ((pair : ℕ × ℤ) → parsed_amount line input (amount_read (text_value cell)) ≡ Ok pair → cells_read line (before ++ pair ∷ []) columns cells ≡ Ok pairs → AreAmounts pairs)
         → AreAmounts pairs
     by true g empty filled = empty g
     by false g empty filled =
-        let r = read_before (λ pair. cells_read line (before ++ pair ∷ []) columns cells) (amount_said line input (amount_read (text_value cell))) pairs g in
+        let r = read_before (λ pair. cells_read line (before ++ pair ∷ []) columns cells) (parsed_amount line input (amount_read (text_value cell))) pairs g in
         filled r.0 r.1 r.2
 
 all_of_types : (inputs : List Coded) (pairs : List (ℕ × ℤ)) → AreAmounts pairs → are_fitting inputs pairs ≡ true → AreOfTypes inputs pairs

@@ -14,7 +14,7 @@ use Rattle.observables.specs.Inputs.{codes_of}
 use Rattle.observables.proofs.InputLemmas.{read_amount}
 use Rattle.household.specs.declared.fault.HouseholdFault.TheVariants.{NotOfType}
 use Rattle.household.specs.InTurn.{in_turn, if_read}
-use Rattle.household.specs.Household.{AreDifferent, AreInputs, AreOfTypes, fitting_pair, inputs_of, is_fitting, is_input_among, line_behind, new_pair, pair_of, pair_said, row_of}
+use Rattle.household.specs.Household.{AreDifferent, AreInputs, AreOfTypes, fitting_pair, inputs_of, is_fitting, is_input_among, line_behind, new_pair, pair_of, parsed_pair, row_of}
 
 pub AllByRecursion-push : {X : Type 0} (P : X → Type 0) (xs : List X) (x : X) → AllByRecursion P xs → P x → AllByRecursion P (xs ++ x ∷ [])
 AllByRecursion-push P [] x h p = (p, tt)
@@ -55,24 +55,24 @@ pub code_known : (inputs : List Coded) (code : List ℕ) (number : ℕ) → inde
 code_known inputs code number h = subst (λ n. number < n) (length-map inputs (λ (input : Coded). input.code)) (index_of-some code (codes_of inputs) number h).1
 
 -- the input of a pair is known, and it has an amount
-said_known : (n line : ℕ) (o : Option ℕ) (r : Result ℤ AmountFault) (pair : ℕ × ℤ) → pair_said line o r ≡ Ok pair → ((i : ℕ) → o ≡ Some i → i < n) → pair.0 < n
-said_known n line None r pair h k = cc h
-said_known n line (Some i) (Err why) pair h k = cc h
-said_known n line (Some i) (Ok z) pair h k = let same : i ≡ pair.0 = cc in subst (λ (j : ℕ). j < n) same (k i refl)
+stated_known : (n line : ℕ) (o : Option ℕ) (r : Result ℤ AmountFault) (pair : ℕ × ℤ) → parsed_pair line o r ≡ Ok pair → ((i : ℕ) → o ≡ Some i → i < n) → pair.0 < n
+stated_known n line None r pair h k = cc h
+stated_known n line (Some i) (Err why) pair h k = cc h
+stated_known n line (Some i) (Ok z) pair h k = let same : i ≡ pair.0 = cc in subst (λ (j : ℕ). j < n) same (k i refl)
 
-said_amount : (line : ℕ) (o : Option ℕ) (said : Option ℤ) (pair : ℕ × ℤ) → pair_said line o (amount_read said) ≡ Ok pair → IsAmount pair.1
-said_amount line o said pair h = by o (amount_read said) refl h
+stated_amount : (line : ℕ) (o : Option ℕ) (stated : Option ℤ) (pair : ℕ × ℤ) → parsed_pair line o (amount_read stated) ≡ Ok pair → IsAmount pair.1
+stated_amount line o stated pair h = by o (amount_read stated) refl h
   where
-    by : (p : Option ℕ) (r : Result ℤ AmountFault) → amount_read said ≡ r → pair_said line p r ≡ Ok pair → IsAmount pair.1
+    by : (p : Option ℕ) (r : Result ℤ AmountFault) → amount_read stated ≡ r → parsed_pair line p r ≡ Ok pair → IsAmount pair.1
     by None r e g = cc g
     by (Some input) (Err why) e g = cc g
-    by (Some input) (Ok z) e g = let same : z ≡ pair.1 = cc in subst IsAmount same (read_amount said z e)
+    by (Some input) (Ok z) e g = let same : z ≡ pair.1 = cc in subst IsAmount same (read_amount stated z e)
 
 -- what two fields that are read say: a pair, and its amount is of its input's type
 pub two_parts : (inputs : List Coded) (line : ℕ) (code amount : List ℕ) (pair : ℕ × ℤ) → pair_of inputs line (code ∷ amount ∷ []) ≡ Ok pair
-    → (pair_said line (index_of code (codes_of inputs)) (amount_read (text_value amount)) ≡ Ok pair) × (is_fitting inputs pair ≡ true)
+    → (parsed_pair line (index_of code (codes_of inputs)) (amount_read (text_value amount)) ≡ Ok pair) × (is_fitting inputs pair ≡ true)
 two_parts inputs line code amount pair h =
-    let r = read_before (fitting_pair inputs line) (pair_said line (index_of code (codes_of inputs)) (amount_read (text_value amount))) pair h in
+    let r = read_before (fitting_pair inputs line) (parsed_pair line (index_of code (codes_of inputs)) (amount_read (text_value amount))) pair h in
     let f = if_ok (is_fitting inputs r.0) (Ok r.0) (NotOfType line) pair r.2 in
     let same : r.0 ≡ pair = cc f.1 in
     (r.1 ∙ ap Ok same, subst (λ (p : ℕ × ℤ). is_fitting inputs p ≡ true) same f.0)
@@ -81,7 +81,7 @@ pair_known : (inputs : List Coded) (line : ℕ) (fields : List (List ℕ)) (pair
 pair_known inputs line [] pair h = cc h
 pair_known inputs line (code ∷ []) pair h = cc h
 pair_known inputs line (code ∷ amount ∷ []) pair h =
-    said_known (length inputs) line (index_of code (codes_of inputs)) (amount_read (text_value amount)) pair (two_parts inputs line code amount pair h).0 (code_known inputs code)
+    stated_known (length inputs) line (index_of code (codes_of inputs)) (amount_read (text_value amount)) pair (two_parts inputs line code amount pair h).0 (code_known inputs code)
 pair_known inputs line (code ∷ amount ∷ more ∷ rest) pair h = cc h
 
 pair_of_type : (inputs : List Coded) (line : ℕ) (fields : List (List ℕ)) (pair : ℕ × ℤ) → pair_of inputs line fields ≡ Ok pair → IsAmount pair.1 × (is_fitting inputs pair ≡ true)
@@ -89,7 +89,7 @@ pair_of_type inputs line [] pair h = cc h
 pair_of_type inputs line (code ∷ []) pair h = cc h
 pair_of_type inputs line (code ∷ amount ∷ []) pair h =
     let parts = two_parts inputs line code amount pair h in
-    (said_amount line (index_of code (codes_of inputs)) (text_value amount) pair parts.0, parts.1)
+    (stated_amount line (index_of code (codes_of inputs)) (text_value amount) pair parts.0, parts.1)
 pair_of_type inputs line (code ∷ amount ∷ more ∷ rest) pair h = cc h
 
 -- what a row that is read says

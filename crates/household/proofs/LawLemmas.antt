@@ -14,7 +14,7 @@ use Rattle.household.specs.declared.fault.HouseholdFault.{HouseholdFault}
 use Rattle.household.specs.declared.fault.HouseholdFault.TheVariants.{BadHeader, NotOfType}
 use Rattle.household.specs.InTurn.{in_turn, if_read, IsFirstFault}
 use Rattle.household.specs.Records.{records_of}
-use Rattle.household.specs.Household.{AreDifferent, IsHousehold, IsRow, fitting_pair, household_of, household_read, inputs_of, is_fitting, is_input_among, is_header, line_behind, new_pair, pair_of, pair_said, row_of}
+use Rattle.household.specs.Household.{AreDifferent, IsHousehold, IsRow, fitting_pair, household_of, household_read, inputs_of, is_fitting, is_input_among, is_header, line_behind, new_pair, pair_of, parsed_pair, row_of}
 use Rattle.household.specs.Table.{column_of, is_table_header, rows_read, table_of, table_read, table_row}
 use Rattle.household.specs.Refusals.{LacksHeader, IsRefusedHousehold, IsRefusedTable, no_header, at_row, no_table_header, at_column, at_table_row}
 use Rattle.household.proofs.InputLemmas.{household_inputs, if_ok, read_before, row_parts, turns_keep, two_parts}
@@ -63,23 +63,23 @@ turns_stop {A} {B} {F} read before (thing ∷ things) fault h =
     })
 
 -- a row by itself
-said_parts : (line : ℕ) (o : Option ℕ) (r : Result ℤ AmountFault) (pair : ℕ × ℤ) → pair_said line o r ≡ Ok pair → (o ≡ Some pair.0) × (r ≡ Ok pair.1)
-said_parts line None r pair h = cc h
-said_parts line (Some i) (Err why) pair h = cc h
-said_parts line (Some i) (Ok z) pair h = let same : (i, z) ≡ pair = cc h in (ap (λ (p : ℕ × ℤ). Some p.0) same, ap (λ (p : ℕ × ℤ). Ok p.1) same)
+stated_parts : (line : ℕ) (o : Option ℕ) (r : Result ℤ AmountFault) (pair : ℕ × ℤ) → parsed_pair line o r ≡ Ok pair → (o ≡ Some pair.0) × (r ≡ Ok pair.1)
+stated_parts line None r pair h = cc h
+stated_parts line (Some i) (Err why) pair h = cc h
+stated_parts line (Some i) (Ok z) pair h = let same : (i, z) ≡ pair = cc h in (ap (λ (p : ℕ × ℤ). Some p.0) same, ap (λ (p : ℕ × ℤ). Ok p.1) same)
 
 pair_row : (inputs : List Coded) (line : ℕ) (fields : List (List ℕ)) (pair : ℕ × ℤ) → pair_of inputs line fields ≡ Ok pair → IsRow inputs fields pair
 pair_row inputs line [] pair h = cc h
 pair_row inputs line (code ∷ []) pair h = cc h
 pair_row inputs line (code ∷ amount ∷ []) pair h =
     let both = two_parts inputs line code amount pair h in
-    let parts = said_parts line (index_of code (codes_of inputs)) (amount_read (text_value amount)) pair both.0 in
+    let parts = stated_parts line (index_of code (codes_of inputs)) (amount_read (text_value amount)) pair both.0 in
     record { code = code; amount = amount; two = refl; known = parts.0; spelled = parts.1; fits = both.1 }
 pair_row inputs line (code ∷ amount ∷ more ∷ rest) pair h = cc h
 
 row_pair : (inputs : List Coded) (line : ℕ) (fields : List (List ℕ)) (pair : ℕ × ℤ) → IsRow inputs fields pair → pair_of inputs line fields ≡ Ok pair
 row_pair inputs line fields pair is =
-    ap (pair_of inputs line) is.two ∙ (λ i. if_read (fitting_pair inputs line) (pair_said line (is.known i) (is.spelled i)))
+    ap (pair_of inputs line) is.two ∙ (λ i. if_read (fitting_pair inputs line) (parsed_pair line (is.known i) (is.spelled i)))
     ∙ cond-true (is_fitting inputs pair) (Ok pair) (Err (NotOfType line)) is.fits
 
 -- a choice between what is read and a fault

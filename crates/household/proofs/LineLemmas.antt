@@ -55,9 +55,9 @@ quote_somewhere (c ∷ rest) zero l e = ap (λ b. b || list_any (λ byte. byte =
 quote_somewhere (c ∷ rest) (suc k) l e = or_right (c == 34) (list_any (λ byte. byte == 34) rest) (quote_somewhere rest k (omega (arith, l)) e)
 
 -- whether one was found
-pub quote_said : (bytes : List ℕ) (place : Option ℕ) → IsFirstByte (is_byte 34) bytes place → is_some place ≡ list_any (λ byte. byte == 34) bytes
-quote_said bytes None none = sym (quote_nowhere bytes (λ k l e. none k (omega arith) l e))
-quote_said bytes (Some k) found = sym (quote_somewhere bytes k found.0.high found.1)
+pub parsed_quote : (bytes : List ℕ) (place : Option ℕ) → IsFirstByte (is_byte 34) bytes place → is_some place ≡ list_any (λ byte. byte == 34) bytes
+parsed_quote bytes None none = sym (quote_nowhere bytes (λ k l e. none k (omega arith) l e))
+parsed_quote bytes (Some k) found = sym (quote_somewhere bytes k found.0.high found.1)
 
 pub no_quote_drop : (n : ℕ) (bytes : List ℕ) → HasNoQuote bytes → HasNoQuote (drop n bytes)
 no_quote_drop zero bytes q = q
@@ -205,17 +205,17 @@ record_over n (c ∷ rest) q l =
 -- ---- records in parts
 
 -- a state in which no quotation mark is open: in a line that was begun, or where a record begins
-abbrev Stands : State → List (List ℕ) → List ℕ → Type 0
-Stands s fields field = InLine s ⊎ ((s ≡ st.StartRecord) × (fields ≡ []) × (field ≡ []))
+abbrev IsWithinCount : State → List (List ℕ) → List ℕ → Type 0
+IsWithinCount s fields field = InLine s ⊎ ((s ≡ st.StartRecord) × (fields ≡ []) × (field ≡ []))
 
-stands_step : (s : State) (fields : List (List ℕ)) (field : List ℕ) (c : ℕ) → Stands s fields field → ends_with term.CRLF c ≡ false → (c == 34) ≡ false → step default_config s c ≡ in_field default_config c
+stands_step : (s : State) (fields : List (List ℕ)) (field : List ℕ) (c : ℕ) → IsWithinCount s fields field → ends_with term.CRLF c ≡ false → (c == 34) ≡ false → step default_config s c ≡ in_field default_config c
 stands_step s fields field c (inl line) e q = line.steps c q
 stands_step s fields field c (inr start) e q =
     subst (λ (z : State). step default_config z c ≡ in_field default_config c) (sym start.0)
     (cond-false (ends_with term.CRLF c) (st.StartRecord, act.Skip) (start_field default_config c) e ∙ at_field.steps c q)
 
 -- at the end of a line
-stands_end : (s : State) (fields : List (List ℕ)) (field : List ℕ) (c : ℕ) (rest back : List ℕ) → Stands s fields field → ends_with term.CRLF c ≡ true
+stands_end : (s : State) (fields : List (List ℕ)) (field : List ℕ) (c : ℕ) (rest back : List ℕ) → IsWithinCount s fields field → ends_with term.CRLF c ≡ true
     → (records_from_state st.StartRecord [] [] (rest ++ back) ≡ records_from_state st.StartRecord [] [] rest ++ records_from_state st.StartRecord [] [] back)
     → records_from_state s fields field (c ∷ rest ++ back) ≡ records_from_state s fields field (c ∷ rest) ++ records_from_state st.StartRecord [] [] back
 stands_end s fields field c rest back (inl line) e more =
@@ -228,7 +228,7 @@ stands_end s fields field c rest back (inr start) e more =
     ∙ (λ i. records_from_state (sym start.0 i) (sym start.1 i) (sym start.2 i) (c ∷ rest) ++ records_from_state st.StartRecord [] [] back)
 
 -- where the first part ends
-stands_last : (s : State) (fields : List (List ℕ)) (field back : List ℕ) → Stands s fields field → IsLineEnd back
+stands_last : (s : State) (fields : List (List ℕ)) (field back : List ℕ) → IsWithinCount s fields field → IsLineEnd back
     → records_from_state s fields field back ≡ records_from_state s fields field [] ++ records_from_state st.StartRecord [] [] back
 stands_last s fields field [] (inl line) l = last_ends s fields field line.ends ∙ ap (λ rs. rs ++ []) (sym (last_ends s fields field line.ends))
 stands_last s fields field (c ∷ rest) (inl line) l =
@@ -237,7 +237,7 @@ stands_last s fields field back (inr start) l =
     (λ i. records_from_state (start.0 i) (start.1 i) (start.2 i) back)
     ∙ (λ i. records_from_state (sym start.0 i) (sym start.1 i) (sym start.2 i) [] ++ records_from_state st.StartRecord [] [] back)
 
-parts_join : (s : State) (fields : List (List ℕ)) (field front back : List ℕ) → Stands s fields field → HasNoQuote front → IsLineEnd back
+parts_join : (s : State) (fields : List (List ℕ)) (field front back : List ℕ) → IsWithinCount s fields field → HasNoQuote front → IsLineEnd back
     → records_from_state s fields field (front ++ back) ≡ records_from_state s fields field front ++ records_from_state st.StartRecord [] [] back
 parts_join s fields field [] back here q l = stands_last s fields field back here l
 parts_join s fields field (c ∷ rest) back here q l =

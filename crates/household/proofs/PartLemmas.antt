@@ -21,7 +21,7 @@ use Rattle.household.specs.Table.{labelled, row_behind, table_row}
 use Rattle.household.specs.inner.Parts.{AreCutsFrom, SaysPart, table_row_behind}
 use Rattle.household.specs.inner.Cuts.{IsCutAfter}
 use Rattle.workers.specs.Parts.{IsPart, all_items, behind, joined}
-use Rattle.workers.proofs.PartLemmas.{of_parts, said_of_parts}
+use Rattle.workers.proofs.PartLemmas.{of_parts, stated_of_parts}
 use Rattle.household.proofs.LawLemmas.{no_room}
 
 abbrev pub Record : Type 0
@@ -44,24 +44,24 @@ front_fails {A} {B} {F} read (suc size) before (x ∷ xs) fault e = by (read bef
     by (Err other) more h = h
 
 -- the first things say these, and the others go on after them
-front_says : {A B F : Type 0} (read : List B → A → Result B F) (size : ℕ) (before said : List B) (things : List A) → in_turn read before (take size things) ≡ Ok said
-    → in_turn read before things ≡ in_turn read said (drop size things)
-front_says read zero before said things e = (let same : before ≡ said = cc in ap (λ b. in_turn read b things) same)
-front_says read (suc size) before said [] e = e
-front_says {A} {B} {F} read (suc size) before said (x ∷ xs) e = by (read before x) (λ value h. front_says read size (before ++ value ∷ []) said xs h) e
+front_meaning : {A B F : Type 0} (read : List B → A → Result B F) (size : ℕ) (before stated : List B) (things : List A) → in_turn read before (take size things) ≡ Ok stated
+    → in_turn read before things ≡ in_turn read stated (drop size things)
+front_meaning read zero before stated things e = (let same : before ≡ stated = cc in ap (λ b. in_turn read b things) same)
+front_meaning read (suc size) before stated [] e = e
+front_meaning {A} {B} {F} read (suc size) before stated (x ∷ xs) e = by (read before x) (λ value h. front_meaning read size (before ++ value ∷ []) stated xs h) e
   where
-    by : (r : Result B F) → ((value : B) → in_turn read (before ++ value ∷ []) (take size xs) ≡ Ok said → in_turn read (before ++ value ∷ []) xs ≡ in_turn read said (drop size xs))
-        → if_read (λ value. in_turn read (before ++ value ∷ []) (take size xs)) r ≡ Ok said → if_read (λ value. in_turn read (before ++ value ∷ []) xs) r ≡ in_turn read said (drop size xs)
+    by : (r : Result B F) → ((value : B) → in_turn read (before ++ value ∷ []) (take size xs) ≡ Ok stated → in_turn read (before ++ value ∷ []) xs ≡ in_turn read stated (drop size xs))
+        → if_read (λ value. in_turn read (before ++ value ∷ []) (take size xs)) r ≡ Ok stated → if_read (λ value. in_turn read (before ++ value ∷ []) xs) r ≡ in_turn read stated (drop size xs)
     by (Ok value) more h = more value h
     by (Err other) more h = absurd (cc)
 
 -- as many things say as many values
-as_many : {A B F : Type 0} (read : List B → A → Result B F) (before said : List B) (things : List A) → in_turn read before things ≡ Ok said → length said ≡ length before + length things
-as_many read before said [] e = (let same : before ≡ said = cc in let long = ap length same in omega (arith, long))
-as_many {A} {B} {F} read before said (x ∷ xs) e = by (read before x) (λ value h. as_many read (before ++ value ∷ []) said xs h) e
+as_many : {A B F : Type 0} (read : List B → A → Result B F) (before stated : List B) (things : List A) → in_turn read before things ≡ Ok stated → length stated ≡ length before + length things
+as_many read before stated [] e = (let same : before ≡ stated = cc in let long = ap length same in omega (arith, long))
+as_many {A} {B} {F} read before stated (x ∷ xs) e = by (read before x) (λ value h. as_many read (before ++ value ∷ []) stated xs h) e
   where
-    by : (r : Result B F) → ((value : B) → in_turn read (before ++ value ∷ []) xs ≡ Ok said → length said ≡ length (before ++ value ∷ []) + length xs)
-        → if_read (λ value. in_turn read (before ++ value ∷ []) xs) r ≡ Ok said → length said ≡ length before + length (x ∷ xs)
+    by : (r : Result B F) → ((value : B) → in_turn read (before ++ value ∷ []) xs ≡ Ok stated → length stated ≡ length (before ++ value ∷ []) + length xs)
+        → if_read (λ value. in_turn read (before ++ value ∷ []) xs) r ≡ Ok stated → length stated ≡ length before + length (x ∷ xs)
     by (Ok value) more h = let many = more value h in let long = length-append before (value ∷ []) in omega (arith, many, long)
     by (Err other) more h = absurd (cc)
 
@@ -115,7 +115,7 @@ part_and_behind : (inputs : List Coded) (columns : List ℕ) (number size : ℕ)
     → in_turn (table_row_behind inputs columns number) [] (take size records) ≡ Ok rows
     → in_turn (table_row_behind inputs columns number) [] records ≡ behind rows (in_turn (table_row_behind inputs columns (number + size)) [] (drop size records))
 part_and_behind inputs columns number size rows records e =
-    front_says (table_row_behind inputs columns number) size [] rows records e
+    front_meaning (table_row_behind inputs columns number) size [] rows records e
     ∙ by (leb size (length records)) refl
   where
     by : (b : Bool) → leb size (length records) ≡ b → in_turn (table_row_behind inputs columns number) rows (drop size records)
@@ -158,17 +158,17 @@ goes inputs columns records many at cuts part rest gave is = λ far.
     by (Err fault) whole h = λ n. whole ∙ ap (behind part.items) (h n)
 
 -- what the workers give, joined, is what the records say
-pub rows_said : (inputs : List Coded) (columns : List ℕ) (records : List Record) (many : ℕ) (cuts : List ℕ) (parts : List Given)
+pub parsed_rows : (inputs : List Coded) (columns : List ℕ) (records : List Record) (many : ℕ) (cuts : List ℕ) (parts : List Given)
     → ((n : ℕ) (d : Given) → n < length parts → SaysPart inputs columns (drop (n * many * BETWEEN) records) (n * many * BETWEEN) (many * BETWEEN) (get_or parts n d))
     → ((n : ℕ) → n < length parts → n * many < length cuts) → length cuts ≤ length parts * many → length records ≤ length cuts * BETWEEN
     → Outcome Memory (joined parts) (λ rows. in_turn (table_row inputs columns) [] records ≡ Ok rows) (λ fault. in_turn (table_row inputs columns) [] records ≡ Err fault)
-rows_said inputs columns records many cuts parts each inside reach far =
+parsed_rows inputs columns records many cuts parts each inside reach far =
     let gives : ℕ → List ℕ → Given → Type 0 = λ at part given. SaysPart inputs columns (drop (at * BETWEEN) records) (at * BETWEEN) (many * BETWEEN) given in
-    let said = said_of_parts gives many (SaysLeft inputs columns records)
+    let stated = stated_of_parts gives many (SaysLeft inputs columns records)
     (λ at far. ap (in_turn (table_row_behind inputs columns (at * BETWEEN)) []) (drop_all (at * BETWEEN) records (omega (arith, far))))
     (λ at cuts fault some gave. λ far n. front_fails (table_row_behind inputs columns (at * BETWEEN)) (many * BETWEEN) [] (drop (at * BETWEEN) records) fault (gave n))
     (λ at cuts part rest some gave is. goes inputs columns records many at cuts part rest gave is) 0 cuts parts (of_parts gives many cuts parts each inside reach) (omega (arith, far)) in
-    subst (λ told. Outcome Memory (joined parts) (λ rows. told ≡ Ok rows) (λ fault. told ≡ Err fault)) (from_first inputs columns [] records) said
+    subst (λ reported. Outcome Memory (joined parts) (λ rows. reported ≡ Ok rows) (λ fault. reported ≡ Err fault)) (from_first inputs columns [] records) stated
 
 -- cuts in a part of them
 pub cuts_in_part : (bytes : List ℕ) (records : List Record) (cuts : List ℕ) (size at : ℕ) (part : List ℕ) → ((n d : ℕ) → n < length cuts → IsCutAfter bytes records (n * BETWEEN) (get_or cuts n d))
@@ -181,10 +181,10 @@ cuts_in_part bytes records cuts size at part each is = λ n d h.
     subst (IsCutAfter bytes records ((at + n) * BETWEEN)) (sym same) (each (at + n) d (let within = is.within in omega (arith, within, h)))
 
 -- an error that this fault is
-pub told : {T E : Type 0} (memory : E) (good : T → Type 0) (bad : E → Type 0) (result : Result T E) (fault : E) → IsErrAnd result (λ x. x ≡ fault) → (fault ≢ memory → bad fault)
+pub reported : {T E : Type 0} (memory : E) (good : T → Type 0) (bad : E → Type 0) (result : Result T E) (fault : E) → IsErrAnd result (λ x. x ≡ fault) → (fault ≢ memory → bad fault)
     → Outcome memory result good bad
-told memory good bad (Ok value) fault h k = absurd h
-told memory good bad (Err other) fault h k = λ n. subst bad (sym h) (k (λ e. n (h ∙ e)))
+reported memory good bad (Ok value) fault h k = absurd h
+reported memory good bad (Err other) fault h k = λ n. subst bad (sym h) (k (λ e. n (h ∙ e)))
 
 -- ---- a worker's rows
 
@@ -225,9 +225,9 @@ too_many inputs columns more (suc n) rows left rest fields e some far =
     (cond-true (leb ROWS (more + length rows)) (Err TooManyRows) (labelled inputs (line_behind (more + length rows)) columns fields) (le-leb ROWS (more + length rows) far))
 
 -- what the record that is next says, where it is not one too many
-here_says : (inputs : List Coded) (columns : List ℕ) (more line : ℕ) (rows : List Row) (fields : Record) → more + length rows < ROWS → line ≡ line_behind (more + length rows)
+here_meaning : (inputs : List Coded) (columns : List ℕ) (more line : ℕ) (rows : List Row) (fields : Record) → more + length rows < ROWS → line ≡ line_behind (more + length rows)
     → table_row_behind inputs columns more rows fields ≡ labelled inputs line columns fields
-here_says inputs columns more line rows fields few l =
+here_meaning inputs columns more line rows fields few l =
     cond-false (leb ROWS (more + length rows)) (Err TooManyRows) (labelled inputs (line_behind (more + length rows)) columns fields) (no_room ROWS (more + length rows) few)
     ∙ ap (λ k. labelled inputs k columns fields) (sym l)
 
@@ -237,19 +237,19 @@ pub row_fails : (inputs : List Coded) (columns : List ℕ) (more line n : ℕ) (
 row_fails inputs columns more line zero rows left rest fields fault e some few l h = absurd (omega (arith, some))
 row_fails inputs columns more line (suc n) rows left rest fields fault e some few l h =
     ap (λ (ls : List Record). in_turn (table_row_behind inputs columns more) rows (take (suc n) ls)) e
-    ∙ ap (if_read (λ value. in_turn (table_row_behind inputs columns more) (rows ++ value ∷ []) (take n rest))) (here_says inputs columns more line rows fields few l ∙ h)
+    ∙ ap (if_read (λ value. in_turn (table_row_behind inputs columns more) (rows ++ value ∷ []) (take n rest))) (here_meaning inputs columns more line rows fields few l ∙ h)
 
-pub row_says : (inputs : List Coded) (columns : List ℕ) (more line n next : ℕ) (rows new : List Row) (left rest : List Record) (fields : Record) (row : Row)
+pub row_meaning : (inputs : List Coded) (columns : List ℕ) (more line n next : ℕ) (rows new : List Row) (left rest : List Record) (fields : Record) (row : Row)
     → left ≡ fields ∷ rest → n ≡ suc next → more + length rows < ROWS → line ≡ line_behind (more + length rows) → labelled inputs line columns fields ≡ Ok row → new ≡ rows ++ row ∷ []
     → in_turn (table_row_behind inputs columns more) rows (take n left) ≡ in_turn (table_row_behind inputs columns more) new (take next rest)
-row_says inputs columns more line n next rows new left rest fields row e m few l h w =
+row_meaning inputs columns more line n next rows new left rest fields row e m few l h w =
     ap (λ k. in_turn (table_row_behind inputs columns more) rows (take k left)) m
     ∙ ap (λ (ls : List Record). in_turn (table_row_behind inputs columns more) rows (take (suc next) ls)) e
-    ∙ ap (if_read (λ value. in_turn (table_row_behind inputs columns more) (rows ++ value ∷ []) (take next rest))) (here_says inputs columns more line rows fields few l ∙ h)
+    ∙ ap (if_read (λ value. in_turn (table_row_behind inputs columns more) (rows ++ value ∷ []) (take next rest))) (here_meaning inputs columns more line rows fields few l ∙ h)
     ∙ ap (λ b. in_turn (table_row_behind inputs columns more) b (take next rest)) (sym w)
 
 -- what is said of the rows of a list is said of the list
-pub by_rows : (told : Result (List Row) HouseholdFault) (given : Given) → Outcome Memory (all_items given) (λ rows. told ≡ Ok rows) (λ fault. told ≡ Err fault)
-    → Outcome Memory given (λ rows. told ≡ Ok rows.items) (λ fault. told ≡ Err fault)
-by_rows told (Ok rows) h = h
-by_rows told (Err fault) h = h
+pub by_rows : (reported : Result (List Row) HouseholdFault) (given : Given) → Outcome Memory (all_items given) (λ rows. reported ≡ Ok rows) (λ fault. reported ≡ Err fault)
+    → Outcome Memory given (λ rows. reported ≡ Ok rows.items) (λ fault. reported ≡ Err fault)
+by_rows reported (Ok rows) h = h
+by_rows reported (Err fault) h = h

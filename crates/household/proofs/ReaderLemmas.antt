@@ -22,8 +22,8 @@ use Rattle.household.proofs.LeftLemmas.{behind, next_and_behind}
 abbrev pub Memory : Type 0
 Memory = Reader (Bor (List ℕ))
 
-abbrev pub told : Bor (List ℕ) → Option (List ℕ)
-told bytes = Some bytes.now
+abbrev pub reported : Bor (List ℕ) → Option (List ℕ)
+reported bytes = Some bytes.now
 
 -- ---- what the bytes of a reader are
 
@@ -32,15 +32,15 @@ either true xs ys = (xs, refl)
 either false xs ys = (ys, refl)
 
 -- a reader that hasn't failed knows its bytes
-source_known : (reader : Memory) → has_failed reader ≡ false → (xs : List ℕ) × (source_of told reader ≡ Some xs)
+source_known : (reader : Memory) → has_failed reader ≡ false → (xs : List ℕ) × (source_of reported reader ≡ Some xs)
 source_known reader going =
     let known = either (not reader.bom_checked && (reader.at == 0) && (reader.filled == 0)) (strip_bom reader.rdr.now) (drop reader.at (take reader.filled reader.buffer) ++ reader.rdr.now) in
-    (known.0, cond-false (has_failed reader) None (unread_of told reader) going ∙ known.1)
+    (known.0, cond-false (has_failed reader) None (unread_of reported reader) going ∙ known.1)
 
 -- after the first read no byte order mark is looked for
-source_after : (reader : Memory) → reader.bom_checked ≡ true → source_of told reader ≡ pending_of (told reader.rdr) reader
+source_after : (reader : Memory) → reader.bom_checked ≡ true → source_of reported reader ≡ pending_of (reported reader.rdr) reader
 source_after reader checked =
-    ap (λ b. cond (has_failed reader) None (cond (not b && (reader.at == 0) && (reader.filled == 0)) (option_map strip_bom (told reader.rdr)) (buffered_of (told reader.rdr) reader))) checked
+    ap (λ b. cond (has_failed reader) None (cond (not b && (reader.at == 0) && (reader.filled == 0)) (option_map strip_bom (reported reader.rdr)) (buffered_of (reported reader.rdr) reader))) checked
 
 -- ---- what a read leaves
 
@@ -61,13 +61,13 @@ read_none s s2 xs (Some ys) fields h = next_and_behind s [] [] xs ∙ by (next_r
     by (Some p) is = absurd (cc is.0)
 
 -- what was read of a reader, from known bytes
-known_read : (old new : Memory) (found : Bool) (fields : List (List ℕ)) (xs : List ℕ) → IsPlain old → source_of told old ≡ Some xs → ReadRecord told old new found fields
-    → ReadsNext default_config old.state (Some xs) (pending_of (told new.rdr) new) found fields new.state
+known_read : (old new : Memory) (found : Bool) (fields : List (List ℕ)) (xs : List ℕ) → IsPlain old → source_of reported old ≡ Some xs → ReadRecord reported old new found fields
+    → ReadsNext default_config old.state (Some xs) (pending_of (reported new.rdr) new) found fields new.state
 known_read old new found fields xs plain known read =
-    subst (λ (o : Option (List ℕ)). ReadsNext default_config old.state o (pending_of (told new.rdr) new) found fields new.state) known
-    (subst (λ (c : Config). ReadsNext c old.state (source_of told old) (pending_of (told new.rdr) new) found fields new.state) plain.config read.0)
+    subst (λ (o : Option (List ℕ)). ReadsNext default_config old.state o (pending_of (reported new.rdr) new) found fields new.state) known
+    (subst (λ (c : Config). ReadsNext c old.state (source_of reported old) (pending_of (reported new.rdr) new) found fields new.state) plain.config read.0)
 
-pub next_is_read : (old new : Records) (found : Bool) (fields : List (List ℕ)) → IsPlain old.reader → has_failed old.reader ≡ false → ReadRecord told old.reader new.reader found fields → IsNext old found fields new
+pub next_is_read : (old new : Records) (found : Bool) (fields : List (List ℕ)) → IsPlain old.reader → has_failed old.reader ≡ false → ReadRecord reported old.reader new.reader found fields → IsNext old found fields new
 next_is_read old new true fields plain going read =
     let known = source_known old.reader going in
     ap (left_from old.reader.state) known.1
@@ -81,15 +81,15 @@ next_is_read old new false fields plain going read =
 -- a reader that has failed gives no record
 pub failed_is : (old new : Records) (found : Bool) (fields : List (List ℕ)) → has_failed old.reader ≡ true → found ≡ false → IsNext old found fields new
 failed_is old new true fields failed none = absurd (cc none)
-failed_is old new false fields failed none = ap (left_from old.reader.state) (cond-true (has_failed old.reader) None (unread_of told old.reader) failed)
+failed_is old new false fields failed none = ap (left_from old.reader.state) (cond-true (has_failed old.reader) None (unread_of reported old.reader) failed)
 
 -- ---- how a reader goes on
 
-pub plain_after : (old new : Memory) (found : Bool) (fields : List (List ℕ)) → IsPlain old → ReadRecord told old new found fields → took_first new ≡ true → is_flexible new ≡ is_flexible old → IsPlain new
+pub plain_after : (old new : Memory) (found : Bool) (fields : List (List ℕ)) → IsPlain old → ReadRecord reported old new found fields → took_first new ≡ true → is_flexible new ≡ is_flexible old → IsPlain new
 plain_after old new found fields plain read took flexible = record { config = read.2 ∙ plain.config; trim = read.3 ∙ plain.trim; flexible = flexible ∙ plain.flexible; ready = inl took }
 
 -- each error of a plain reader stops it
-pub stops : (old new : Memory) (why : ErrorKind) → IsPlain old → ExplainsRead told old new false why → stops_reader why ≡ true
+pub stops : (old new : Memory) (why : ErrorKind) → IsPlain old → ExplainsRead reported old new false why → stops_reader why ≡ true
 stops old new (kind.Io e) plain h = refl
 stops old new kind.OutOfMemory plain h = refl
 stops old new (kind.UnequalLengths pos expected len) plain h = absurd (cc (sym plain.flexible ∙ h.0))
@@ -101,9 +101,9 @@ stops old new (kind.Deserialize pos err) plain h = absurd h
 
 -- how a reader goes on after a read of it
 pub on_after : (old new : Memory) (fields : List (List ℕ)) (read : Result Bool Error) → ReadsOn old → (has_failed old ≡ true → read ≡ Ok false)
-    → OnOk read (has_failed new ≡ has_failed old) → IfErr read (λ e. has_failed new ≡ stops_reader (error_kind e)) → IfErr read (λ e. Ready old → ExplainsRead told old new false (error_kind e))
+    → OnOk read (has_failed new ≡ has_failed old) → IfErr read (λ e. has_failed new ≡ stops_reader (error_kind e)) → IfErr read (λ e. Ready old → ExplainsRead reported old new false (error_kind e))
     → (reader_trim old ≡ trim.None → OnOk read (took_first new ≡ true)) → OnOk read (is_flexible new ≡ is_flexible old)
-    → IfOk read (λ found. reader_trim old ≡ trim.None → Ready old → ReadRecord told old new found fields) → ReadsOn new
+    → IfOk read (λ found. reader_trim old ≡ trim.None → Ready old → ReadRecord reported old new found fields) → ReadsOn new
 on_after old new fields (Ok found) (inl failed) stopped goes fails why took flexible reads = inl (goes ∙ failed)
 on_after old new fields (Ok found) (inr plain) stopped goes fails why took flexible reads = inr (plain_after old new found fields plain (reads plain.trim plain.ready) (took plain.trim) flexible)
 on_after old new fields (Err e) (inl failed) stopped goes fails why took flexible reads = absurd (cc (stopped failed))
@@ -113,14 +113,14 @@ found_none : (read : Result Bool Error) (found : Bool) → read ≡ Ok false →
 found_none read found none e = let same : Ok false ≡ Ok found = sym none ∙ e in cc
 
 -- what a read that didn't fail gave
-pub next_said : (old new : Records) (fields : List (List ℕ)) (read : Result Bool Error) (found : Bool) → ReadsOn old.reader → (has_failed old.reader ≡ true → read ≡ Ok false)
-    → IfOk read (λ found. reader_trim old.reader ≡ trim.None → Ready old.reader → ReadRecord told old.reader new.reader found fields) → read ≡ Ok found → IsNext old found fields new
-next_said old new fields read found (inl failed) stopped reads e = failed_is old new found fields failed (found_none read found (stopped failed) e)
-next_said old new fields read found (inr plain) stopped reads e = elim (cases_Bool (has_failed old.reader)) [
+pub next_stated : (old new : Records) (fields : List (List ℕ)) (read : Result Bool Error) (found : Bool) → ReadsOn old.reader → (has_failed old.reader ≡ true → read ≡ Ok false)
+    → IfOk read (λ found. reader_trim old.reader ≡ trim.None → Ready old.reader → ReadRecord reported old.reader new.reader found fields) → read ≡ Ok found → IsNext old found fields new
+next_stated old new fields read found (inl failed) stopped reads e = failed_is old new found fields failed (found_none read found (stopped failed) e)
+next_stated old new fields read found (inr plain) stopped reads e = elim (cases_Bool (has_failed old.reader)) [
   | inl failed ↦ failed_is old new found fields failed (found_none read found (stopped failed) e)
   | inr going ↦
       next_is_read old new found fields plain going
-      (subst (λ (r : Result Bool Error). IfOk r (λ found. reader_trim old.reader ≡ trim.None → Ready old.reader → ReadRecord told old.reader new.reader found fields)) e reads plain.trim plain.ready)
+      (subst (λ (r : Result Bool Error). IfOk r (λ found. reader_trim old.reader ≡ trim.None → Ready old.reader → ReadRecord reported old.reader new.reader found fields)) e reads plain.trim plain.ready)
 ]
 
 next_prop : (old new : Records) (found : Bool) (fields : List (List ℕ)) → IsProp (IsNext old found fields new)
@@ -128,8 +128,8 @@ next_prop old new true fields = hlevel props
 next_prop old new false fields = hlevel props
 
 -- the same of a reader of which it is only known that it reads on
-pub next_told : (old new : Records) (fields : List (List ℕ)) (read : Result Bool Error) (result : Result Bool AllocError) → (has_failed old.reader ≡ true → read ≡ Ok false)
-    → IfOk read (λ found. reader_trim old.reader ≡ trim.None → Ready old.reader → ReadRecord told old.reader new.reader found fields)
+pub next_reported : (old new : Records) (fields : List (List ℕ)) (read : Result Bool Error) (result : Result Bool AllocError) → (has_failed old.reader ≡ true → read ≡ Ok false)
+    → IfOk read (λ found. reader_trim old.reader ≡ trim.None → Ready old.reader → ReadRecord reported old.reader new.reader found fields)
     → MatchResult result (λ found. read ≡ Ok found) (λ _. IsErr read) → IfOk result (λ found. IsNext old found fields new)
-next_told old new fields read (Ok found) stopped reads e = ∥∥₁_elim old.plain (next_prop old new found fields) (λ on. next_said old new fields read found on stopped reads e)
-next_told old new fields read (Err full) stopped reads e = tt
+next_reported old new fields read (Ok found) stopped reads e = ∥∥₁_elim old.plain (next_prop old new found fields) (λ on. next_stated old new fields read found on stopped reads e)
+next_reported old new fields read (Err full) stopped reads e = tt

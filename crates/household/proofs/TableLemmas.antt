@@ -16,7 +16,7 @@ use Rattle.household.specs.declared.table.Row.{Row}
 use Rattle.household.specs.InTurn.{if_read, in_turn}
 use Rattle.household.specs.Records.{records_of}
 use Rattle.household.specs.Household.{AreDifferent, is_input_among, line_behind}
-use Rattle.household.specs.Table.{amount_said, are_fitting, cells_read, column_of, fitting_pairs, is_label, is_table_header, labelled, new_column, pairs_read, rows_read, table_of, table_read, table_row}
+use Rattle.household.specs.Table.{parsed_amount, are_fitting, cells_read, column_of, fitting_pairs, is_label, is_table_header, labelled, new_column, pairs_read, rows_read, table_of, table_read, table_row}
 use Rattle.household.specs.TableRows.{AreCells, IsTable, IsTableRow}
 use Rattle.household.proofs.ColumnLemmas.{columns_known}
 use Rattle.household.proofs.InputLemmas.{if_ok, other_than_error, read_before}
@@ -27,12 +27,12 @@ use Rattle.household.proofs.LawLemmas.{fewer, turns_each, turns_few, turns_whole
 pub not_empty : (byte : ℕ) (bytes : List ℕ) → eqb (length (byte ∷ bytes)) 0 ≡ false
 not_empty byte bytes = ne_eqb (length (byte ∷ bytes)) 0 (λ e. absurd (omega (arith, e)))
 
-amount_parts : (line input : ℕ) (r : Result ℤ AmountFault) (pair : ℕ × ℤ) → amount_said line input r ≡ Ok pair → (pair.0 ≡ input) × (r ≡ Ok pair.1)
+amount_parts : (line input : ℕ) (r : Result ℤ AmountFault) (pair : ℕ × ℤ) → parsed_amount line input r ≡ Ok pair → (pair.0 ≡ input) × (r ≡ Ok pair.1)
 amount_parts line input (Err why) pair h = absurd (cc h)
 amount_parts line input (Ok z) pair h = let same : (input, z) ≡ pair = cc h in (sym (ap (λ (p : ℕ × ℤ). p.0) same), ap (λ (p : ℕ × ℤ). Ok p.1) same)
 
 read_filled : (line : ℕ) (before : List (ℕ × ℤ)) (columns : List ℕ) (cells : List (List ℕ)) (input byte : ℕ) (bytes : List ℕ)
-    → cells_read line before (input ∷ columns) ((byte ∷ bytes) ∷ cells) ≡ if_read (λ pair. cells_read line (before ++ pair ∷ []) columns cells) (amount_said line input (amount_read (text_value (byte ∷ bytes))))
+    → cells_read line before (input ∷ columns) ((byte ∷ bytes) ∷ cells) ≡ if_read (λ pair. cells_read line (before ++ pair ∷ []) columns cells) (parsed_amount line input (amount_read (text_value (byte ∷ bytes))))
 read_filled line before columns cells input byte bytes = cond-false (eqb (length (byte ∷ bytes)) 0) (cells_read line before columns cells) _ (not_empty byte bytes)
 
 cells_sound : (line : ℕ) (before : List (ℕ × ℤ)) (columns : List ℕ) (cells : List (List ℕ)) (pairs : List (ℕ × ℤ)) → length cells ≡ length columns → cells_read line before columns cells ≡ Ok pairs
@@ -44,7 +44,7 @@ cells_sound line before (input ∷ columns) ([] ∷ cells) pairs n h =
     let more = cells_sound line before columns cells pairs (omega (arith, n)) h in
     (more.0, more.1, more.2)
 cells_sound line before (input ∷ columns) ((byte ∷ bytes) ∷ cells) pairs n h =
-    let r = read_before (λ pair. cells_read line (before ++ pair ∷ []) columns cells) (amount_said line input (amount_read (text_value (byte ∷ bytes)))) pairs (sym (read_filled line before columns cells input byte bytes) ∙ h) in
+    let r = read_before (λ pair. cells_read line (before ++ pair ∷ []) columns cells) (parsed_amount line input (amount_read (text_value (byte ∷ bytes)))) pairs (sym (read_filled line before columns cells input byte bytes) ∙ h) in
     let parts = amount_parts line input (amount_read (text_value (byte ∷ bytes))) r.0 r.1 in
     let more = cells_sound line (before ++ r.0 ∷ []) columns cells pairs (omega (arith, n)) r.2 in
     (r.0 ∷ more.0, more.1 ∙ append_assoc before (r.0 ∷ []) more.0, (parts.0, parts.1, more.2))
@@ -59,7 +59,7 @@ cells_whole line before (input ∷ columns) ([] ∷ cells) more are = let rest =
 cells_whole line before (input ∷ columns) ((byte ∷ bytes) ∷ cells) [] are = absurd are
 cells_whole line before (input ∷ columns) ((byte ∷ bytes) ∷ cells) (pair ∷ more) are =
     let rest = cells_whole line (before ++ pair ∷ []) columns cells more are.2 in
-    let this : amount_said line input (amount_read (text_value (byte ∷ bytes))) ≡ Ok pair = ap (amount_said line input) are.1 ∙ ap (λ i. Ok (i, pair.1)) (sym are.0) in (
+    let this : parsed_amount line input (amount_read (text_value (byte ∷ bytes))) ≡ Ok pair = ap (parsed_amount line input) are.1 ∙ ap (λ i. Ok (i, pair.1)) (sym are.0) in (
       omega (arith, rest.0),
       read_filled line before columns cells input byte bytes ∙ ap (if_read (λ p. cells_read line (before ++ p ∷ []) columns cells)) this ∙ rest.1 ∙ ap Ok (append_assoc before (pair ∷ []) more),
     )
@@ -87,9 +87,9 @@ row_sound inputs line columns (label ∷ cells) row h =
     let a = if_ok (eqb (length cells) (length columns) && is_label label) _ (BadRow line) row h in
     let both = and_parts (eqb (length cells) (length columns)) (is_label label) a.0 in
     let r = read_before (row_made label) (pairs_read inputs line columns cells) row a.1 in
-    let said = pairs_sound inputs line columns cells r.0 (eqb-true (length cells) (length columns) both.0) r.1 in
+    let stated = pairs_sound inputs line columns cells r.0 (eqb-true (length cells) (length columns) both.0) r.1 in
     let same : made label r.0 ≡ row = cc r.2 in
-    subst (IsTableRow inputs columns (label ∷ cells)) same (record { cells = cells; split = refl; label = both.1; says = said.0; fits = said.1 })
+    subst (IsTableRow inputs columns (label ∷ cells)) same (record { cells = cells; split = refl; label = both.1; says = stated.0; fits = stated.1 })
 
 row_whole : (inputs : List Coded) (line : ℕ) (columns : List ℕ) (fields : List (List ℕ)) (row : Row) → IsTableRow inputs columns fields row → labelled inputs line columns fields ≡ Ok row
 row_whole inputs line columns fields row is =

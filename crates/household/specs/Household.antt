@@ -31,10 +31,10 @@ abbrev pub line_behind : ℕ → ℕ
 line_behind rows = rows + 2
 
 -- what a known or unknown code and what is read of an amount say, in the record with this number
-abbrev pub pair_said : ℕ → Option ℕ → Result ℤ AmountFault → Result (ℕ × ℤ) HouseholdFault
-pair_said line None amount = Err (UnknownCode line)
-pair_said line (Some input) (Err why) = Err (BadAmount line)
-pair_said line (Some input) (Ok millionths) = Ok (input, millionths)
+abbrev pub parsed_pair : ℕ → Option ℕ → Result ℤ AmountFault → Result (ℕ × ℤ) HouseholdFault
+parsed_pair line None amount = Err (UnknownCode line)
+parsed_pair line (Some input) (Err why) = Err (BadAmount line)
+parsed_pair line (Some input) (Ok millionths) = Ok (input, millionths)
 
 -- the type of the input with this number; a number that no input has takes each amount
 abbrev pub input_type : List Coded → ℕ → InputType
@@ -55,7 +55,7 @@ fitting_pair inputs line pair = if is_fitting inputs pair then Ok pair else Err 
 -- inputs by their numbers: where `1AJ` has the number 0 and takes each amount, the fields `1AJ` and `2500.5` say the pair
 -- of 0 and 2500500000.
 abbrev pub pair_of : List Coded → ℕ → List (List ℕ) → Result (ℕ × ℤ) HouseholdFault
-pair_of inputs line (code ∷ amount ∷ []) = if_read (fitting_pair inputs line) (pair_said line (index_of code (codes_of inputs)) (amount_read (text_value amount)))
+pair_of inputs line (code ∷ amount ∷ []) = if_read (fitting_pair inputs line) (parsed_pair line (index_of code (codes_of inputs)) (amount_read (text_value amount)))
 pair_of inputs line _ = Err (BadRow line)
 
 -- a pair whose input may not stand in the pairs before it

@@ -29,9 +29,9 @@ abbrev pub is_label : List ℕ → Bool
 is_label text = nat_lt 0 (length text) && list_all (nat_le 32) text
 
 -- the pair of an input and what is read of an amount, in the record with this number
-abbrev pub amount_said : ℕ → ℕ → Result ℤ AmountFault → Result (ℕ × ℤ) HouseholdFault
-amount_said line input (Err why) = Err (BadAmount line)
-amount_said line input (Ok millionths) = Ok (input, millionths)
+abbrev pub parsed_amount : ℕ → ℕ → Result ℤ AmountFault → Result (ℕ × ℤ) HouseholdFault
+parsed_amount line input (Err why) = Err (BadAmount line)
+parsed_amount line input (Ok millionths) = Ok (input, millionths)
 
 -- What cells say below columns of these inputs, after cells that gave these pairs: a pair for each that
 -- isn't empty, or the bad amount of the record with this number. Below the inputs 2 and 0 the cells
@@ -41,7 +41,7 @@ cells_read line before [] cells = Ok before
 cells_read line before (input ∷ columns) [] = Ok before
 cells_read line before (input ∷ columns) (cell ∷ cells) =
     if length cell == 0 then cells_read line before columns cells
-    else if_read (λ pair. cells_read line (before ++ pair ∷ []) columns cells) (amount_said line input (amount_read (text_value cell)))
+    else if_read (λ pair. cells_read line (before ++ pair ∷ []) columns cells) (parsed_amount line input (amount_read (text_value cell)))
 
 -- whether the amount of each pair is of its input's type
 abbrev pub are_fitting : List Coded → List (ℕ × ℤ) → Bool

@@ -6,7 +6,7 @@ ghost use Rattle.m_places.specs.Refusals.{Says};
 ghost use Rattle.household.specs.InTurn.{in_turn};
 ghost use Rattle.household.specs.Household.{AreInputs, AreOfTypes};
 ghost use Rattle.m_fixed.specs.Text.{text_value, amount_read};
-ghost use Rattle.household.specs.Table.{amount_said, cells_read, column_of, is_label, is_table_header, labelled, pairs_read, table_of};
+ghost use Rattle.household.specs.Table.{parsed_amount, cells_read, column_of, is_label, is_table_header, labelled, pairs_read, table_of};
 ghost use Rattle.household.specs.declared.fault.HouseholdFault.TheVariants.{Memory};
 
 use crate::marks::mark;
@@ -156,7 +156,7 @@ fn read_cells(
 /// The pair of a cell that isn't empty, below a column of this input, in the record with this number: its only fault is a bad
 /// amount. Whether the amount is of the input's type `Codes::fits` says. Takes no memory.
 pub fn read_cell(cell: &[u8], input: u32, line: u32) -> Result<Pair, HouseholdFault>
-    ensures { result ≡ amount_said line input (amount_read (text_value cell.now)) }
+    ensures { result ≡ parsed_amount line input (amount_read (text_value cell.now)) }
 {
     match read_amount(cell) {
         Ok(amount) => Ok(Pair::new(input, amount)),

@@ -94,21 +94,21 @@ pub replies-last : (sitting : Sitting) (bytes : List ℕ) → IsUnended bytes �
 replies-last sitting bytes free some = ap (replies_to sitting) (input_lines-last bytes free some) ∙ append-nil (reply_of sitting bytes)
 
 -- what is too long asks for nothing that can be done
-too_long_asks : (bytes : List ℕ) → SESSION_LINE_BYTES < length bytes → session_command bytes ≡ too_long
-too_long_asks bytes long = rw (lt-leb (length bytes) SESSION_LINE_BYTES long) refl
+too_long_is : (bytes : List ℕ) → SESSION_LINE_BYTES < length bytes → session_command bytes ≡ too_long
+too_long_is bytes long = rw (lt-leb (length bytes) SESSION_LINE_BYTES long) refl
 
 long_in_front : (front first : List ℕ) → SESSION_LINE_BYTES < length front → SESSION_LINE_BYTES < length (front ++ first)
 long_in_front front first long = omega (arith, long, length-append front first)
 
-same_said : (showing : Showing) (values : List Value) (c d : SessionCommand) (lines : List (List ℕ)) → c ≡ d
+same_stated : (showing : Showing) (values : List Value) (c d : SessionCommand) (lines : List (List ℕ)) → c ≡ d
     → command_reply showing values c ++ lines_replies showing (command_values showing values c) lines ≡ command_reply showing values d ++ lines_replies showing (command_values showing values d) lines
-same_said showing values c d lines same = ap (λ e. command_reply showing values e ++ lines_replies showing (command_values showing values e) lines) same
+same_stated showing values c d lines same = ap (λ e. command_reply showing values e ++ lines_replies showing (command_values showing values e) lines) same
 
 -- Of a line that is too long it doesn't matter which bytes it has.
 long_alike : (sitting : Sitting) (one other : List ℕ) (lines : List (List ℕ)) → SESSION_LINE_BYTES < length one → SESSION_LINE_BYTES < length other
     → replies_to sitting (one ∷ lines) ≡ replies_to sitting (other ∷ lines)
 long_alike sitting one other lines long longer =
-    same_said (showing_of sitting) sitting.values (session_command one) (session_command other) lines (too_long_asks one long ∙ sym (too_long_asks other longer))
+    same_stated (showing_of sitting) sitting.values (session_command one) (session_command other) lines (too_long_is one long ∙ sym (too_long_is other longer))
 
 fronts_alike : (sitting : Sitting) (one other : List ℕ) (lines : List (List ℕ)) → SESSION_LINE_BYTES < length one → SESSION_LINE_BYTES < length other
     → replies_to sitting (in_front one lines) ≡ replies_to sitting (in_front other lines)

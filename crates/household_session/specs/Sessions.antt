@@ -39,25 +39,25 @@ begun flat face pairs = record { flat = flat; face = face; values = values_of pa
 -- ---- edits
 
 -- what a known or unknown code and what is read of an amount say
-abbrev pub set_said : List Coded → Option ℕ → Result ℤ AmountFault → Result (ℕ × Value) EditFault
-set_said inputs None amount = Err UnknownCode
-set_said inputs (Some input) (Err why) = Err BadAmount
-set_said inputs (Some input) (Ok millionths) = if is_fitting inputs (input, millionths) then Ok (input, Num millionths) else Err NotOfType
+abbrev pub parsed_set : List Coded → Option ℕ → Result ℤ AmountFault → Result (ℕ × Value) EditFault
+parsed_set inputs None amount = Err UnknownCode
+parsed_set inputs (Some input) (Err why) = Err BadAmount
+parsed_set inputs (Some input) (Ok millionths) = if is_fitting inputs (input, millionths) then Ok (input, Num millionths) else Err NotOfType
 
 -- What it says to set the input with this code to this amount: an input's number and its new value, or why it is refused. An
 -- unknown code is refused before a bad amount, and that before an amount that isn't of the input's type. Where `1AJ` has the
 -- number 0 and takes each amount, `1AJ` and `2.5` say 0 and 2500000 millionths.
 abbrev pub set_of : List Coded → List ℕ → List ℕ → Result (ℕ × Value) EditFault
-set_of inputs code amount = set_said inputs (index_of code (codes_of inputs)) (amount_read (text_value amount))
+set_of inputs code amount = parsed_set inputs (index_of code (codes_of inputs)) (amount_read (text_value amount))
 
 -- what it says to clear the input with this number, if there is one
-abbrev pub clear_said : Option ℕ → Result (ℕ × Value) EditFault
-clear_said None = Err UnknownCode
-clear_said (Some input) = Ok (input, Undef)
+abbrev pub parsed_clear : Option ℕ → Result (ℕ × Value) EditFault
+parsed_clear None = Err UnknownCode
+parsed_clear (Some input) = Ok (input, Undef)
 
 -- What it says to clear the input with this code: it becomes undefined, whatever it was.
 abbrev pub clear_of : List Coded → List ℕ → Result (ℕ × Value) EditFault
-clear_of inputs code = clear_said (index_of code (codes_of inputs))
+clear_of inputs code = parsed_clear (index_of code (codes_of inputs))
 
 -- the values after an edit; a refused one changes nothing
 abbrev pub values_edited : List Value → Result (ℕ × Value) EditFault → List Value

@@ -9,7 +9,7 @@ use m_text::without_return;
 
 /// What a line asks for, with the words that it takes.
 #[derive(Clone, Copy)]
-pub(crate) enum Asked<'a> {
+pub(crate) enum LineCommand<'a> {
     Nothing,
     Set(&'a [u8], &'a [u8]),
     Clear(&'a [u8]),
@@ -19,60 +19,60 @@ pub(crate) enum Asked<'a> {
 }
 
 /// What a line, without its line feed, asks for.
-pub(crate) fn asked_by(line: &[u8]) -> Asked<'_>
+pub(crate) fn command_of_line(line: &[u8]) -> LineCommand<'_>
     ensures { command_in result ≡ session_command line.now }
 {
     if line.len() > SESSION_LINE_BYTES {
-        return Asked::TooLong;
+        return LineCommand::TooLong;
     }
     let line = without_return(line);
     match next_word(line) {
-        None => Asked::Nothing,
+        None => LineCommand::Nothing,
         Some((word, rest)) => behind_one(word, rest),
     }
 }
 
-fn behind_one<'a>(word: &'a [u8], rest: &'a [u8]) -> Asked<'a>
+fn behind_one<'a>(word: &'a [u8], rest: &'a [u8]) -> LineCommand<'a>
     ensures { command_in result ≡ words_command (word.now ∷ line_words rest.now) }
 {
     match next_word(rest) {
         None => {
             if word == b"show".as_slice() {
-                Asked::Show
+                LineCommand::Show
             } else {
-                Asked::Bad
+                LineCommand::Bad
             }
         }
         Some((code, rest)) => behind_two(word, code, rest),
     }
 }
 
-fn behind_two<'a>(word: &'a [u8], code: &'a [u8], rest: &'a [u8]) -> Asked<'a>
+fn behind_two<'a>(word: &'a [u8], code: &'a [u8], rest: &'a [u8]) -> LineCommand<'a>
     ensures { command_in result ≡ words_command (word.now ∷ code.now ∷ line_words rest.now) }
 {
     match next_word(rest) {
         None => {
             if word == b"clear".as_slice() {
-                Asked::Clear(code)
+                LineCommand::Clear(code)
             } else {
-                Asked::Bad
+                LineCommand::Bad
             }
         }
         Some((amount, rest)) => behind_three(word, code, amount, rest),
     }
 }
 
-fn behind_three<'a>(word: &'a [u8], code: &'a [u8], amount: &'a [u8], rest: &'a [u8]) -> Asked<'a>
+fn behind_three<'a>(word: &'a [u8], code: &'a [u8], amount: &'a [u8], rest: &'a [u8]) -> LineCommand<'a>
     ensures { command_in result ≡ words_command (word.now ∷ code.now ∷ amount.now ∷ line_words rest.now) }
 {
     match next_word(rest) {
         None => {
             if word == b"set".as_slice() {
-                Asked::Set(code, amount)
+                LineCommand::Set(code, amount)
             } else {
-                Asked::Bad
+                LineCommand::Bad
             }
         }
-        Some(_) => Asked::Bad,
+        Some(_) => LineCommand::Bad,
     }
 }

@@ -12,7 +12,7 @@ ghost use Rattle.household_session.specs.Replies.{after_line, answer_reply, inpu
 ghost use Rattle.household_session.specs.Seats.{line_cost, noted, show_cost, since_begun, since_line, since_shown};
 
 use crate::EditFault;
-use crate::command::{Asked, asked_by};
+use crate::command::{LineCommand, command_of_line};
 use crate::outputs::print_sheet;
 use crate::seat::put_all;
 use flat_code::Tidy;
@@ -118,13 +118,13 @@ impl Session {
         ensures named { result ≡ input_named self.now.sitting.face.inputs (session_command line.now) }
         ensures known { IfSome result (λ input. input < self.now.sitting.flat.inputs) }
     {
-        match asked_by(line) {
-            Asked::Nothing => None,
-            Asked::Set(code, _) => self.codes.find(code),
-            Asked::Clear(code) => self.codes.find(code),
-            Asked::Show => None,
-            Asked::TooLong => None,
-            Asked::Bad => None,
+        match command_of_line(line) {
+            LineCommand::Nothing => None,
+            LineCommand::Set(code, _) => self.codes.find(code),
+            LineCommand::Clear(code) => self.codes.find(code),
+            LineCommand::Show => None,
+            LineCommand::TooLong => None,
+            LineCommand::Bad => None,
         }
     }
 
@@ -168,13 +168,13 @@ impl Session {
         ensures since { self.new.since ≡ since_line self.old line.now }
         ensures cost { steps.new ≡ steps.old + line_cost self.old line.now }
     {
-        match asked_by(line) {
-            Asked::Nothing => Ok(()),
-            Asked::Set(code, amount) => print_edit(self.set(code, amount), out),
-            Asked::Clear(code) => print_edit(self.clear(code), out),
-            Asked::Show => self.show(out, steps),
-            Asked::TooLong => give_pieces(out, &[b"refused line too long\n"]),
-            Asked::Bad => give_pieces(out, &[b"refused bad command\n"]),
+        match command_of_line(line) {
+            LineCommand::Nothing => Ok(()),
+            LineCommand::Set(code, amount) => print_edit(self.set(code, amount), out),
+            LineCommand::Clear(code) => print_edit(self.clear(code), out),
+            LineCommand::Show => self.show(out, steps),
+            LineCommand::TooLong => give_pieces(out, &[b"refused line too long\n"]),
+            LineCommand::Bad => give_pieces(out, &[b"refused bad command\n"]),
         }
     }
 }

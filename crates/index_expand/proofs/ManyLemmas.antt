@@ -54,7 +54,7 @@ at_least : (n p : ℕ) → n ≤ n * (p + 1)
 at_least n p = omega arith
 
 too_many : (declared : Declared) (formula : Formula) (item : Place) → PARTS < length (formula_definitions declared formula) → IsTooMuch (formula_parts declared formula) 0 item (TooManyParts item)
-too_many declared formula item many = record { told = refl; many = omega (arith, at_least (length (formula_definitions declared formula)) (parts formula.term)) }
+too_many declared formula item many = record { reported = refl; many = omega (arith, at_least (length (formula_definitions declared formula)) (parts formula.term)) }
 
 counted : (formula : Formula) (n : ℕ) → n ≡ min (instance_count (all_indexes formula.loops)) (PARTS + 1) → PARTS < n → PARTS < length (instances (all_indexes formula.loops) no_letters)
 counted formula n e h = omega (arith, length_instances (all_indexes formula.loops) no_letters)
@@ -68,4 +68,4 @@ refused declared formula item n tables e h =
 
 -- too many are too many after others
 pub later : (parts before : ℕ) (item : Place) (fault : ExpandFault) → IsTooMuch parts 0 item fault → IsTooMuch parts before item fault
-later parts before item fault h = record { told = h.told; many = let m = h.many in omega arith }
+later parts before item fault h = record { reported = h.reported; many = let m = h.many in omega arith }

@@ -27,7 +27,7 @@ taken_both a b c xs ys m n s t u x y = record {
 }
 
 pub too_much_after : {A : Type 0} (a b xs : List A) (m n k s t : ℕ) (item : Place) (fault : ExpandFault) → IsTaken a b xs m s t → IsTooMuch n t item fault → m + n ≤ k → IsTooMuch k s item fault
-too_much_after a b xs m n k s t item fault x y h = record { told = y.told; many = let e = x.sum in let f = y.many in omega arith }
+too_much_after a b xs m n k s t item fault x y h = record { reported = y.reported; many = let e = x.sum in let f = y.many in omega arith }
 
 -- ---- instances of one weight
 

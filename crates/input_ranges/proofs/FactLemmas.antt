@@ -13,7 +13,7 @@ use Rattle.observables.proofs.InputLemmas.{read_amount}
 use Rattle.definedness.specs.Facts.{IsFact, Possible}
 use Rattle.definedness.specs.Ranges.{IsInterval, highest_amount, lowest_amount}
 use Rattle.household.specs.Household.{input_type}
-use Rattle.input_ranges.specs.Ranges.{amounts_of, are_empty, bounds_said, fact_said, fact_within, facts_from, facts_within, from_read, given_of, in_order, nothing, possible_said, ranges_of, type_fact, type_range, under_word}
+use Rattle.input_ranges.specs.Ranges.{amounts_of, are_empty, parsed_bounds, parsed_fact, fact_within, facts_from, facts_within, from_read, given_of, in_order, nothing, parsed_possible, ranges_of, type_fact, type_range, under_word}
 use Rattle.input_ranges.specs.RangeFiles.{AreRanges, IsRangeRow}
 use Rattle.input_ranges.specs.declared.given.Given.{Given}
 use Rattle.input_ranges.specs.declared.given.Given.TheVariants.{Yes, No, Maybe}
@@ -55,14 +55,14 @@ read_fact undef one other p h = by (amount_read one) (amount_read other) refl re
     by (Ok x) (Err why) d e g = cc g
     by (Err why) b d e g = cc g
 
-bounds_fact : (undef : Bool) (kind : InputType) (least greatest : List ℕ) (p : Possible) → bounds_said undef kind least greatest ≡ Some p → IsFact p
+bounds_fact : (undef : Bool) (kind : InputType) (least greatest : List ℕ) (p : Possible) → parsed_bounds undef kind least greatest ≡ Some p → IsFact p
 bounds_fact undef kind least greatest p h = by (are_empty least greatest) h
   where
     by : (b : Bool) → cond b (Some (amounts_of undef (type_range kind))) (from_read undef (amount_read (text_value least)) (amount_read (text_value greatest))) ≡ Some p → IsFact p
     by true g = let same : amounts_of undef (type_range kind) ≡ p = cc g in subst IsFact same (type_is_fact undef kind)
     by false g = read_fact undef (text_value least) (text_value greatest) p g
 
-possible_fact : (kind : InputType) (given : Given) (least greatest : List ℕ) (p : Possible) → possible_said kind given least greatest ≡ Some p → IsFact p
+possible_fact : (kind : InputType) (given : Given) (least greatest : List ℕ) (p : Possible) → parsed_possible kind given least greatest ≡ Some p → IsFact p
 possible_fact kind Yes least greatest p h = bounds_fact false kind least greatest p h
 possible_fact kind Maybe least greatest p h = bounds_fact true kind least greatest p h
 possible_fact kind No least greatest p h = by (are_empty least greatest) h
@@ -71,8 +71,8 @@ possible_fact kind No least greatest p h = by (are_empty least greatest) h
     by true g = let same : nothing ≡ p = cc g in subst IsFact same (record { some = refl; within = tt })
     by false g = cc g
 
-said_fact : (kind : InputType) (word least greatest : List ℕ) (p : Possible) → fact_said kind word least greatest ≡ Some p → IsFact p
-said_fact kind word least greatest p h = by (given_of word) h
+stated_fact : (kind : InputType) (word least greatest : List ℕ) (p : Possible) → parsed_fact kind word least greatest ≡ Some p → IsFact p
+stated_fact kind word least greatest p h = by (given_of word) h
   where
     by : (o : Option Given) → under_word kind o least greatest ≡ Some p → IsFact p
     by None g = cc g
@@ -86,7 +86,7 @@ rows_facts inputs [] (range ∷ ranges) z = absurd z
 rows_facts inputs (fields ∷ rows) [] z = absurd z
 rows_facts inputs (fields ∷ rows) (range ∷ ranges) z =
     let row = z.0 in
-    (said_fact (input_type inputs range.input) row.word row.least row.greatest range.fact row.says, rows_facts inputs rows ranges z.1)
+    (stated_fact (input_type inputs range.input) row.word row.least row.greatest range.fact row.says, rows_facts inputs rows ranges z.1)
 
 within_fact : (ranges : List InputRange) (number : ℕ) (kind : InputType) → AllByRecursion (λ range. IsFact range.fact) ranges → IsFact (fact_within ranges number kind)
 within_fact [] number kind h = type_is_fact true kind

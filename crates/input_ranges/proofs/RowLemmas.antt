@@ -16,26 +16,26 @@ use Rattle.household.specs.Household.{AreDifferent, input_type, is_input_among, 
 use Rattle.household.specs.Refusals.{LacksHeader}
 use Rattle.household.proofs.InputLemmas.{AllByRecursion-push, AreDifferent-push, code_known, if_ok, other_than_error, read_before, turns_keep}
 use Rattle.household.proofs.LawLemmas.{no_room, room, turns_each, turns_stop, twice}
-use Rattle.input_ranges.specs.Ranges.{fact_range, fact_said, facts_within, inputs_of, is_header, is_typed, new_range, range_of, range_said, ranges_of, ranges_read, ranges_said, row_of, typed_range}
+use Rattle.input_ranges.specs.Ranges.{fact_range, parsed_fact, facts_within, inputs_of, is_header, is_typed, new_range, range_of, parsed_range, ranges_of, ranges_read, parsed_ranges, row_of, typed_range}
 use Rattle.input_ranges.specs.RangeFiles.{AreRanges, AreRefusedRanges, IsRangeRow, at_row, no_header}
 use Rattle.input_ranges.specs.declared.ranges.InputRange.{InputRange}
 
 -- ---- a row by itself
 
 -- what the fields of a row that is read say
-said_parts : (inputs : List Coded) (line : ℕ) (o : Option ℕ) (word least greatest : List ℕ) (range : InputRange) → range_said inputs line o word least greatest ≡ Ok range
-    → (o ≡ Some range.input) × (fact_said (input_type inputs range.input) word least greatest ≡ Some range.fact) × (is_typed (input_type inputs range.input) range.fact ≡ true)
-said_parts inputs line None word least greatest range h = cc h
-said_parts inputs line (Some input) word least greatest range h = by (fact_said (input_type inputs input) word least greatest) refl h
+stated_parts : (inputs : List Coded) (line : ℕ) (o : Option ℕ) (word least greatest : List ℕ) (range : InputRange) → parsed_range inputs line o word least greatest ≡ Ok range
+    → (o ≡ Some range.input) × (parsed_fact (input_type inputs range.input) word least greatest ≡ Some range.fact) × (is_typed (input_type inputs range.input) range.fact ≡ true)
+stated_parts inputs line None word least greatest range h = cc h
+stated_parts inputs line (Some input) word least greatest range h = by (parsed_fact (input_type inputs input) word least greatest) refl h
   where
-    by : (p : Option Possible) → fact_said (input_type inputs input) word least greatest ≡ p → fact_range line (input_type inputs input) input p ≡ Ok range
-        → (Some input ≡ Some range.input) × (fact_said (input_type inputs range.input) word least greatest ≡ Some range.fact) × (is_typed (input_type inputs range.input) range.fact ≡ true)
+    by : (p : Option Possible) → parsed_fact (input_type inputs input) word least greatest ≡ p → fact_range line (input_type inputs input) input p ≡ Ok range
+        → (Some input ≡ Some range.input) × (parsed_fact (input_type inputs range.input) word least greatest ≡ Some range.fact) × (is_typed (input_type inputs range.input) range.fact ≡ true)
     by None e g = cc g
     by (Some possible) e g =
         let parts = if_ok (is_typed (input_type inputs input) possible) (Ok (record { input = input; fact = possible })) (NotOfType line) range g in
         let own : InputRange = record { input = input; fact = possible } in
         let same : own ≡ range = cc parts.1 in
-        subst (λ (r : InputRange). (Some input ≡ Some r.input) × (fact_said (input_type inputs r.input) word least greatest ≡ Some r.fact) × (is_typed (input_type inputs r.input) r.fact ≡ true)) same (refl, e, parts.0)
+        subst (λ (r : InputRange). (Some input ≡ Some r.input) × (parsed_fact (input_type inputs r.input) word least greatest ≡ Some r.fact) × (is_typed (input_type inputs r.input) r.fact ≡ true)) same (refl, e, parts.0)
 
 pub range_row : (inputs : List Coded) (line : ℕ) (fields : List (List ℕ)) (range : InputRange) → range_of inputs line fields ≡ Ok range → IsRangeRow inputs fields range
 range_row inputs line [] range h = cc h
@@ -43,14 +43,14 @@ range_row inputs line (code ∷ []) range h = cc h
 range_row inputs line (code ∷ word ∷ []) range h = cc h
 range_row inputs line (code ∷ word ∷ least ∷ []) range h = cc h
 range_row inputs line (code ∷ word ∷ least ∷ greatest ∷ []) range h =
-    let parts = said_parts inputs line (index_of code (codes_of inputs)) word least greatest range h in
+    let parts = stated_parts inputs line (index_of code (codes_of inputs)) word least greatest range h in
     record { code = code; word = word; least = least; greatest = greatest; four = refl; known = parts.0; says = parts.1; typed = parts.2 }
 range_row inputs line (code ∷ word ∷ least ∷ greatest ∷ more ∷ rest) range h = cc h
 
 row_range : (inputs : List Coded) (line : ℕ) (fields : List (List ℕ)) (range : InputRange) → IsRangeRow inputs fields range → range_of inputs line fields ≡ Ok range
 row_range inputs line fields range is =
     ap (range_of inputs line) is.four
-    ∙ (λ i. range_said inputs line (is.known i) is.word is.least is.greatest)
+    ∙ (λ i. parsed_range inputs line (is.known i) is.word is.least is.greatest)
     ∙ (λ i. fact_range line (input_type inputs range.input) range.input (is.says i))
     ∙ cond-true (is_typed (input_type inputs range.input) range.fact) (Ok range) (Err (NotOfType line)) is.typed
 
@@ -91,8 +91,8 @@ few_ranges inputs rows ranges h =
 
 sound : (inputs : List Coded) (bytes : List ℕ) (given : List Possible) (records : List (List (List ℕ))) (ranges : List InputRange) → records_of bytes ≡ records → ranges_read inputs records ≡ Ok ranges
     → given ≡ facts_within ranges inputs → AreRanges inputs bytes given
-sound inputs bytes given [] ranges e h said = cc h
-sound inputs bytes given (first ∷ rows) ranges e h said =
+sound inputs bytes given [] ranges e h stated = cc h
+sound inputs bytes given (first ∷ rows) ranges e h stated =
     let read = if_ok (is_header first) (in_turn (row_of inputs) [] rows) BadHeader ranges h in
     let each = turns_each (row_of inputs) (IsRangeRow inputs) (λ before fields range f. range_row inputs (line_behind (length before)) fields range (row_parts inputs before fields range f).1) [] rows ranges read.1 in
     record {
@@ -104,12 +104,12 @@ sound inputs bytes given (first ∷ rows) ranges e h said =
       in_rows = subst (λ (rs : List InputRange). AllZip (IsRangeRow inputs) rows rs) (sym each.1) each.2;
       once = ranges_once inputs rows ranges read.1;
       few = few_ranges inputs rows ranges read.1;
-      each = said;
+      each = stated;
     }
 
 pub read_ranges_are : (inputs : List Coded) (bytes : List ℕ) (given : List Possible) → ranges_of inputs bytes ≡ Ok given → AreRanges inputs bytes given
 read_ranges_are inputs bytes given h =
-    let read = read_before (λ ranges. Ok (facts_within ranges inputs)) (ranges_said inputs bytes) given h in
+    let read = read_before (λ ranges. Ok (facts_within ranges inputs)) (parsed_ranges inputs bytes) given h in
     let same : facts_within read.0 inputs ≡ given = cc read.2 in
     sound inputs bytes given (records_of bytes) read.0 refl read.1 (sym same)
 
@@ -135,7 +135,7 @@ rows_whole inputs before (fields ∷ rows) (range ∷ ranges) z d l =
 pub ranges_are_read : (inputs : List Coded) (bytes : List ℕ) (given : List Possible) → AreRanges inputs bytes given → ranges_of inputs bytes ≡ Ok given
 ranges_are_read inputs bytes given is =
     let header = is.header in
-    let read : ranges_said inputs bytes ≡ Ok is.ranges = ap (ranges_read inputs) is.records ∙ rw header (rows_whole inputs [] is.rows is.ranges is.in_rows is.once is.few) in
+    let read : parsed_ranges inputs bytes ≡ Ok is.ranges = ap (ranges_read inputs) is.records ∙ rw header (rows_whole inputs [] is.rows is.ranges is.in_rows is.once is.few) in
     ap (if_read (λ ranges. Ok (facts_within ranges inputs))) read ∙ ap Ok (sym is.each)
 
 -- ---- faults
@@ -153,8 +153,8 @@ refused inputs bytes (first ∷ rows) fault e h = by (is_header first) refl h
         subst (AreRefusedRanges inputs bytes) same (no_header (subst (LacksHeader is_header) (sym e) header))
 
 pub ranges_fault_is : (inputs : List Coded) (bytes : List ℕ) (fault : HouseholdFault) → ranges_of inputs bytes ≡ Err fault → AreRefusedRanges inputs bytes fault
-ranges_fault_is inputs bytes fault h = by (ranges_said inputs bytes) refl h
+ranges_fault_is inputs bytes fault h = by (parsed_ranges inputs bytes) refl h
   where
-    by : (said : Result (List InputRange) HouseholdFault) → ranges_said inputs bytes ≡ said → if_read (λ ranges. Ok (facts_within ranges inputs)) said ≡ Err fault → AreRefusedRanges inputs bytes fault
+    by : (stated : Result (List InputRange) HouseholdFault) → parsed_ranges inputs bytes ≡ stated → if_read (λ ranges. Ok (facts_within ranges inputs)) stated ≡ Err fault → AreRefusedRanges inputs bytes fault
     by (Ok ranges) e g = cc g
     by (Err why) e g = refused inputs bytes (records_of bytes) fault refl (e ∙ (let same : why ≡ fault = cc g in ap Err same))

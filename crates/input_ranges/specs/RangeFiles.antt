@@ -12,7 +12,7 @@ use Rattle.household.specs.InTurn.{IsFirstFault}
 use Rattle.household.specs.Records.{records_of}
 use Rattle.household.specs.Household.{AreDifferent, input_type}
 use Rattle.household.specs.Refusals.{LacksHeader}
-use Rattle.input_ranges.specs.Ranges.{fact_said, facts_within, inputs_of, is_header, is_typed, row_of}
+use Rattle.input_ranges.specs.Ranges.{parsed_fact, facts_within, inputs_of, is_header, is_typed, row_of}
 use Rattle.input_ranges.specs.declared.ranges.InputRange.{InputRange}
 
 -- A row by itself: the code of an input, and three fields that say what may be given of it, with bounds of its type.
@@ -23,7 +23,7 @@ pub record IsRangeRow (inputs : List Coded) (fields : List (List ℕ)) (range : 
   pub greatest : List ℕ
   pub four : fields ≡ code ∷ word ∷ least ∷ greatest ∷ []
   pub known : index_of code (codes_of inputs) ≡ Some range.input
-  pub says : fact_said (input_type inputs range.input) word least greatest ≡ Some range.fact
+  pub says : parsed_fact (input_type inputs range.input) word least greatest ≡ Some range.fact
   pub typed : is_typed (input_type inputs range.input) range.fact ≡ true
 
 -- The bytes are ranges that say this of the inputs: the records are a header and a row for each range, in order; no input stands twice, the rows are

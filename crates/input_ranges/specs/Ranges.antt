@@ -70,24 +70,24 @@ from_read undef _ _ = None
 
 -- What two bounds say of an input of a type that may have an amount: where both are empty any amount of the type, and else those from the first to
 -- the second. They say nothing where one is empty and the other isn't, one is no amount, or the first is above the second.
-abbrev pub bounds_said : Bool → InputType → List ℕ → List ℕ → Option Possible
-bounds_said undef kind least greatest =
+abbrev pub parsed_bounds : Bool → InputType → List ℕ → List ℕ → Option Possible
+parsed_bounds undef kind least greatest =
     if are_empty least greatest then Some (amounts_of undef (type_range kind)) else from_read undef (amount_read (text_value least)) (amount_read (text_value greatest))
 
 -- What a word and two bounds say. With `no` both bounds are empty.
-abbrev pub possible_said : InputType → Given → List ℕ → List ℕ → Option Possible
-possible_said kind Yes least greatest = bounds_said false kind least greatest
-possible_said kind Maybe least greatest = bounds_said true kind least greatest
-possible_said kind No least greatest = if are_empty least greatest then Some nothing else None
+abbrev pub parsed_possible : InputType → Given → List ℕ → List ℕ → Option Possible
+parsed_possible kind Yes least greatest = parsed_bounds false kind least greatest
+parsed_possible kind Maybe least greatest = parsed_bounds true kind least greatest
+parsed_possible kind No least greatest = if are_empty least greatest then Some nothing else None
 
 -- what the word says, if it is one of the three
 abbrev pub under_word : InputType → Option Given → List ℕ → List ℕ → Option Possible
 under_word kind None least greatest = None
-under_word kind (Some given) least greatest = possible_said kind given least greatest
+under_word kind (Some given) least greatest = parsed_possible kind given least greatest
 
 -- What the three fields after a code say of an input of a type: `yes`, `0` and `9000` that it is an amount from 0 to 9000.
-abbrev pub fact_said : InputType → List ℕ → List ℕ → List ℕ → Option Possible
-fact_said kind word least greatest = under_word kind (given_of word) least greatest
+abbrev pub parsed_fact : InputType → List ℕ → List ℕ → List ℕ → Option Possible
+parsed_fact kind word least greatest = under_word kind (given_of word) least greatest
 
 -- whether the bounds are amounts of the type
 abbrev pub are_typed : InputType → Option (ℤ × ℤ) → Bool
@@ -107,14 +107,14 @@ fact_range line kind input None = Err (BadAmount line)
 fact_range line kind input (Some possible) = typed_range line kind input possible
 
 -- the same, if the code is that of an input
-abbrev pub range_said : List Coded → ℕ → Option ℕ → List ℕ → List ℕ → List ℕ → Result InputRange HouseholdFault
-range_said inputs line None word least greatest = Err (UnknownCode line)
-range_said inputs line (Some input) word least greatest = fact_range line (input_type inputs input) input (fact_said (input_type inputs input) word least greatest)
+abbrev pub parsed_range : List Coded → ℕ → Option ℕ → List ℕ → List ℕ → List ℕ → Result InputRange HouseholdFault
+parsed_range inputs line None word least greatest = Err (UnknownCode line)
+parsed_range inputs line (Some input) word least greatest = fact_range line (input_type inputs input) input (parsed_fact (input_type inputs input) word least greatest)
 
 -- What the fields of the record with this number say by themselves: where `1AJ` has the number 0, the fields `1AJ`, `yes`, `0` and `9000` say that the
 -- input 0 is an amount from 0 to 9000.
 abbrev pub range_of : List Coded → ℕ → List (List ℕ) → Result InputRange HouseholdFault
-range_of inputs line (code ∷ word ∷ least ∷ greatest ∷ []) = range_said inputs line (index_of code (codes_of inputs)) word least greatest
+range_of inputs line (code ∷ word ∷ least ∷ greatest ∷ []) = parsed_range inputs line (index_of code (codes_of inputs)) word least greatest
 range_of inputs line _ = Err (BadRow line)
 
 -- ---- a file
@@ -150,8 +150,8 @@ ranges_read inputs [] = Err BadHeader
 ranges_read inputs (first ∷ rows) = if is_header first then in_turn (row_of inputs) [] rows else Err BadHeader
 
 -- the ranges that the bytes of a file say
-abbrev pub ranges_said : List Coded → List ℕ → Result (List InputRange) HouseholdFault
-ranges_said inputs bytes = ranges_read inputs (records_of bytes)
+abbrev pub parsed_ranges : List Coded → List ℕ → Result (List InputRange) HouseholdFault
+parsed_ranges inputs bytes = ranges_read inputs (records_of bytes)
 
 -- ---- what is known of each input
 
@@ -171,4 +171,4 @@ facts_within ranges inputs = facts_from ranges 0 inputs
 
 -- What the bytes of a file of ranges say: what may be given of each input, in order; or the fault for which the file is refused.
 abbrev pub ranges_of : List Coded → List ℕ → Result (List Possible) HouseholdFault
-ranges_of inputs bytes = if_read (λ ranges. Ok (facts_within ranges inputs)) (ranges_said inputs bytes)
+ranges_of inputs bytes = if_read (λ ranges. Ok (facts_within ranges inputs)) (parsed_ranges inputs bytes)

@@ -2,7 +2,7 @@
 ghost use Rattle.std.specs.Prelude.{◌≡◌, ◌≤ℤ◌, option_map};
 ghost use Rattle.m_fixed.specs.Amounts.{IsAmount};
 ghost use Rattle.m_fixed.specs.Text.{amount_read, text_value};
-ghost use Rattle.input_ranges.specs.Ranges.{amounts_of, are_empty, bounds_said, in_order, is_typed, nothing, possible_said, type_fact, type_range};
+ghost use Rattle.input_ranges.specs.Ranges.{amounts_of, are_empty, parsed_bounds, in_order, is_typed, nothing, parsed_possible, type_fact, type_range};
 
 use crate::given::Given;
 use definedness::Fact;
@@ -23,17 +23,17 @@ pub(crate) fn type_fact(kind: InputType) -> Fact
 }
 
 /// What may be given of an input of this type, by a record's word and its two bounds; none where they don't say it. Takes no memory.
-pub(crate) fn possible_said(
+pub(crate) fn parsed_possible(
     kind: InputType,
     given: Given,
     least: &[u8],
     greatest: &[u8],
 ) -> Option<Fact>
-    ensures { result ≡ possible_said kind given least.now greatest.now }
+    ensures { result ≡ parsed_possible kind given least.now greatest.now }
 {
     match given {
-        Given::Yes => bounds_said(false, kind, least, greatest),
-        Given::Maybe => bounds_said(true, kind, least, greatest),
+        Given::Yes => parsed_bounds(false, kind, least, greatest),
+        Given::Maybe => parsed_bounds(true, kind, least, greatest),
         Given::No => {
             if are_empty(least, greatest) {
                 Some(nothing())
@@ -55,8 +55,8 @@ pub(crate) fn is_typed(kind: InputType, fact: Fact) -> bool
 }
 
 // The amounts within two bounds, or of the type where these are empty, and undefined or not.
-fn bounds_said(undef: bool, kind: InputType, least: &[u8], greatest: &[u8]) -> Option<Fact>
-    ensures { result ≡ bounds_said undef kind least.now greatest.now }
+fn parsed_bounds(undef: bool, kind: InputType, least: &[u8], greatest: &[u8]) -> Option<Fact>
+    ensures { result ≡ parsed_bounds undef kind least.now greatest.now }
 {
     if are_empty(least, greatest) {
         return Some(amounts_of_type(undef, kind));

@@ -10,9 +10,9 @@ ghost use Rattle.household.specs.InTurn.{in_turn};
 ghost use Rattle.household.specs.Household.{input_type};
 ghost use Rattle.household.specs.Reader.{left_of};
 ghost use Rattle.household.specs.declared.fault.HouseholdFault.TheVariants.{Memory};
-ghost use Rattle.input_ranges.specs.Ranges.{fact_said, range_of, range_said, ranges_of, ranges_said, row_of, typed_range};
+ghost use Rattle.input_ranges.specs.Ranges.{parsed_fact, range_of, parsed_range, ranges_of, parsed_ranges, row_of, typed_range};
 
-use crate::bounds::{is_typed, possible_said};
+use crate::bounds::{is_typed, parsed_possible};
 use crate::given::{Given, given_of};
 use crate::header::is_header;
 use crate::ranges::{InputRange, facts_within};
@@ -49,7 +49,7 @@ fn named_ranges(
 ) -> Result<Seq<InputRange>, HouseholdFault>
     requires distinct { AreDistinct (codes_of inputs.now) }
     requires count { count ≡ length inputs.now }
-    ensures outcome { Says Memory result (λ ranges. ranges) (ranges_said inputs.now bytes.now) }
+    ensures outcome { Says Memory result (λ ranges. ranges) (parsed_ranges inputs.now bytes.now) }
     ensures known { IfOk result (λ ranges. AllByRecursion (λ range. range.input < length inputs.now) ranges) }
 {
     let codes = Codes::new(alloc, inputs, count)?;
@@ -106,7 +106,7 @@ fn read_range(
         return Err(HouseholdFault::UnknownCode(line));
     };
     let kind = kind_of(inputs, input);
-    match fact_said(kind, field_at(row, 1), field_at(row, 2), field_at(row, 3)) {
+    match parsed_fact(kind, field_at(row, 1), field_at(row, 2), field_at(row, 3)) {
         Some(fact) => typed_range(line, kind, input, fact),
         None => Err(HouseholdFault::BadAmount(line)),
     }
@@ -123,11 +123,11 @@ fn kind_of(inputs: &[Coded], input: u32) -> InputType
 }
 
 // What may be given of an input of a type, by the three fields after its code; none where they don't say it.
-fn fact_said(kind: InputType, word: &[u8], least: &[u8], greatest: &[u8]) -> Option<Fact>
-    ensures { result ≡ fact_said kind word.now least.now greatest.now }
+fn parsed_fact(kind: InputType, word: &[u8], least: &[u8], greatest: &[u8]) -> Option<Fact>
+    ensures { result ≡ parsed_fact kind word.now least.now greatest.now }
 {
     match given_of(word) {
-        Some(given) => possible_said(kind, given, least, greatest),
+        Some(given) => parsed_possible(kind, given, least, greatest),
         None => None,
     }
 }

@@ -105,11 +105,11 @@ none-more (x ∷ lists) h zero = h 0
 none-more (x ∷ lists) h (suc k) = none-more lists (λ i. h (suc i)) k
 
 -- all lists
-pub lists-are : (f : ℕ → List ℕ) (asked : List ℕ) (lists : List (List ℕ)) → length lists ≡ length asked → ((k : ℕ) → k < length asked → list_at lists k ≡ f (get_or asked k 0))
-    → lists ≡ map f asked
-lists-are f asked lists many each =
-    ext_get_or [] lists (map f asked) (many ∙ sym (length-map asked f))
-    (λ k l. let lt : k < length asked = omega (arith, l, many) in each k lt ∙ sym (get_or-map f asked k 0 [] lt))
+pub lists-are : (f : ℕ → List ℕ) (wanted : List ℕ) (lists : List (List ℕ)) → length lists ≡ length wanted → ((k : ℕ) → k < length wanted → list_at lists k ≡ f (get_or wanted k 0))
+    → lists ≡ map f wanted
+lists-are f wanted lists many each =
+    ext_get_or [] lists (map f wanted) (many ∙ sym (length-map wanted f))
+    (λ k l. let lt : k < length wanted = omega (arith, l, many) in each k lt ∙ sym (get_or-map f wanted k 0 [] lt))
 
 -- ---- the same of vectors
 

@@ -79,9 +79,9 @@ all-drop P (suc n) (x ∷ xs) h = all-drop P n xs h.1
 
 -- ---- a group after another
 
-pub group-more : {X : Type 0} (f : ℕ → X) (found new : List X) (asked : List ℕ) (from count to : ℕ) → from + count ≡ to → found ≡ map f (take from asked)
-    → new ≡ found ++ map f (take count (drop from asked)) → new ≡ map f (take to asked)
-group-more f found new asked from count to e before more =
-    more ∙ ap (λ xs. xs ++ map f (take count (drop from asked))) before
-    ∙ sym (map-append f (take from asked) (take count (drop from asked)))
-    ∙ ap (map f) (sym (take-add from count asked) ∙ ap (λ n. take n asked) e)
+pub group-more : {X : Type 0} (f : ℕ → X) (found new : List X) (wanted : List ℕ) (from count to : ℕ) → from + count ≡ to → found ≡ map f (take from wanted)
+    → new ≡ found ++ map f (take count (drop from wanted)) → new ≡ map f (take to wanted)
+group-more f found new wanted from count to e before more =
+    more ∙ ap (λ xs. xs ++ map f (take count (drop from wanted))) before
+    ∙ sym (map-append f (take from wanted) (take count (drop from wanted)))
+    ∙ ap (map f) (sym (take-add from count wanted) ∙ ap (λ n. take n wanted) e)

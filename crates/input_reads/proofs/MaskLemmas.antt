@@ -42,7 +42,7 @@ with-other : (masks : List ℕ) (x y mask k : ℕ) → y ≢ x → has (mask_at 
 with-other masks x y mask k ne = ap (λ m. has m k) (get_or-set_other masks x y (bit_or (mask_at masks x) mask) 0 ne)
 
 pub add-one : (masks : List ℕ) (x mask : ℕ) (r : Bool) → r ≡ true → x < length masks → Adds (λ y. (r ≡ true) × (y ≡ x)) mask masks (with_mask masks x mask)
-add-one masks x mask r told h = record {
+add-one masks x mask r reported h = record {
   size = length-set masks x (bit_or (mask_at masks x) mask);
   keeps = λ k y b. ⊎_elim
       (λ (is : y ≡ x). ap (λ z. has (mask_at (with_mask masks x mask) z) k) is ∙ with-same masks x mask k h
@@ -54,7 +54,7 @@ add-one masks x mask r told h = record {
   only = λ k y b. ⊎_elim
       (λ (is : y ≡ x). ⊎_elim
       (λ old. inl (ap (λ z. has (mask_at masks z) k) is ∙ old))
-      (λ new. inr ((told, is), new))
+      (λ new. inr ((reported, is), new))
       (or_cases (has (mask_at masks x) k) (has mask k) (sym (with-same masks x mask k h) ∙ ap (λ z. has (mask_at (with_mask masks x mask) z) k) (sym is) ∙ b)))
       (λ (ne : y ≢ x). inl (sym (with-other masks x y mask k ne) ∙ b))
       (cases_eq y x);
@@ -88,8 +88,8 @@ adds-unread read mask old none = record {
 
 -- ---- asked nodes
 
-pub none-marked : (asked masks : List ℕ) → ((k x : ℕ) → has (mask_at masks x) k ≡ false) → IsMarked asked 0 masks
-none-marked asked masks none = record {
+pub none-marked : (wanted masks : List ℕ) → ((k x : ℕ) → has (mask_at masks x) k ≡ false) → IsMarked wanted 0 masks
+none-marked wanted masks none = record {
   marks = λ k l. absurd (omega arith);
   only = λ k x b. absurd (true≢false (sym b ∙ none k x));
 }
@@ -112,16 +112,16 @@ bit-other masks x y k j h small ne = ⊎_elim
     (cases_eq y x)
 
 -- one asked node more
-pub marked-more : (asked masks : List ℕ) (k x : ℕ) → x ≡ number_at asked k → x < length masks → k < 64 → IsMarked asked k masks → IsMarked asked (k + 1) (with_bit masks x k)
-marked-more asked masks k x e h small m = record {
+pub marked-more : (wanted masks : List ℕ) (k x : ℕ) → x ≡ number_at wanted k → x < length masks → k < 64 → IsMarked wanted k masks → IsMarked wanted (k + 1) (with_bit masks x k)
+marked-more wanted masks k x e h small m = record {
   marks = λ j l. ⊎_elim
-      (λ (is : j ≡ k). subst (λ i. has (mask_at (with_bit masks x k) (number_at asked i)) i ≡ true) (sym is)
+      (λ (is : j ≡ k). subst (λ i. has (mask_at (with_bit masks x k) (number_at wanted i)) i ≡ true) (sym is)
       (ap (λ z. has (mask_at (with_bit masks x k) z) k) (sym e) ∙ bit-same masks x k h small))
-      (λ (ne : j ≢ k). bit-other masks x (number_at asked j) k j h small ne ∙ m.marks j (omega arith))
+      (λ (ne : j ≢ k). bit-other masks x (number_at wanted j) k j h small ne ∙ m.marks j (omega arith))
       (cases_eq j k);
   only = λ j y b. ⊎_elim
       (λ (is : j ≡ k). ⊎_elim
-      (λ (same : y ≡ x). let lt : j < k + 1 = omega arith in (lt, same ∙ e ∙ ap (number_at asked) (sym is)))
+      (λ (same : y ≡ x). let lt : j < k + 1 = omega arith in (lt, same ∙ e ∙ ap (number_at wanted) (sym is)))
       (λ (ne : y ≢ x). let z = m.only j y (sym (with-other masks x y (1 * 2 ^ k % 2 ^ 64) j ne) ∙ b) in let l : j < k = z.0 in absurd (omega arith))
       (cases_eq y x))
       (λ (ne : j ≢ k). let z = m.only j y (sym (bit-other masks x y k j h small ne) ∙ b) in let l : j < k = z.0 in let lt : j < k + 1 = omega arith in (lt, z.1))
@@ -131,19 +131,19 @@ marked-more asked masks k x e h small m = record {
 -- ---- back through the nodes
 
 -- before the first
-pub spread-start : (known : List Possible) (nodes : List Node) (asked masks found : List ℕ) → ((k : ℕ) → k < length asked → number_at asked k < length nodes)
-    → ((n : ℕ) → mask_at found n ≡ 0) → IsMarked asked (length asked) masks → IsSpread known nodes asked (length nodes) masks found
-spread-start known nodes asked masks found within none m = record {
+pub spread-start : (known : List Possible) (nodes : List Node) (wanted masks found : List ℕ) → ((k : ℕ) → k < length wanted → number_at wanted k < length nodes)
+    → ((n : ℕ) → mask_at found n ≡ 0) → IsMarked wanted (length wanted) masks → IsSpread known nodes wanted (length nodes) masks found
+spread-start known nodes wanted masks found within none m = record {
   node = λ k q n l b d. subst (Depends known nodes n) (m.only k q b).1 d;
   input = λ k n l b. absurd (true≢false (sym b ∙ ap (λ mask. has mask k) (none n) ∙ has-zero k));
-  left = λ k n l d. inr (number_at asked k, within k l, m.marks k l, d);
+  left = λ k n l d. inr (number_at wanted k, within k l, m.marks k l, d);
 }
 
 -- one node
-pub spread-step : (known : List Possible) (nodes : List Node) (inputs : ℕ) (asked : List ℕ) (p q : ℕ) (masks found masks' found' : List ℕ) → AreNodes inputs 0 nodes → p ≡ q + 1
+pub spread-step : (known : List Possible) (nodes : List Node) (inputs : ℕ) (wanted : List ℕ) (p q : ℕ) (masks found masks' found' : List ℕ) → AreNodes inputs 0 nodes → p ≡ q + 1
     → Adds (Takes known nodes q) (mask_at masks q) masks masks' → Adds (Gives known nodes q) (mask_at masks q) found found'
-    → IsSpread known nodes asked p masks found → IsSpread known nodes asked q masks' found'
-spread-step known nodes inputs asked p q masks found masks' found' valid next a b s = record {
+    → IsSpread known nodes wanted p masks found → IsSpread known nodes wanted q masks' found'
+spread-step known nodes inputs wanted p q masks found masks' found' valid next a b s = record {
   node = λ k x n l h d. ⊎_elim (λ old. s.node k x n l old d) (λ r. s.node k q n l r.1 (argument r.0 d)) (a.only k x h);
   input = λ k n l h. ⊎_elim (λ old. s.input k n l old) (λ r. s.node k q n l r.1 (input r.0)) (b.only k n h);
   left = λ k n l d. ⊎_elim
@@ -169,10 +169,10 @@ both-ways false true f g = g refl
 both-ways false false f g = refl
 
 -- after the last
-pub spread-end : (known : List Possible) (nodes : List Node) (inputs : ℕ) (asked masks found : List ℕ) → AreNodes inputs 0 nodes → IsSpread known nodes asked 0 masks found
-    → AreMasks known nodes asked found
-spread-end known nodes inputs asked masks found valid s = record {
-  bit = λ k n l. both-ways (has (mask_at found n) k) (may_depend known nodes (number_at asked k) n)
-      (λ b. by-test known nodes inputs n (number_at asked k) valid (s.input k n l b))
-      (λ b. ⊎_elim (λ f. f) (λ r. let none : r.0 < 0 = r.1 in absurd (omega arith)) (s.left k n l (by-steps known nodes inputs (number_at asked k) n valid b)));
+pub spread-end : (known : List Possible) (nodes : List Node) (inputs : ℕ) (wanted masks found : List ℕ) → AreNodes inputs 0 nodes → IsSpread known nodes wanted 0 masks found
+    → AreMasks known nodes wanted found
+spread-end known nodes inputs wanted masks found valid s = record {
+  bit = λ k n l. both-ways (has (mask_at found n) k) (may_depend known nodes (number_at wanted k) n)
+      (λ b. by-test known nodes inputs n (number_at wanted k) valid (s.input k n l b))
+      (λ b. ⊎_elim (λ f. f) (λ r. let none : r.0 < 0 = r.1 in absurd (omega arith)) (s.left k n l (by-steps known nodes inputs (number_at wanted k) n valid b)));
 }

@@ -22,18 +22,18 @@ pub fn dependences(
     nodes: &[Node],
     inputs: u32,
     known: &[Fact],
-    asked: &[u32],
+    wanted: &[u32],
 ) -> Result<Seq<Seq<u32>>, AllocError>
     requires nodes { AreNodes inputs 0 nodes.now }
     requires known { length known.now ≡ length nodes.now }
-    requires asked { AllByRecursion (λ p. p < length nodes.now) asked.now }
-    ensures { IfOk result (λ found. found ≡ map (depends_on known.now nodes.now inputs) asked.now) }
+    requires wanted { AllByRecursion (λ p. p < length nodes.now) wanted.now }
+    ensures { IfOk result (λ found. found ≡ map (depends_on known.now nodes.now inputs) wanted.now) }
 {
-    let mut found = Vec::with_capacity(alloc, asked.len())?;
+    let mut found = Vec::with_capacity(alloc, wanted.len())?;
     let mut from = 0;
-    while from < asked.len() {
-        let to = from + group_of(asked.len() - from);
-        add_group(alloc, nodes, inputs, known, &asked[from..to], &mut found)?;
+    while from < wanted.len() {
+        let to = from + group_of(wanted.len() - from);
+        add_group(alloc, nodes, inputs, known, &wanted[from..to], &mut found)?;
         from = to;
     }
     Ok(Seq::from_vec(found))
@@ -55,16 +55,16 @@ fn add_group(
     nodes: &[Node],
     inputs: u32,
     known: &[Fact],
-    asked: &[u32],
+    wanted: &[u32],
     found: &mut Vec<Seq<u32>>,
 ) -> Result<(), AllocError>
     requires nodes { AreNodes inputs 0 nodes.now }
     requires known { length known.now ≡ length nodes.now }
-    requires few { length asked.now ≤ 64 }
-    requires asked { AllByRecursion (λ p. p < length nodes.now) asked.now }
-    ensures { OnOk result (found.new.items ≡ found.old.items ++ map (depends_on known.now nodes.now inputs) asked.now) }
+    requires few { length wanted.now ≤ 64 }
+    requires wanted { AllByRecursion (λ p. p < length nodes.now) wanted.now }
+    ensures { OnOk result (found.new.items ≡ found.old.items ++ map (depends_on known.now nodes.now inputs) wanted.now) }
 {
-    let masks = input_masks(alloc, nodes, inputs, known, asked)?;
-    let lists = lists_of(alloc, &masks, asked.len())?;
+    let masks = input_masks(alloc, nodes, inputs, known, wanted)?;
+    let lists = lists_of(alloc, &masks, wanted.len())?;
     add_lists(lists, found)
 }

@@ -69,8 +69,8 @@ fn spread_back(masks: &mut [u64], found: &mut [u64], known: &[Fact], nodes: &[No
     requires known { length known.now ≡ length nodes.now }
     requires masks { length masks.old ≡ length nodes.now }
     ensures size { length found.new ≡ length found.old }
-    ensures spread { (asked : List ℕ) → IsSpread known.now nodes.now asked (length nodes.now) masks.old found.old
-        → IsSpread known.now nodes.now asked 0 masks.new found.new }
+    ensures spread { (wanted : List ℕ) → IsSpread known.now nodes.now wanted (length nodes.now) masks.old found.old
+        → IsSpread known.now nodes.now wanted 0 masks.new found.new }
 {
     let mut p = nodes.len();
     while p > 0 {
@@ -80,31 +80,31 @@ fn spread_back(masks: &mut [u64], found: &mut [u64], known: &[Fact], nodes: &[No
 }
 
 // Gives each of 64 asked nodes at most its bit, where no bit is 1.
-fn mark_asked(masks: &mut [u64], asked: &[u32])
-    requires few { length asked.now ≤ 64 }
-    requires within { AllByRecursion (λ p. p < length masks.old) asked.now }
+fn mark_requested(masks: &mut [u64], wanted: &[u32])
+    requires few { length wanted.now ≤ 64 }
+    requires within { AllByRecursion (λ p. p < length masks.old) wanted.now }
     requires none { (x : ℕ) → mask_at masks.old x ≡ 0 }
     ensures size { length masks.new ≡ length masks.old }
-    ensures marked { IsMarked asked.now (length asked.now) masks.new }
+    ensures marked { IsMarked wanted.now (length wanted.now) masks.new }
 {
-    for k in 0..asked.len() {
-        masks[asked[k] as usize] |= 1u64 << k;
+    for k in 0..wanted.len() {
+        masks[wanted[k] as usize] |= 1u64 << k;
     }
 }
 
 // For each input a mask, where no bit is 1 yet: bit k is 1 where the asked node k may depend on it.
-fn fill(masks: &mut [u64], found: &mut [u64], known: &[Fact], nodes: &[Node], asked: &[u32])
+fn fill(masks: &mut [u64], found: &mut [u64], known: &[Fact], nodes: &[Node], wanted: &[u32])
     requires nodes { AreNodes (length found.old) 0 nodes.now }
     requires known { length known.now ≡ length nodes.now }
     requires masks { length masks.old ≡ length nodes.now }
-    requires few { length asked.now ≤ 64 }
-    requires within { AllByRecursion (λ p. p < length nodes.now) asked.now }
+    requires few { length wanted.now ≤ 64 }
+    requires within { AllByRecursion (λ p. p < length nodes.now) wanted.now }
     requires none { (x : ℕ) → mask_at masks.old x ≡ 0 }
     requires none_found { (n : ℕ) → mask_at found.old n ≡ 0 }
     ensures size { length found.new ≡ length found.old }
-    ensures found { AreMasks known.now nodes.now asked.now found.new }
+    ensures found { AreMasks known.now nodes.now wanted.now found.new }
 {
-    mark_asked(masks, asked);
+    mark_requested(masks, wanted);
     spread_back(masks, found, known, nodes);
 }
 
@@ -114,17 +114,17 @@ pub fn input_masks(
     nodes: &[Node],
     inputs: u32,
     known: &[Fact],
-    asked: &[u32],
+    wanted: &[u32],
 ) -> Result<Vec<u64>, AllocError>
     requires nodes { AreNodes inputs 0 nodes.now }
     requires known { length known.now ≡ length nodes.now }
-    requires few { length asked.now ≤ 64 }
-    requires within { AllByRecursion (λ p. p < length nodes.now) asked.now }
+    requires few { length wanted.now ≤ 64 }
+    requires within { AllByRecursion (λ p. p < length nodes.now) wanted.now }
     ensures size { IfOk result (λ found. length found.items ≡ inputs) }
-    ensures found { IfOk result (λ found. AreMasks known.now nodes.now asked.now found.items) }
+    ensures found { IfOk result (λ found. AreMasks known.now nodes.now wanted.now found.items) }
 {
     let mut masks = vec![in alloc; 0u64; nodes.len()]?;
     let mut found = vec![in alloc; 0u64; inputs as usize]?;
-    fill(&mut masks, &mut found, known, nodes, asked);
+    fill(&mut masks, &mut found, known, nodes, wanted);
     Ok(found)
 }

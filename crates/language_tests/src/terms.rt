@@ -305,7 +305,7 @@ fn each_form_of_term(rt: HostRuntime) -> Result<(), Fail> {
 }
 
 #[test]
-fn no_term_stands(rt: HostRuntime) -> Result<(), Fail> {
+fn no_term_at(rt: HostRuntime) -> Result<(), Fail> {
     check_all(rt.alloc(), Reading::Term, no_terms())
 }
 
@@ -315,6 +315,6 @@ fn each_form_of_header(rt: HostRuntime) -> Result<(), Fail> {
 }
 
 #[test]
-fn no_header_stands(rt: HostRuntime) -> Result<(), Fail> {
+fn no_header_at(rt: HostRuntime) -> Result<(), Fail> {
     check_all(rt.alloc(), Reading::Header, no_headers())
 }

@@ -55,7 +55,7 @@ pub fn add_place(alloc: Global, text: &mut Vec<u8>, place: Place) {
 // Fails at this text.
 pub fn other_at(alloc: Global, text: &[u8]) -> Fail {
     match format!(in alloc; "another answer at {text:?}") {
-        Ok(told) => Fail::from(told),
+        Ok(reported) => Fail::from(reported),
         Err(_) => Fail::from("another answer"),
     }
 }

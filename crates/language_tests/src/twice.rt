@@ -59,7 +59,7 @@ fn are_refused(alloc: Global, items: &[Item], earlier: u32, later: u32) -> bool 
 }
 
 // Whether these texts are one whose items are refused so.
-fn are_told<R: Threads + Sync>(
+fn are_reported<R: Threads + Sync>(
     rt: &R,
     alloc: Global,
     texts: &[Text],
@@ -78,7 +78,7 @@ fn are_told<R: Threads + Sync>(
 }
 
 // Whether these declarations are refused so.
-fn is_told<R: Threads + Sync>(
+fn is_reported<R: Threads + Sync>(
     rt: &R,
     alloc: Global,
     rules: &[u8],
@@ -89,15 +89,15 @@ fn is_told<R: Threads + Sync>(
         return false;
     }
     match text_of(alloc, rules) {
-        Ok(text) => are_told(rt, alloc, &[text], earlier, later),
+        Ok(text) => are_reported(rt, alloc, &[text], earlier, later),
         Err(_) => false,
     }
 }
 
 #[test]
-fn both_places_are_told(rt: HostRuntime) -> Result<(), Fail> {
+fn both_places_are_printed(rt: HostRuntime) -> Result<(), Fail> {
     for (rules, earlier, later) in all_twice() {
-        if !is_told(&rt, rt.alloc(), rules.as_bytes(), *earlier, *later) {
+        if !is_reported(&rt, rt.alloc(), rules.as_bytes(), *earlier, *later) {
             return Err(Fail::from(*rules));
         }
     }

@@ -14,8 +14,8 @@ use Rattle.micro_m.specs.declared.base.Base.{Base}
 use Rattle.m_symbols.specs.Declarations.{Declared}
 use Rattle.m_symbols.specs.Cells.{variable_named}
 use Rattle.m_ast.specs.declared.plain_rules.Definition.{Definition}
-use Rattle.m_resolve.specs.Terms.{if_said, term_said, cell_said, cell_of_variable}
-use Rattle.m_resolve.specs.Bases.{target_of, target_said, new_target, cells_of, definition_said, definitions_said, conditions_said, label_of, base_with, resolved}
+use Rattle.m_resolve.specs.Terms.{if_resolved, resolved_term, resolved_cell, cell_of_variable}
+use Rattle.m_resolve.specs.Bases.{target_of, resolved_target, new_target, cells_of, resolved_definition, resolved_definitions, resolved_conditions, label_of, base_with, resolved}
 use Rattle.large_validity.proofs.Names.{input_name, sum_name}
 use Rattle.large_validity.proofs.Pieces.{amount, after}
 use Rattle.large_validity.proofs.Lines.{declared_after, rules_after, numbered_line}
@@ -59,17 +59,17 @@ maximum_of k at = maximum_term (decimal k) at
 abbrev sum_of : ℕ → ℕ → Place → Place → Syntax
 sum_of k j at other = sum_term (decimal k) (decimal j) at other
 
-input_said : (p : Place) (n k : ℕ) (at : Place) → k < n → n ≤ 100000 → cell_said (declared p n) (input_name k) at ≡ Ok (k + k)
-input_said p n k at l h = ap (cell_of_variable (input_name k) at) (input_found p n k l h)
+input_declared : (p : Place) (n k : ℕ) (at : Place) → k < n → n ≤ 100000 → resolved_cell (declared p n) (input_name k) at ≡ Ok (k + k)
+input_declared p n k at l h = ap (cell_of_variable (input_name k) at) (input_found p n k l h)
 
-sum_said : (p : Place) (n k : ℕ) (at : Place) → k < n → n ≤ 100000 → cell_said (declared p n) (sum_name k) at ≡ Ok (k + k + 1)
-sum_said p n k at l h = ap (cell_of_variable (sum_name k) at) (sum_found p n k l h)
+resolved_sum : (p : Place) (n k : ℕ) (at : Place) → k < n → n ≤ 100000 → resolved_cell (declared p n) (sum_name k) at ≡ Ok (k + k + 1)
+resolved_sum p n k at l h = ap (cell_of_variable (sum_name k) at) (sum_found p n k l h)
 
-maximum_said : (p : Place) (n k : ℕ) (at : Place) → k < n → n ≤ 100000 → term_said (declared p n) (maximum_of k at) ≡ Ok (maximum_tree k)
-maximum_said p n k at l h = rw (input_said p n k at l h) refl
+maximum_stated : (p : Place) (n k : ℕ) (at : Place) → k < n → n ≤ 100000 → resolved_term (declared p n) (maximum_of k at) ≡ Ok (maximum_tree k)
+maximum_stated p n k at l h = rw (input_declared p n k at l h) refl
 
-sum_term_said : (p : Place) (n k j : ℕ) (at other : Place) → k < n → j < n → n ≤ 100000 → term_said (declared p n) (sum_of k j at other) ≡ Ok (sum_tree k j)
-sum_term_said p n k j at other l m h = rw (input_said p n k at l h, sum_said p n j other m h) refl
+resolved_sum_term : (p : Place) (n k j : ℕ) (at other : Place) → k < n → j < n → n ≤ 100000 → resolved_term (declared p n) (sum_of k j at other) ≡ Ok (sum_tree k j)
+resolved_sum_term p n k j at other l m h = rw (input_declared p n k at l h, resolved_sum p n j other m h) refl
 
 -- the sum 0 and its input, whose digits are `0`
 zero_text : decimal 0 ≡ codes "0"
@@ -78,18 +78,18 @@ zero_text = decimal_digit 0 (omega arith)
 first_target : (p : Place) (n : ℕ) → 1 ≤ n → n ≤ 100000 → variable_named (declared p n) (84 ∷ codes "0") ≡ Some (sum_variable p 0)
 first_target p n l h = subst (λ d. variable_named (declared p n) (84 ∷ d) ≡ Some (sum_variable p 0)) zero_text (sum_found p n 0 (omega arith) h)
 
-first_said : (p : Place) (n : ℕ) (at : Place) → 1 ≤ n → n ≤ 100000 → term_said (declared p n) (maximum_term (codes "0") at) ≡ Ok (maximum_tree 0)
-first_said p n at l h = subst (λ d. term_said (declared p n) (maximum_term d at) ≡ Ok (maximum_tree 0)) zero_text (maximum_said p n 0 at (omega arith) h)
+first_stated : (p : Place) (n : ℕ) (at : Place) → 1 ≤ n → n ≤ 100000 → resolved_term (declared p n) (maximum_term (codes "0") at) ≡ Ok (maximum_tree 0)
+first_stated p n at l h = subst (λ d. resolved_term (declared p n) (maximum_term d at) ≡ Ok (maximum_tree 0)) zero_text (maximum_stated p n 0 at (omega arith) h)
 
-check_said : (p : Place) (n k : ℕ) (e : Place) → k < n → n ≤ 100000 → term_said (declared p n) (condition_term (decimal k) e) ≡ Ok (check_tree k)
-check_said p n k e l h = rw (sum_said p n k _ l h) refl
+resolved_check : (p : Place) (n k : ℕ) (e : Place) → k < n → n ≤ 100000 → resolved_term (declared p n) (condition_term (decimal k) e) ≡ Ok (check_tree k)
+resolved_check p n k e l h = rw (resolved_sum p n k _ l h) refl
 
 definition_is : (d : Declared) (before : List CellDefinition) (definition : Definition) (c : ℕ) (tree : Tree)
-    → target_said d definition ≡ Ok c → is_among c (cells_of before) ≡ false → term_said d definition.term ≡ Ok tree → definition_said d before definition ≡ Ok (c, tree, definition.place)
+    → resolved_target d definition ≡ Ok c → is_among c (cells_of before) ≡ false → resolved_term d definition.term ≡ Ok tree → resolved_definition d before definition ≡ Ok (c, tree, definition.place)
 definition_is d before definition c tree t f s =
-    let a : if_said (new_target d definition.place (cells_of before)) (target_said d definition) ≡ Ok c = ap (if_said (new_target d definition.place (cells_of before))) t ∙ rw f refl in
-    ap (if_said (λ (c : ℕ). if_said (λ (tree : Tree). Ok (c, tree, definition.place)) (term_said d definition.term))) a
-    ∙ ap (if_said (λ (tree : Tree). Ok (c, tree, definition.place))) s
+    let a : if_resolved (new_target d definition.place (cells_of before)) (resolved_target d definition) ≡ Ok c = ap (if_resolved (new_target d definition.place (cells_of before))) t ∙ rw f refl in
+    ap (if_resolved (λ (c : ℕ). if_resolved (λ (tree : Tree). Ok (c, tree, definition.place)) (resolved_term d definition.term))) a
+    ∙ ap (if_resolved (λ (tree : Tree). Ok (c, tree, definition.place))) s
 
 -- ---- all definitions
 
@@ -105,20 +105,20 @@ fresh_next j before tree at f c l =
     ∙ ap (λ b. b || ((c == suc j + suc j + 1) || false)) (f c (omega arith))
     ∙ ap (λ b. b || false) (ne_eqb c (suc j + suc j + 1) (λ e. omega arith))
 
-ruled_said : (p : Place) (m : ℕ) → m ≤ 100000 → (q : Place) (n : ℕ) (before : List CellDefinition) (xs : List Definition) → n < m → Fresh n before
-    → definitions_said (declared p m) before (plain_definitions q n ++ xs) ≡ definitions_said (declared p m) (before ++ cell_definitions q n) xs
-ruled_said p m h q zero before xs l f = ap (λ b. definitions_said (declared p m) b xs) (sym (append-nil before))
-ruled_said p m h q (suc j) before xs l f =
+resolved_ruled : (p : Place) (m : ℕ) → m ≤ 100000 → (q : Place) (n : ℕ) (before : List CellDefinition) (xs : List Definition) → n < m → Fresh n before
+    → resolved_definitions (declared p m) before (plain_definitions q n ++ xs) ≡ resolved_definitions (declared p m) (before ++ cell_definitions q n) xs
+resolved_ruled p m h q zero before xs l f = ap (λ b. resolved_definitions (declared p m) b xs) (sym (append-nil before))
+resolved_ruled p m h q (suc j) before xs l f =
     let d = declared p m in
     let r = after q (numbered_line j) in
     let here = numbered_cell q j in
-    let target : target_said d (numbered_definition q j) ≡ Ok (suc j + suc j + 1) = ap (target_of (numbered_definition q j)) (sum_found p m (suc j) l h) in
-    let said : definition_said d before (numbered_definition q j) ≡ Ok here =
+    let target : resolved_target d (numbered_definition q j) ≡ Ok (suc j + suc j + 1) = ap (target_of (numbered_definition q j)) (sum_found p m (suc j) l h) in
+    let stated : resolved_definition d before (numbered_definition q j) ≡ Ok here =
     definition_is d before (numbered_definition q j) (suc j + suc j + 1) (sum_tree (suc j) j) target (f (suc j + suc j + 1) (omega arith))
-    (sum_term_said p m (suc j) j (read_place q j) (further_place q j) l (omega arith) h) in
-    ap (if_said (λ (said : CellDefinition). definitions_said d (before ++ said ∷ []) (plain_definitions r j ++ xs))) said
-    ∙ ruled_said p m h r j (before ++ here ∷ []) xs (omega arith) (fresh_next j before (sum_tree (suc j) j) (target_place q j) f)
-    ∙ ap (λ b. definitions_said d b xs) (append_assoc before (here ∷ []) (cell_definitions r j))
+    (resolved_sum_term p m (suc j) j (read_place q j) (further_place q j) l (omega arith) h) in
+    ap (if_resolved (λ (stated : CellDefinition). resolved_definitions d (before ++ stated ∷ []) (plain_definitions r j ++ xs))) stated
+    ∙ resolved_ruled p m h r j (before ++ here ∷ []) xs (omega arith) (fresh_next j before (sum_tree (suc j) j) (target_place q j) f)
+    ∙ ap (λ b. resolved_definitions d b xs) (append_assoc before (here ∷ []) (cell_definitions r j))
 
 ruled_fresh : (q : Place) (n : ℕ) (c : ℕ) → c ≤ 1 → is_among c (cells_of (cell_definitions q n)) ≡ false
 ruled_fresh q zero c l = refl
@@ -131,13 +131,13 @@ base_resolved p n some few =
     let q = declared_after p n in
     let r = rules_after q (n - 1) in
     let cells = cell_definitions q (n - 1) in
-    let first : definition_said d cells (first_definition r) ≡ Ok (first_cell r) =
+    let first : resolved_definition d cells (first_definition r) ≡ Ok (first_cell r) =
     definition_is d cells (first_definition r) 1 (maximum_tree 0) (ap (target_of (first_definition r)) (first_target p n some few)) (ruled_fresh q (n - 1) 1 (omega arith))
-    (first_said p n (first_read r) some few) in
-    let said : definitions_said d [] (plain_definitions q (n - 1) ++ (first_definition r ∷ [])) ≡ Ok (cells ++ first_cell r ∷ []) =
-    ruled_said p n few q (n - 1) [] (first_definition r ∷ []) (omega arith) (λ c l. refl)
-    ∙ ap (if_said (λ (said : CellDefinition). Ok (cells ++ said ∷ []))) first in
+    (first_stated p n (first_read r) some few) in
+    let stated : resolved_definitions d [] (plain_definitions q (n - 1) ++ (first_definition r ∷ [])) ≡ Ok (cells ++ first_cell r ∷ []) =
+    resolved_ruled p n few q (n - 1) [] (first_definition r ∷ []) (omega arith) (λ c l. refl)
+    ∙ ap (if_resolved (λ (stated : CellDefinition). Ok (cells ++ stated ∷ []))) first in
     let e = error_place p n in
-    let condition : conditions_said d ([], []) (the_condition (decimal (n - 1)) e ∷ []) ≡ Ok ((check_tree (n - 1), 0, si_place e) ∷ [], label_of (codes "1") (error_of e) ∷ []) =
-    rw (check_said p n (n - 1) e (omega arith) few) refl in
-    rw (said, condition) refl
+    let condition : resolved_conditions d ([], []) (the_condition (decimal (n - 1)) e ∷ []) ≡ Ok ((check_tree (n - 1), 0, si_place e) ∷ [], label_of (codes "1") (error_of e) ∷ []) =
+    rw (resolved_check p n (n - 1) e (omega arith) few) refl in
+    rw (stated, condition) refl

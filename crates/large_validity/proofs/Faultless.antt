@@ -15,7 +15,7 @@ use Rattle.m_ast.specs.Items.{variable_in, error_in, variables_of, errors_of, va
 use Rattle.m_symbols.specs.declared.variable.Variable.{Variable}
 use Rattle.m_symbols.specs.declared.fault.DeclareFault.{DeclareFault}
 use Rattle.m_symbols.specs.Declarations.{Declared, declared_by, placed_from, names_of, codes_of, owners_from}
-use Rattle.m_symbols.specs.Faults.{first_of, place_beside, placed_name, placed_code, name_fault, code_fault, cells_fault, variable_fault, fault_at, fault_behind, first_fault}
+use Rattle.m_symbols.specs.Faults.{first_of, paired_place, placed_name, placed_code, name_fault, code_fault, cells_fault, variable_fault, fault_at, fault_behind, first_fault}
 use Rattle.large_validity.proofs.Names.{names, input_name, new_input, new_second, new_code}
 use Rattle.large_validity.proofs.Pieces.{after}
 use Rattle.large_validity.proofs.Lines.{first_line, declared_after, rules_after, numbered_line}
@@ -24,21 +24,21 @@ use Rattle.large_validity.proofs.Variables.{sum_place, variable_items, cells_in_
 
 -- ---- one variable
 
-beside-free : (n : List ℕ) (vs : List Variable) → has n (names_of vs) ≡ false → place_beside n (map placed_name vs) ≡ None
+beside-free : (n : List ℕ) (vs : List Variable) → has n (names_of vs) ≡ false → paired_place n (map placed_name vs) ≡ None
 beside-free n [] h = refl
 beside-free n (v ∷ vs) h =
     let k = or-false (bytes_eq n v.item.name) (has n (names_of vs)) h in
-    ap (λ b. cond b (Some v.item.place) (place_beside n (map placed_name vs))) k.0 ∙ beside-free n vs k.1
+    ap (λ b. cond b (Some v.item.place) (paired_place n (map placed_name vs))) k.0 ∙ beside-free n vs k.1
 
-code-free : (n : List ℕ) (vs : List Variable) → has n (codes_of vs) ≡ false → place_beside n (filter_map placed_code vs) ≡ None
+code-free : (n : List ℕ) (vs : List Variable) → has n (codes_of vs) ≡ false → paired_place n (filter_map placed_code vs) ≡ None
 code-free n [] h = refl
 code-free n (v ∷ vs) h = by (code-free n vs) (variable_code v.item) refl
   where
-    by : (has n (codes_of vs) ≡ false → place_beside n (filter_map placed_code vs) ≡ None) → (o : Option (List ℕ)) → variable_code v.item ≡ o → place_beside n (filter_map placed_code (v ∷ vs)) ≡ None
+    by : (has n (codes_of vs) ≡ false → paired_place n (filter_map placed_code vs) ≡ None) → (o : Option (List ℕ)) → variable_code v.item ≡ o → paired_place n (filter_map placed_code (v ∷ vs)) ≡ None
     by next None e = rw e (next (rw e at h))
     by next (Some c) e =
         let k = or-false (bytes_eq n c) (has n (codes_of vs)) (rw e at h) in
-        rw e (ap (λ b. cond b (Some v.item.place) (place_beside n (filter_map placed_code vs))) k.0 ∙ next k.1)
+        rw e (ap (λ b. cond b (Some v.item.place) (paired_place n (filter_map placed_code vs))) k.0 ∙ next k.1)
 
 abbrev with_variables : List VariableItem → List ErrorItem → Declared
 with_variables vs es = record { variables = placed_from 0 vs; errors = es }
@@ -55,7 +55,7 @@ cells_free vs es v h =
 input_free : (vs : List VariableItem) (es : List ErrorItem) (d : List ℕ) (p : Place) → has (82 ∷ d) (map (λ (w : VariableItem). w.name) vs) ≡ false → has (67 ∷ d) (filter_map variable_code vs) ≡ false → cells_in_all vs + 1 ≤ 1000000
     → variable_fault (with_variables vs es) (the_input d p) ≡ None
 input_free vs es d p n c k =
-    let beside : place_beside (67 ∷ d) (filter_map placed_code (placed_from 0 vs)) ≡ None = code-free (67 ∷ d) (placed_from 0 vs) (ap (has (67 ∷ d)) (codes-placed 0 vs) ∙ c) in
+    let beside : paired_place (67 ∷ d) (filter_map placed_code (placed_from 0 vs)) ≡ None = code-free (67 ∷ d) (placed_from 0 vs) (ap (has (67 ∷ d)) (codes-placed 0 vs) ∙ c) in
     let coded : code_fault (with_variables vs es) (the_input d p) ≡ None = rw beside refl in
     ap (λ f. first_of f (first_of (code_fault (with_variables vs es) (the_input d p)) (first_of None (cells_fault (with_variables vs es) (the_input d p))))) (name_free vs es (the_input d p) n)
     ∙ ap (λ f. first_of f (first_of None (cells_fault (with_variables vs es) (the_input d p)))) coded

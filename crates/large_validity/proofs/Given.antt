@@ -16,7 +16,7 @@ use Rattle.m_names.proofs.NameLemmas.{or-false, itself}
 use Rattle.observables.specs.declared.inputs.Coded.{Coded}
 use Rattle.observables.specs.declared.inputs.InputType.TheVariants.{Any}
 use Rattle.observables.specs.Inputs.{codes_of, is_of_type}
-use Rattle.driver_core.specs.Inputs.{input_said, inputs_said}
+use Rattle.driver_core.specs.Inputs.{input_declared, inputs_declared}
 use Rattle.csv.specs.Machine.{step}
 use Rattle.csv.specs.Reading.{default_config, strip_bom}
 use Rattle.csv.specs.declared.parser.State.TheVariants as st
@@ -25,7 +25,7 @@ use Rattle.household.specs.declared.fault.HouseholdFault.TheVariants.{TooManyRow
 use Rattle.household.specs.InTurn.{if_read, in_turn}
 use Rattle.household.specs.Records.{records_of}
 use Rattle.household.specs.Reader.{records_from_state}
-use Rattle.household.specs.Household.{inputs_of, is_input_among, line_behind, pair_said, input_type, is_fitting, fitting_pair, pair_of, new_pair, row_of, household_read, household_of}
+use Rattle.household.specs.Household.{inputs_of, is_input_among, line_behind, parsed_pair, input_type, is_fitting, fitting_pair, pair_of, new_pair, row_of, household_read, household_of}
 use Rattle.household.proofs.LeftLemmas.{byte_joins, records_are_left}
 use Rattle.m_large.specs.Large.{row, rows, household_text}
 use Rattle.large_validity.proofs.Numerals.{whole_decimal}
@@ -124,9 +124,9 @@ abbrev inputs_until : ℕ → List Coded
 inputs_until zero = []
 inputs_until (suc k) = inputs_until k ++ (input_of k ∷ [])
 
-pub declared_inputs : (p : Place) (n : ℕ) → inputs_said (declared p n) ≡ inputs_until n
+pub declared_inputs : (p : Place) (n : ℕ) → inputs_declared (declared p n) ≡ inputs_until n
 declared_inputs p zero = refl
-declared_inputs p (suc k) = filter_map-append input_said (variables p k) (input_variable p k ∷ sum_variable p k ∷ []) ∙ ap (λ l. l ++ (input_of k ∷ [])) (declared_inputs p k)
+declared_inputs p (suc k) = filter_map-append input_declared (variables p k) (input_variable p k ∷ sum_variable p k ∷ []) ∙ ap (λ l. l ++ (input_of k ∷ [])) (declared_inputs p k)
 
 input_codes : (n : ℕ) → codes_of (inputs_until n) ≡ codes_until n
 input_codes zero = refl
@@ -201,8 +201,8 @@ new_number m (suc k) l =
     ∙ ap (λ b. b || ((k == m) || false)) (new_number m k (omega arith))
     ∙ ap (λ b. b || false) (ne_eqb k m (λ e. omega arith))
 
-row_said : (n k : ℕ) → k < n → n ≤ 100000 → row_of (inputs_until n) (pairs k) (record_of k) ≡ Ok (pair k)
-row_said n k l h =
+parsed_row : (n k : ℕ) → k < n → n ≤ 100000 → row_of (inputs_until n) (pairs k) (record_of k) ≡ Ok (pair k)
+parsed_row n k l h =
     let is = inputs_until n in
     let line = line_behind (length (pairs k)) in
     let p = pair k in
@@ -212,12 +212,12 @@ row_said n k l h =
     let read : amount_read (text_value (given k)) ≡ Ok (amount (given k)) = read_amount (given k) (whole_decimal ((997 * k) % 5000) (few_given k)) in
     let fits : is_fitting is p ≡ true = ap (λ t. is_of_type t p.1) (any_type is (all_any n) k) in
     let fresh : is_input_among k (inputs_of (pairs k)) ≡ false = new_number k k (omega arith) in
-    let said : pair_of is line (record_of k) ≡ Ok p =
-    ap (λ o. if_read (fitting_pair is line) (pair_said line o (amount_read (text_value (given k))))) known
-    ∙ ap (λ r. if_read (fitting_pair is line) (pair_said line (Some k) r)) read
+    let stated : pair_of is line (record_of k) ≡ Ok p =
+    ap (λ o. if_read (fitting_pair is line) (parsed_pair line o (amount_read (text_value (given k))))) known
+    ∙ ap (λ r. if_read (fitting_pair is line) (parsed_pair line (Some k) r)) read
     ∙ ap (λ b. cond b (Ok p) (Err (NotOfType line))) fits in
     ap (λ b. cond b (Err TooManyRows) (if_read (new_pair line (pairs k)) (pair_of is line (record_of k)))) few
-    ∙ ap (if_read (new_pair line (pairs k))) said
+    ∙ ap (if_read (new_pair line (pairs k))) stated
     ∙ ap (λ b. cond b (Err (CodeTwice line)) (Ok p)) fresh
 
 turns-append : {A B F : Type 0} (read : List B → A → Result B F) (before mid : List B) (xs ys : List A) → in_turn read before xs ≡ Ok mid → in_turn read before (xs ++ ys) ≡ in_turn read mid ys
@@ -229,15 +229,15 @@ turns-append read before mid (x ∷ xs) ys h = by (read before x) h (λ value. t
     by (Ok value) f next = next value f
     by (Err fault) f next = cc
 
-rows_said : (n k : ℕ) → k ≤ n → n ≤ 100000 → in_turn (row_of (inputs_until n)) [] (record_list k) ≡ Ok (pairs k)
-rows_said n zero l h = refl
-rows_said n (suc k) l h =
-    turns-append (row_of (inputs_until n)) [] (pairs k) (record_list k) (record_of k ∷ []) (rows_said n k (omega arith) h)
-    ∙ ap (if_read (λ value. Ok (pairs k ++ value ∷ []))) (row_said n k l h)
+parsed_rows : (n k : ℕ) → k ≤ n → n ≤ 100000 → in_turn (row_of (inputs_until n)) [] (record_list k) ≡ Ok (pairs k)
+parsed_rows n zero l h = refl
+parsed_rows n (suc k) l h =
+    turns-append (row_of (inputs_until n)) [] (pairs k) (record_list k) (record_of k ∷ []) (parsed_rows n k (omega arith) h)
+    ∙ ap (if_read (λ value. Ok (pairs k ++ value ∷ []))) (parsed_row n k l h)
 
 -- The household of `large N` gives each input its amount.
-pub household_said : (p : Place) (n : ℕ) → n ≤ 100000 → household_of (inputs_said (declared p n)) (household_text n) ≡ Ok (pairs n)
-household_said p n h =
+pub parsed_household : (p : Place) (n : ℕ) → n ≤ 100000 → household_of (inputs_declared (declared p n)) (household_text n) ≡ Ok (pairs n)
+parsed_household p n h =
     ap (λ is. household_of is (household_text n)) (declared_inputs p n)
     ∙ ap (household_read (inputs_until n)) (household_records n h)
-    ∙ rows_said n n (omega arith) h
+    ∙ parsed_rows n n (omega arith) h

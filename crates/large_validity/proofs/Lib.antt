@@ -9,6 +9,6 @@ pub mod Found
 pub mod Rules
 pub mod Base
 pub mod Order
-pub mod Asked
+pub mod RequestLemmas
 pub mod Given
 pub mod Valid

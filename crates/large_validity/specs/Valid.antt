@@ -3,7 +3,7 @@ use Rattle.std.specs.Prelude.{◌≡◌, ℕ, ℤ, List, None, Ok}
 use Rattle.household.specs.Household.{household_of}
 use Rattle.m_symbols.specs.Declarations.{Declared}
 use Rattle.micro_m.specs.declared.base.Base.{Base}
-use Rattle.driver_core.specs.Inputs.{inputs_said}
+use Rattle.driver_core.specs.Inputs.{inputs_declared}
 use Rattle.m_compile.specs.Sources.{IsValid}
 use Rattle.m_large.specs.Large.{household_text}
 use Rattle.large_validity.specs.Sources.{large_source}
@@ -15,4 +15,4 @@ pub record IsLargeValid (n : ℕ) : Type 0 where
   pub requests : List ℕ
   pub valid : IsValid (large_source n) declared base None requests
   pub pairs : List (ℕ × ℤ)
-  pub given : household_of (inputs_said declared) (household_text n) ≡ Ok pairs
+  pub given : household_of (inputs_declared declared) (household_text n) ≡ Ok pairs

@@ -4,7 +4,7 @@ use Rattle.std.specs.Prelude.{map, IfOk}
 use Rattle.std.specs.declared.alloc.Global.{Global}
 use Rattle.std.proofs.lemmas.List.{map-append, take-append-drop}
 use Rattle.workers.specs.Parts.{behind, joined, part_at}
-use Rattle.workers.proofs.PartLemmas.{of_parts, said_of_parts}
+use Rattle.workers.proofs.PartLemmas.{of_parts, stated_of_parts}
 
 -- what is made of each part is a map of it, so what they make, joined, is the map of the whole
 abbrev IsMapped : {X Y E : Type 0} → (X → Y) → ℕ → List X → Result (List Y) E → Type 0
@@ -22,5 +22,5 @@ pub mapped : {X Y E : Type 0} (f : X → Y) (size : ℕ) (items : List X) (parts
     → ((n : ℕ) → n < length parts → n * size < length items) → length items ≤ length parts * size → IfOk (joined parts) (λ ys. ys ≡ map f items)
 mapped {X} {Y} {E} f size items parts each inside reach =
     let gives : ℕ → List X → Result (Vec Y Global) E → Type 0 = λ at part made. IfOk made (λ v. v.items ≡ map f part) in
-    said_of_parts gives size (IsMapped f) (λ at. refl) (λ at items fault some gave. tt)
-    (λ at items made rest some gave said. more f size at items made.items rest gave said) 0 items parts (of_parts gives size items parts each inside reach)
+    stated_of_parts gives size (IsMapped f) (λ at. refl) (λ at items fault some gave. tt)
+    (λ at items made rest some gave stated. more f size at items made.items rest gave stated) 0 items parts (of_parts gives size items parts each inside reach)

@@ -17,15 +17,15 @@ use Rattle.household.specs.declared.fault.HouseholdFault.{HouseholdFault}
 use Rattle.household.specs.declared.fault.HouseholdFault.TheVariants as household
 use Rattle.household.specs.InTurn.{if_read, in_turn}
 use Rattle.household.specs.Household.{AreDifferent, AreInputs, AreOfTypes, inputs_of, is_fitting, is_input_among, line_behind}
-use Rattle.household.specs.Table.{amount_said, are_fitting, cells_read, fitting_pairs, is_label, pairs_read}
+use Rattle.household.specs.Table.{parsed_amount, are_fitting, cells_read, fitting_pairs, is_label, pairs_read}
 use Rattle.household.proofs.InputLemmas.{AllByRecursion-push, AreDifferent-push, code_known, if_ok, inputs_of-push, other_than_error, read_before, turns_keep}
 use Rattle.m_cases.specs.declared.cases.Case.{Case}
 use Rattle.m_cases.specs.declared.columns.Column.{Column}
 use Rattle.m_cases.specs.declared.columns.Column.TheVariants.{Input, Output}
 use Rattle.m_cases.specs.declared.expected.Expected.{Expected}
 use Rattle.m_cases.specs.declared.fault.CasesFault.TheVariants.{TooManyRows, BadRow, CodeTwice}
-use Rattle.m_cases.specs.Cases.{AreExpected, case_of, case_said, case_with, cases_made, expected_read, expected_said, of_household}
-use Rattle.m_cases.specs.Columns.{column_inputs, column_of, field_said, input_cells, input_said, is_same_column, new_column, output_said}
+use Rattle.m_cases.specs.Cases.{AreExpected, case_of, parsed_case, case_with, cases_made, expected_read, parsed_expectation, of_household}
+use Rattle.m_cases.specs.Columns.{column_inputs, column_of, parsed_field, input_cells, input_declared, is_same_column, new_column, parsed_output}
 use Rattle.m_cases.specs.inner.Outputs.{IsBelow, column_outputs}
 use Rattle.m_cases.proofs.Few.{few}
 use Rattle.m_cases.proofs.SeenLemmas.{any_input, any_output, inputs-push, inputs-skip, outputs-push, outputs-skip}
@@ -56,19 +56,19 @@ column_next inputs outputs columns (Output a) c b e = record {
   expected = subst (AreKnown outputs) (outputs-push columns (Output a)) (known-push outputs (column_outputs columns) a c.expected b (any_output a columns ∙ e));
 }
 
-input_below : (inputs outputs : ℕ) (o : Option ℕ) (column : Column) → input_said o ≡ Ok column → ((i : ℕ) → o ≡ Some i → i < inputs) → IsBelow inputs outputs column
+input_below : (inputs outputs : ℕ) (o : Option ℕ) (column : Column) → input_declared o ≡ Ok column → ((i : ℕ) → o ≡ Some i → i < inputs) → IsBelow inputs outputs column
 input_below inputs outputs None column h k = cc h
 input_below inputs outputs (Some i) column h k = let same : Input i ≡ column = cc in subst (IsBelow inputs outputs) same (k i refl)
 
-output_below : (inputs outputs : ℕ) (o : Option ℕ) (column : Column) → output_said o ≡ Ok column → ((i : ℕ) → o ≡ Some i → i < outputs) → IsBelow inputs outputs column
+output_below : (inputs outputs : ℕ) (o : Option ℕ) (column : Column) → parsed_output o ≡ Ok column → ((i : ℕ) → o ≡ Some i → i < outputs) → IsBelow inputs outputs column
 output_below inputs outputs None column h k = cc h
 output_below inputs outputs (Some i) column h k = let same : Output i ≡ column = cc in subst (IsBelow inputs outputs) same (k i refl)
 
-pub field_below : (inputs : List Coded) (names : List (List ℕ)) (field : List ℕ) (column : Column) → field_said inputs names field ≡ Ok column → IsBelow (length inputs) (length names) column
+pub field_below : (inputs : List Coded) (names : List (List ℕ)) (field : List ℕ) (column : Column) → parsed_field inputs names field ≡ Ok column → IsBelow (length inputs) (length names) column
 field_below inputs names [] column h = input_below (length inputs) (length names) (index_of [] (codes_of inputs)) column h (code_known inputs [])
 field_below inputs names (byte ∷ bytes) column h = by (eqb byte 61) h
   where
-    by : (b : Bool) → cond b (output_said (index_of bytes names)) (input_said (index_of (byte ∷ bytes) (codes_of inputs))) ≡ Ok column → IsBelow (length inputs) (length names) column
+    by : (b : Bool) → cond b (parsed_output (index_of bytes names)) (input_declared (index_of (byte ∷ bytes) (codes_of inputs))) ≡ Ok column → IsBelow (length inputs) (length names) column
     by true g = output_below (length inputs) (length names) (index_of bytes names) column g (λ i e. (index_of-some bytes names i e).1)
     by false g = input_below (length inputs) (length names) (index_of (byte ∷ bytes) (codes_of inputs)) column g (code_known inputs (byte ∷ bytes))
 
@@ -76,7 +76,7 @@ columns_known : (inputs : List Coded) (names fields : List (List ℕ)) (columns 
 columns_known inputs names fields columns h =
     turns_keep (column_of inputs names) (AreColumns (length inputs) (length names))
     (λ before field column q e.
-    let r = read_before (new_column before) (field_said inputs names field) column e in
+    let r = read_before (new_column before) (parsed_field inputs names field) column e in
     let a = other_than_error (list_any (is_same_column r.0) before) (CodeTwice 1) (Ok r.0) column r.2 in
     let same : r.0 ≡ column = cc a.1 in
     column_next (length inputs) (length names) before column q (subst (IsBelow (length inputs) (length names)) same (field_below inputs names field r.0 r.1))
@@ -101,16 +101,16 @@ known-front : {n : ℕ} (xs ys : List ℕ) → AreKnown n (xs ++ ys) → AreKnow
 known-front {n} xs [] h = subst (AreKnown n) (append-nil xs) h
 known-front {n} xs (y ∷ ys) h = known-front xs ys (known-without xs ys y h)
 
-said_input : (line input : ℕ) (r : Result ℤ AmountFault) (pair : ℕ × ℤ) → amount_said line input r ≡ Ok pair → pair.0 ≡ input
-said_input line input (Err why) pair h = cc h
-said_input line input (Ok z) pair h = cc h
+stated_input : (line input : ℕ) (r : Result ℤ AmountFault) (pair : ℕ × ℤ) → parsed_amount line input r ≡ Ok pair → pair.0 ≡ input
+stated_input line input (Err why) pair h = cc h
+stated_input line input (Ok z) pair h = cc h
 
-said_amount : (line input : ℕ) (said : Option ℤ) (pair : ℕ × ℤ) → amount_said line input (amount_read said) ≡ Ok pair → IsAmount pair.1
-said_amount line input said pair h = by (amount_read said) refl h
+stated_amount : (line input : ℕ) (stated : Option ℤ) (pair : ℕ × ℤ) → parsed_amount line input (amount_read stated) ≡ Ok pair → IsAmount pair.1
+stated_amount line input stated pair h = by (amount_read stated) refl h
   where
-    by : (r : Result ℤ AmountFault) → amount_read said ≡ r → amount_said line input r ≡ Ok pair → IsAmount pair.1
+    by : (r : Result ℤ AmountFault) → amount_read stated ≡ r → parsed_amount line input r ≡ Ok pair → IsAmount pair.1
     by (Err why) e g = cc g
-    by (Ok z) e g = let same : z ≡ pair.1 = cc in subst IsAmount same (read_amount said z e)
+    by (Ok z) e g = let same : z ≡ pair.1 = cc in subst IsAmount same (read_amount stated z e)
 
 abbrev AreAmounts : List (ℕ × ℤ) → Type 0
 AreAmounts pairs = AllByRecursion (λ pair. IsAmount pair.1) pairs
@@ -130,17 +130,17 @@ cells_good {n} line before (input ∷ columns) (cell ∷ cells) pairs q h =
     by (eqb (length cell) 0) h (cells_good line before columns cells pairs (record { inputs = known-without (inputs_of before) columns input q.inputs; amounts = q.amounts }))
     (λ pair e. cells_good line (before ++ pair ∷ []) columns cells pairs (record {
       inputs = subst (λ (xs : List ℕ). AreKnown n (xs ++ columns)) (sym (inputs_of-push before pair))
-          (rw append_assoc (subst (λ (i : ℕ). AreKnown n (inputs_of before ++ i ∷ columns)) (sym (said_input line input (amount_read (text_value cell)) pair e)) q.inputs));
-      amounts = AllByRecursion-push (λ (p : ℕ × ℤ). IsAmount p.1) before pair q.amounts (said_amount line input (text_value cell) pair e);
+          (rw append_assoc (subst (λ (i : ℕ). AreKnown n (inputs_of before ++ i ∷ columns)) (sym (stated_input line input (amount_read (text_value cell)) pair e)) q.inputs));
+      amounts = AllByRecursion-push (λ (p : ℕ × ℤ). IsAmount p.1) before pair q.amounts (stated_amount line input (text_value cell) pair e);
     }))
   where
-    by : (b : Bool) → cond b (cells_read line before columns cells) (if_read (λ pair. cells_read line (before ++ pair ∷ []) columns cells) (amount_said line input (amount_read (text_value cell)))) ≡ Ok pairs
+    by : (b : Bool) → cond b (cells_read line before columns cells) (if_read (λ pair. cells_read line (before ++ pair ∷ []) columns cells) (parsed_amount line input (amount_read (text_value cell)))) ≡ Ok pairs
         → (cells_read line before columns cells ≡ Ok pairs → AreGood n pairs [])
-        → ((pair : ℕ × ℤ) → amount_said line input (amount_read (text_value cell)) ≡ Ok pair → cells_read line (before ++ pair ∷ []) columns cells ≡ Ok pairs → AreGood n pairs [])
+        → ((pair : ℕ × ℤ) → parsed_amount line input (amount_read (text_value cell)) ≡ Ok pair → cells_read line (before ++ pair ∷ []) columns cells ≡ Ok pairs → AreGood n pairs [])
         → AreGood n pairs []
     by true g empty filled = empty g
     by false g empty filled =
-        let r = read_before (λ pair. cells_read line (before ++ pair ∷ []) columns cells) (amount_said line input (amount_read (text_value cell))) pairs g in
+        let r = read_before (λ pair. cells_read line (before ++ pair ∷ []) columns cells) (parsed_amount line input (amount_read (text_value cell))) pairs g in
         filled r.0 r.1 r.2
 
 -- amounts that fit are of their types
@@ -163,13 +163,13 @@ cells_expected n line before (Output output ∷ columns) (cell ∷ cells) all b 
     (λ e g. let more = cells_expected n line (before ++ (output, e) ∷ []) columns cells all (AllByRecursion-push (λ (x : ℕ × Expected). x.0 < n) before (output, e) b c.0) c.1 g in
     (more.0, (let l = length-append before ((output, e) ∷ []) in let m = more.1 in omega (arith, l, m))))
   where
-    by : (t : Bool) → cond t (expected_read line before columns cells) (if_read (λ e. expected_read line (before ++ (output, e) ∷ []) columns cells) (expected_said line cell)) ≡ Ok all
+    by : (t : Bool) → cond t (expected_read line before columns cells) (if_read (λ e. expected_read line (before ++ (output, e) ∷ []) columns cells) (parsed_expectation line cell)) ≡ Ok all
         → (expected_read line before columns cells ≡ Ok all → AllByRecursion (λ e. e.0 < n) all × (length all ≤ length before + length (column_outputs columns)))
         → ((e : Expected) → expected_read line (before ++ (output, e) ∷ []) columns cells ≡ Ok all → AllByRecursion (λ e. e.0 < n) all × (length all ≤ length before + suc (length (column_outputs columns))))
         → AllByRecursion (λ e. e.0 < n) all × (length all ≤ length before + suc (length (column_outputs columns)))
     by true g empty filled = let e = empty g in (e.0, (let m = e.1 in omega (arith, m)))
     by false g empty filled =
-        let r = read_before (λ e. expected_read line (before ++ (output, e) ∷ []) columns cells) (expected_said line cell) all g in
+        let r = read_before (λ e. expected_read line (before ++ (output, e) ∷ []) columns cells) (parsed_expectation line cell) all g in
         filled r.0 r.2
 
 -- ---- cases
@@ -185,7 +185,7 @@ household_ok (Ok b) a e = cc
 household_ok (Err f) a e = cc e
 
 case_good : (inputs : List Coded) (names line : ℕ) (columns : List Column) (fields : List (List ℕ)) (case : Case) → names < 2 ^ 32 → AreColumns (length inputs) names columns
-    → case_said inputs line columns fields ≡ Ok case → IsGoodCase inputs names case
+    → parsed_case inputs line columns fields ≡ Ok case → IsGoodCase inputs names case
 case_good inputs names line columns [] case small c h = cc h
 case_good inputs names line columns (label ∷ cells) case small c h =
     let a = if_ok ((eqb (length cells) (length columns)) && is_label label) _ (BadRow line) case h in
@@ -210,7 +210,7 @@ pub cases_good : (inputs : List Coded) (names : List (List ℕ)) (fields : List 
 cases_good inputs names fields columns records cases small c h =
     turns_keep (case_of inputs columns) (AllByRecursion (IsGoodCase inputs (length names)))
     (λ before record_fields case q e.
-    let a = other_than_error (leb ROWS (length before)) TooManyRows (case_said inputs (line_behind (length before)) columns record_fields) case e in
+    let a = other_than_error (leb ROWS (length before)) TooManyRows (parsed_case inputs (line_behind (length before)) columns record_fields) case e in
     AllByRecursion-push (IsGoodCase inputs (length names)) before case q
     (case_good inputs (length names) (line_behind (length before)) columns record_fields case small (columns_known inputs names fields columns c) a.1))
     [] records cases tt h
@@ -235,7 +235,7 @@ few_cases : (inputs : List Coded) (columns : List Column) (records : List (List 
 few_cases inputs columns records cases h =
     turns_keep (case_of inputs columns) (λ (l : List Case). length l ≤ ROWS)
     (λ before record_fields case q e.
-    let a = other_than_error (leb ROWS (length before)) TooManyRows (case_said inputs (line_behind (length before)) columns record_fields) case e in
+    let a = other_than_error (leb ROWS (length before)) TooManyRows (parsed_case inputs (line_behind (length before)) columns record_fields) case e in
     let below = leb-false ROWS (length before) a.0 in
     let long = length-append before (case ∷ []) in
     omega (arith, below, long))

@@ -4,12 +4,12 @@ use Rattle.std.proofs.lemmas.List.{drop_more, drop_all}
 use Rattle.m_fixed.specs.Text.{text_value, amount_read}
 use Rattle.household.specs.declared.fault.HouseholdFault.{HouseholdFault}
 use Rattle.household.specs.InTurn.{if_read}
-use Rattle.household.specs.Table.{amount_said, cells_read}
+use Rattle.household.specs.Table.{parsed_amount, cells_read}
 use Rattle.m_cases.specs.declared.columns.Column.{Column}
 use Rattle.m_cases.specs.declared.columns.Column.TheVariants.{Input, Output}
 use Rattle.m_cases.specs.declared.expected.Expected.{Expected}
 use Rattle.m_cases.specs.declared.fault.CasesFault.{CasesFault}
-use Rattle.m_cases.specs.Cases.{case_fault, expected_read, expected_said, of_household}
+use Rattle.m_cases.specs.Cases.{case_fault, expected_read, parsed_expectation, of_household}
 use Rattle.m_cases.specs.Columns.{column_inputs, input_cells}
 use Rattle.m_cases.specs.inner.Cells.{amounts_behind, expected_behind}
 
@@ -27,7 +27,7 @@ one_more false next before (Err f) = refl
 amounts_step : (line : ℕ) (before : List (ℕ × ℤ)) (column : Column) (cell : List ℕ) (columns : List Column) (cells : List (List ℕ))
     → amounts_from line before (column ∷ columns) (cell ∷ cells) ≡ if_read (λ b. amounts_from line b columns cells) (amounts_behind line before column cell)
 amounts_step line before (Input input) cell columns cells =
-    one_more (eqb (length cell) 0) (λ b. amounts_from line b columns cells) before (amount_said line input (amount_read (text_value cell)))
+    one_more (eqb (length cell) 0) (λ b. amounts_from line b columns cells) before (parsed_amount line input (amount_read (text_value cell)))
 amounts_step line before (Output output) cell columns cells = refl
 
 -- a choice as before, where what is added is made of what is read
@@ -41,7 +41,7 @@ expected_step : (line : ℕ) (before : List (ℕ × Expected)) (column : Column)
     → expected_read line before (column ∷ columns) (cell ∷ cells) ≡ if_read (λ b. expected_read line b columns cells) (expected_behind line before column cell)
 expected_step line before (Input input) cell columns cells = refl
 expected_step line before (Output output) cell columns cells =
-    one_made (eqb (length cell) 0) (λ e. (output, e)) (λ b. expected_read line b columns cells) before (expected_said line cell)
+    one_made (eqb (length cell) 0) (λ e. (output, e)) (λ b. expected_read line b columns cells) before (parsed_expectation line cell)
 
 -- the columns and the cells from a place on
 at_place : {B : Type 0} (read : List Column → List (List ℕ) → B) (columns : List Column) (fields : List (List ℕ)) (k : ℕ) (column d : Column) (cell : List ℕ) → length fields ≡ length columns + 1 → k < length columns

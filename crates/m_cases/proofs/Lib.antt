@@ -7,6 +7,6 @@ pub mod Cells
 pub mod Few
 pub mod CaseLaws
 pub mod CaseLemmas
-pub mod Told
+pub mod Observation
 pub mod Records
 pub mod Numbered

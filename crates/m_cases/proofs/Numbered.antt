@@ -100,11 +100,11 @@ all_numbered notes es all i is h =
 -- ---- what is read
 
 -- what bytes say by the numbers of the face is what they say by the places among the names
-pub face_read : (notes : ℕ) (said : Result Cases CasesFault) (cases : Cases) → if_read (λ c. Ok (numbered_cases notes c)) said ≡ Ok cases → (c : Cases) × (said ≡ Ok c) × (numbered_cases notes c ≡ cases)
+pub face_read : (notes : ℕ) (stated : Result Cases CasesFault) (cases : Cases) → if_read (λ c. Ok (numbered_cases notes c)) stated ≡ Ok cases → (c : Cases) × (stated ≡ Ok c) × (numbered_cases notes c ≡ cases)
 face_read notes (Ok c) cases h = (c, refl, cc h)
 face_read notes (Err fault) cases h = absurd (cc h)
 
-pub face_fault : (notes : ℕ) (said : Result Cases CasesFault) (fault : CasesFault) → if_read (λ c. Ok (numbered_cases notes c)) said ≡ Err fault → said ≡ Err fault
+pub face_fault : (notes : ℕ) (stated : Result Cases CasesFault) (fault : CasesFault) → if_read (λ c. Ok (numbered_cases notes c)) stated ≡ Err fault → stated ≡ Err fault
 face_fault notes (Ok c) fault h = absurd (cc h)
 face_fault notes (Err other) fault h = cc h
 

@@ -6,13 +6,13 @@ use Rattle.observables.specs.declared.answer.Answer.{Answer}
 use Rattle.observables.specs.declared.answer.Answer.TheVariants.{Values, Stopped}
 use Rattle.observables.specs.declared.answer.Stop.{Stop}
 use Rattle.observables.specs.declared.face.FaceLabel.{FaceLabel}
-use Rattle.observables.specs.Answers.{Told, values, stopped, label_number, cause_of, notes_told, told_of}
-use Rattle.m_cases.specs.Mismatches.{answer_values, named_values, told_values}
+use Rattle.observables.specs.Answers.{Observation, values, stopped, label_number, cause_of, reported_notes, observation}
+use Rattle.m_cases.specs.Mismatches.{answer_values, named_values, observation_values}
 
-stop_is : (stop : Stop) (label : Option FaceLabel) (told : Told) → option_map (λ l. stopped (cause_of stop l)) label ≡ Some told → None ≡ told_values told
-stop_is stop None told e = cc
-stop_is stop (Some label) told e = let same : stopped (cause_of stop label) ≡ told = cc in ap told_values same
+stop_is : (stop : Stop) (label : Option FaceLabel) (reported : Observation) → option_map (λ l. stopped (cause_of stop l)) label ≡ Some reported → None ≡ observation_values reported
+stop_is stop None reported e = cc
+stop_is stop (Some label) reported e = let same : stopped (cause_of stop label) ≡ reported = cc in ap observation_values same
 
-pub told_is : (labels : List FaceLabel) (notes : List ℕ) (answer : Answer) (told : Told) → told_of labels notes answer ≡ Some told → named_values (length notes) (answer_values answer) ≡ told_values told
-told_is labels notes (Values vs) told e = let same : values (notes_told labels notes vs) _ ≡ told = cc in ap told_values same
-told_is labels notes (Stopped stop) told e = stop_is stop (slice_get labels (label_number stop)) told e
+pub reported_is : (labels : List FaceLabel) (notes : List ℕ) (answer : Answer) (reported : Observation) → observation labels notes answer ≡ Some reported → named_values (length notes) (answer_values answer) ≡ observation_values reported
+reported_is labels notes (Values vs) reported e = let same : values (reported_notes labels notes vs) _ ≡ reported = cc in ap observation_values same
+reported_is labels notes (Stopped stop) reported e = stop_is stop (slice_get labels (label_number stop)) reported e

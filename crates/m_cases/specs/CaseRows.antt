@@ -10,12 +10,12 @@ use Rattle.m_cases.specs.declared.cases.Case.{Case}
 use Rattle.m_cases.specs.declared.columns.Column.{Column}
 use Rattle.m_cases.specs.declared.columns.Column.TheVariants.{Input, Output}
 use Rattle.m_cases.specs.declared.expected.Expected.{Expected}
-use Rattle.m_cases.specs.Cases.{expected_said}
-use Rattle.m_cases.specs.Columns.{column_inputs, field_said, input_cells}
+use Rattle.m_cases.specs.Cases.{parsed_expectation}
+use Rattle.m_cases.specs.Columns.{column_inputs, parsed_field, input_cells}
 
 -- a cell expects this, whatever the number of its record
 abbrev pub Expects : List ℕ → Expected → Type 0
-Expects cell expected = (line : ℕ) → expected_said line cell ≡ Ok expected
+Expects cell expected = (line : ℕ) → parsed_expectation line cell ≡ Ok expected
 
 -- What cells expect below these columns, of which there are as many: an empty one nothing, nor one below an input, and each other one thing
 -- of its column's output, in order.
@@ -49,7 +49,7 @@ pub record IsCaseTable (inputs : List Coded) (names : List (List ℕ)) (bytes : 
   pub columns : List Column
   pub records : records_of bytes ≡ first ∷ others
   pub header : is_table_header first ≡ true
-  pub known : AllZip (λ field column. field_said inputs names field ≡ Ok column) (drop 1 first) columns
+  pub known : AllZip (λ field column. parsed_field inputs names field ≡ Ok column) (drop 1 first) columns
   pub once : AreApart columns
   pub in_order : AllZip (IsCase inputs columns) others cases
   pub few : length cases ≤ ROWS

@@ -47,8 +47,8 @@ amount_expected line (Ok millionths) = Ok (Is (Num millionths))
 amount_expected line (Err why) = Err (BadExpected line)
 
 -- What a cell that isn't empty expects, in the record with this number: `undefined`, `over`, `stop` or an amount.
-abbrev pub expected_said : ℕ → List ℕ → Result Expected CasesFault
-expected_said line cell =
+abbrev pub parsed_expectation : ℕ → List ℕ → Result Expected CasesFault
+parsed_expectation line cell =
     if bytes_eq cell (codes "undefined") then Ok (Is Undef)
     else if bytes_eq cell (codes "over") then Ok (Is Over)
     else if bytes_eq cell (codes "stop") then Ok Stop
@@ -62,7 +62,7 @@ expected_read line before (column ∷ columns) [] = Ok before
 expected_read line before (Input input ∷ columns) (cell ∷ cells) = expected_read line before columns cells
 expected_read line before (Output output ∷ columns) (cell ∷ cells) =
     if length cell == 0 then expected_read line before columns cells
-    else if_read (λ expected. expected_read line (before ++ (output, expected) ∷ []) columns cells) (expected_said line cell)
+    else if_read (λ expected. expected_read line (before ++ (output, expected) ∷ []) columns cells) (parsed_expectation line cell)
 
 -- the case of a label, pairs and what is expected
 abbrev pub case_with : List ℕ → List (ℕ × ℤ) → List (ℕ × Expected) → Case
@@ -71,9 +71,9 @@ case_with label pairs expected = record { row = record { label = label; househol
 -- What the fields of the record with this number say below these columns: a label, of which nothing is said but that it is one, the pairs
 -- of the cells below inputs, and what the cells below outputs expect. An amount that is none decides before one that isn't of its input's
 -- type, and that before what can't be expected, wherever they stand.
-abbrev pub case_said : List Coded → ℕ → List Column → List (List ℕ) → Result Case CasesFault
-case_said inputs line columns [] = Err (BadRow line)
-case_said inputs line columns (label ∷ cells) =
+abbrev pub parsed_case : List Coded → ℕ → List Column → List (List ℕ) → Result Case CasesFault
+parsed_case inputs line columns [] = Err (BadRow line)
+parsed_case inputs line columns (label ∷ cells) =
     if (length cells == length columns) && is_label label
     then if_read (λ pairs. if_read (λ expected. Ok (case_with label pairs expected)) (expected_read line [] columns cells))
     (of_household (pairs_read inputs line (column_inputs columns) (input_cells columns cells)))
@@ -81,7 +81,7 @@ case_said inputs line columns (label ∷ cells) =
 
 -- what a record says after those of these cases: it may be one too many
 abbrev pub case_of : List Coded → List Column → List Case → List (List ℕ) → Result Case CasesFault
-case_of inputs columns before fields = if nat_le ROWS (length before) then Err TooManyRows else case_said inputs (line_behind (length before)) columns fields
+case_of inputs columns before fields = if nat_le ROWS (length before) then Err TooManyRows else parsed_case inputs (line_behind (length before)) columns fields
 
 -- what the records of a table of cases say
 abbrev pub cases_read : List Coded → List (List ℕ) → List (List (List ℕ)) → Result (List Case) CasesFault

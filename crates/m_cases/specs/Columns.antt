@@ -11,22 +11,22 @@ use Rattle.m_cases.specs.declared.fault.CasesFault.{CasesFault}
 use Rattle.m_cases.specs.declared.fault.CasesFault.TheVariants.{UnknownCode, UnknownOutput, CodeTwice}
 
 -- a column of amounts of an input
-abbrev pub input_said : Option ℕ → Result Column CasesFault
-input_said None = Err (UnknownCode 1)
-input_said (Some input) = Ok (Input input)
+abbrev pub input_declared : Option ℕ → Result Column CasesFault
+input_declared None = Err (UnknownCode 1)
+input_declared (Some input) = Ok (Input input)
 
 -- a column of what is expected of an output
-abbrev pub output_said : Option ℕ → Result Column CasesFault
-output_said None = Err (UnknownOutput 1)
-output_said (Some output) = Ok (Output output)
+abbrev pub parsed_output : Option ℕ → Result Column CasesFault
+parsed_output None = Err (UnknownOutput 1)
+parsed_output (Some output) = Ok (Output output)
 
 -- What a field of the first record says by itself: after an equals sign, which is the byte 61, the name of an output, of which the first
 -- that has the name is meant; and else the code of an input. `names` are the names of the outputs that have one, and the number of an
 -- output is its place among them: where the requests are `REV` and `IRN`, the field `=IRN` says the output 1.
-abbrev pub field_said : List Coded → List (List ℕ) → List ℕ → Result Column CasesFault
-field_said inputs names [] = input_said (index_of [] (codes_of inputs))
-field_said inputs names (byte ∷ bytes) =
-    if byte == 61 then output_said (index_of bytes names) else input_said (index_of (byte ∷ bytes) (codes_of inputs))
+abbrev pub parsed_field : List Coded → List (List ℕ) → List ℕ → Result Column CasesFault
+parsed_field inputs names [] = input_declared (index_of [] (codes_of inputs))
+parsed_field inputs names (byte ∷ bytes) =
+    if byte == 61 then parsed_output (index_of bytes names) else input_declared (index_of (byte ∷ bytes) (codes_of inputs))
 
 -- whether two columns are for one thing
 abbrev pub is_same_column : Column → Column → Bool
@@ -41,7 +41,7 @@ new_column before column = if list_any (is_same_column column) before then Err (
 
 -- What a field of the first record says after those of these columns.
 abbrev pub column_of : List Coded → List (List ℕ) → List Column → List ℕ → Result Column CasesFault
-column_of inputs names before field = if_read (new_column before) (field_said inputs names field)
+column_of inputs names before field = if_read (new_column before) (parsed_field inputs names field)
 
 -- the inputs of the columns of amounts, in order
 abbrev pub column_inputs : List Column → List ℕ

@@ -10,7 +10,7 @@ use Rattle.observables.specs.declared.answer.Answer.TheVariants.{Values, Stopped
 use Rattle.observables.specs.declared.face.Face.{Face}
 use Rattle.observables.specs.declared.face.FaceOutput.{FaceOutput}
 use Rattle.observables.specs.declared.face.FaceOutput.TheVariants.{Named, Noted}
-use Rattle.observables.specs.Answers.{Told, values, stopped}
+use Rattle.observables.specs.Answers.{Observation, values, stopped}
 use Rattle.m_cases.specs.declared.expected.Expected.{Expected}
 use Rattle.m_cases.specs.declared.expected.Expected.TheVariants.{Is, Stop}
 
@@ -25,9 +25,9 @@ named_values notes None = None
 named_values notes (Some vs) = Some (drop notes vs)
 
 -- the values of what is told, where it is no stop
-abbrev pub told_values : Told → Option (List Value)
-told_values (values notes vs) = Some vs
-told_values (stopped cause) = None
+abbrev pub observation_values : Observation → Option (List Value)
+observation_values (values notes vs) = Some vs
+observation_values (stopped cause) = None
 
 -- what one gets of the output with this number: its value, or a stop
 abbrev pub got_of : Option (List Value) → ℕ → Expected

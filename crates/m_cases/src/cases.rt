@@ -10,7 +10,7 @@ ghost use Rattle.household.specs.Household.{AreInputs, AreOfTypes};
 ghost use Rattle.household.specs.InTurn.{if_read, in_turn};
 ghost use Rattle.household.specs.Reader.{left_of};
 ghost use Rattle.household.specs.Table.{cells_read, is_table_header, pairs_read};
-ghost use Rattle.m_cases.specs.Cases.{AreExpected, amount_expected, case_of, case_said, cases_made, expected_read, expected_said, face_cases, numbered, numbered_cases, of_household};
+ghost use Rattle.m_cases.specs.Cases.{AreExpected, amount_expected, case_of, parsed_case, cases_made, expected_read, parsed_expectation, face_cases, numbered, numbered_cases, of_household};
 ghost use Rattle.m_cases.specs.Columns.{column_inputs, column_of, input_cells};
 ghost use Rattle.m_cases.specs.inner.Cells.{amounts_behind, expected_behind};
 ghost use Rattle.m_cases.specs.declared.expected.Expected.TheVariants.{Is, Stop};
@@ -140,8 +140,8 @@ fn read_case(
     codes: &Codes,
 ) -> Result<Case, CasesFault>
     ensures { Outcome Memory result
-        (λ read. case_said codes.now line columns.now (fields_of row.now) ≡ Ok read)
-        (λ fault. case_said codes.now line columns.now (fields_of row.now) ≡ Err fault) }
+        (λ read. parsed_case codes.now line columns.now (fields_of row.now) ≡ Ok read)
+        (λ fault. parsed_case codes.now line columns.now (fields_of row.now) ≡ Err fault) }
 {
     let label = field_at(row, 0);
     if row.len() != columns.len() + 1 || !is_label(label) {
@@ -273,10 +273,10 @@ fn put_expected(
     expected: &mut Vec<(u32, Expected)>,
 ) -> Result<(), CasesFault>
     ensures { Outcome Memory result
-        (λ _. if_read (λ one. Ok (expected.old.items ++ (output, one) ∷ [])) (expected_said line cell.now) ≡ Ok expected.new.items)
-        (λ fault. if_read (λ one. Ok (expected.old.items ++ (output, one) ∷ [])) (expected_said line cell.now) ≡ Err fault) }
+        (λ _. if_read (λ one. Ok (expected.old.items ++ (output, one) ∷ [])) (parsed_expectation line cell.now) ≡ Ok expected.new.items)
+        (λ fault. if_read (λ one. Ok (expected.old.items ++ (output, one) ∷ [])) (parsed_expectation line cell.now) ≡ Err fault) }
 {
-    match expected_said(cell, line)? {
+    match parsed_expectation(cell, line)? {
         Expected::Is(value) => Ok(push_value(output, value, expected)?),
         Expected::Stop => Ok(push_stop(output, expected)?),
     }
@@ -301,8 +301,8 @@ fn push_stop(output: u32, expected: &mut Vec<(u32, Expected)>) -> Result<(), All
 }
 
 // What a cell that isn't empty expects.
-fn expected_said(cell: &[u8], line: u32) -> Result<Expected, CasesFault>
-    ensures { result ≡ expected_said line cell.now }
+fn parsed_expectation(cell: &[u8], line: u32) -> Result<Expected, CasesFault>
+    ensures { result ≡ parsed_expectation line cell.now }
 {
     if cell == b"undefined".as_slice() {
         Ok(Expected::Is(Value::Undef))

@@ -8,7 +8,7 @@ ghost use Rattle.observables.specs.Inputs.{codes_of};
 ghost use Rattle.observables.specs.Outputs.{names_of};
 ghost use Rattle.m_cases.specs.declared.columns.Column.{Column};
 ghost use Rattle.household.specs.InTurn.{in_turn};
-ghost use Rattle.m_cases.specs.Columns.{column_of, field_said, input_said, is_same_column};
+ghost use Rattle.m_cases.specs.Columns.{column_of, parsed_field, input_declared, is_same_column};
 ghost use Rattle.m_cases.specs.inner.Outputs.{AreSeen, IsBelow};
 ghost use Rattle.m_cases.specs.declared.fault.CasesFault.TheVariants.{Memory};
 
@@ -77,7 +77,7 @@ fn fill_columns(
 {
     let mut columns = Vec::new(alloc);
     for place in 1..row.len() {
-        let column = field_said(field_at(row, place), codes, outputs)?;
+        let column = parsed_field(field_at(row, place), codes, outputs)?;
         if !see(seen, column) {
             return Err(CasesFault::CodeTwice(1));
         }
@@ -87,11 +87,11 @@ fn fill_columns(
 }
 
 // What a field of the first record says by itself.
-fn field_said(field: &[u8], codes: &Codes, outputs: &Outputs<'_>) -> Result<Column, CasesFault>
-    ensures { result ≡ field_said codes.now (names_of outputs.now.outputs.now) field.now }
+fn parsed_field(field: &[u8], codes: &Codes, outputs: &Outputs<'_>) -> Result<Column, CasesFault>
+    ensures { result ≡ parsed_field codes.now (names_of outputs.now.outputs.now) field.now }
 {
     if field.is_empty() || field[0] != b'=' {
-        return input_said(field, codes);
+        return input_declared(field, codes);
     }
     match outputs.find(&field[1..]) {
         Some(output) => Ok(Column::Output(output)),
@@ -99,8 +99,8 @@ fn field_said(field: &[u8], codes: &Codes, outputs: &Outputs<'_>) -> Result<Colu
     }
 }
 
-fn input_said(code: &[u8], codes: &Codes) -> Result<Column, CasesFault>
-    ensures { result ≡ input_said (index_of code.now (codes_of codes.now)) }
+fn input_declared(code: &[u8], codes: &Codes) -> Result<Column, CasesFault>
+    ensures { result ≡ input_declared (index_of code.now (codes_of codes.now)) }
 {
     match codes.find(code) {
         Some(input) => Ok(Column::Input(input)),

@@ -18,44 +18,44 @@ nothing None = refl
 nothing (Some bytes) = refl
 
 -- nothing was taken
-untouched : (heard told : InputView) (status : Status) → told ≡ heard → KeepsInputLimit heard told status
-untouched heard told status same = ([], ap (λ (v : InputView). v.left) (sym same) ∙ sym (nothing told.left), omega arith, λ full. absurd (omega (arith, full)))
+untouched : (heard reported : InputView) (status : Status) → reported ≡ heard → KeepsInputLimit heard reported status
+untouched heard reported status same = ([], ap (λ (v : InputView). v.left) (sym same) ∙ sym (nothing reported.left), omega arith, λ full. absurd (omega (arith, full)))
 
 -- less was taken than may be
-less : (heard told : InputView) (status : Status) (taken : List ℕ) → heard.left ≡ prepend_known taken told.left → length taken < INPUT_BYTES
-    → KeepsInputLimit heard told status
-less heard told status taken moved few = (taken, moved, omega (arith, few), λ full. absurd (omega (arith, few, full)))
+less : (heard reported : InputView) (status : Status) (taken : List ℕ) → heard.left ≡ prepend_known taken reported.left → length taken < INPUT_BYTES
+    → KeepsInputLimit heard reported status
+less heard reported status taken moved few = (taken, moved, omega (arith, few), λ full. absurd (omega (arith, few, full)))
 
 -- the line that says why was printed, or its write failed
-said : (text : List ℕ) (old new : OutputView) (status : Status) → Prints text Refused old new status → (status ≡ Refused) ⊎ (status ≡ WriteFault)
-said text old new status (inl p) = inl p.1
-said text old new status (inr p) = inr p.1
+stated : (text : List ℕ) (old new : OutputView) (status : Status) → Prints text Refused old new status → (status ≡ Refused) ⊎ (status ≡ WriteFault)
+stated text old new status (inl p) = inl p.1
+stated text old new status (inr p) = inr p.1
 
-session_bounded : (whole each : List ℕ → List ℕ) (heard told : InputView) (old new : OutputView) (status : Status)
-    → Served whole each heard told old new status → KeepsInputLimit heard told status
-session_bounded whole each heard told old new status (to_its_end taken moved few none calm appends is) = less heard told status taken moved few
-session_bounded whole each heard told old new status (unread taken moved few rose p) = less heard told status taken moved few
-session_bounded whole each heard told old new status (too_long taken moved full calm p) = (taken, moved, omega (arith, full), λ e. said _ old new status p)
-session_bounded whole each heard told old new status (unwritten taken moved within calm breaks is) = (taken, moved, within, λ full. inr is)
-session_bounded whole each heard told old new status (unwritten_at_end taken moved few none calm breaks is) = less heard told status taken moved few
+session_bounded : (whole each : List ℕ → List ℕ) (heard reported : InputView) (old new : OutputView) (status : Status)
+    → Served whole each heard reported old new status → KeepsInputLimit heard reported status
+session_bounded whole each heard reported old new status (to_its_end taken moved few none calm appends is) = less heard reported status taken moved few
+session_bounded whole each heard reported old new status (unread taken moved few rose p) = less heard reported status taken moved few
+session_bounded whole each heard reported old new status (too_long taken moved full calm p) = (taken, moved, omega (arith, full), λ e. stated _ old new status p)
+session_bounded whole each heard reported old new status (unwritten taken moved within calm breaks is) = (taken, moved, within, λ full. inr is)
+session_bounded whole each heard reported old new status (unwritten_at_end taken moved few none calm breaks is) = less heard reported status taken moved few
 
-work_bounded : (work : Work) (heard told : InputView) (old new : OutputView) (status : Status)
-    → WorkIsAnswered work heard told old new status → KeepsInputLimit heard told status
-work_bounded (Run source rows) heard told old new status a = untouched heard told status a.0
-work_bounded (Serve source rows) heard told old new status (serve.refused line r same p) = untouched heard told status same
-work_bounded (Serve source rows) heard told old new status (serve.no_memory same n m) = untouched heard told status same
-work_bounded (Serve source rows) heard told old new status (serve.served scheme explains pairs s done) = session_bounded _ _ heard told old new status done
-work_bounded (Batch source table) heard told old new status a = untouched heard told status a.0
-work_bounded (Large n) heard told old new status a = untouched heard told status a.0
-work_bounded (Compile source) heard told old new status a = untouched heard told status a.0
-work_bounded (Exec code rows) heard told old new status a = untouched heard told status a.0
-work_bounded (Check source rows report) heard told old new status a = untouched heard told status a.0
-work_bounded (Lint source) heard told old new status a = untouched heard told status a.0
-work_bounded (Cases source table) heard told old new status a = untouched heard told status a.0
+work_bounded : (work : Work) (heard reported : InputView) (old new : OutputView) (status : Status)
+    → WorkIsAnswered work heard reported old new status → KeepsInputLimit heard reported status
+work_bounded (Run source rows) heard reported old new status a = untouched heard reported status a.0
+work_bounded (Serve source rows) heard reported old new status (serve.refused line r same p) = untouched heard reported status same
+work_bounded (Serve source rows) heard reported old new status (serve.no_memory same n m) = untouched heard reported status same
+work_bounded (Serve source rows) heard reported old new status (serve.served scheme explains pairs s done) = session_bounded _ _ heard reported old new status done
+work_bounded (Batch source table) heard reported old new status a = untouched heard reported status a.0
+work_bounded (Large n) heard reported old new status a = untouched heard reported status a.0
+work_bounded (Compile source) heard reported old new status a = untouched heard reported status a.0
+work_bounded (Exec code rows) heard reported old new status a = untouched heard reported status a.0
+work_bounded (Check source rows report) heard reported old new status a = untouched heard reported status a.0
+work_bounded (Lint source) heard reported old new status a = untouched heard reported status a.0
+work_bounded (Cases source table) heard reported old new status a = untouched heard reported status a.0
 
-pub bounded_of : (words : List (List ℕ)) (before after : FilesView) (heard told : InputView) (old new : OutputView) (status : Status)
-    → Course words before after heard told old new status → KeepsInputLimit heard told status
-bounded_of words before after heard told old new status (is_no_command n s h p) = untouched heard told status h
-bounded_of words before after heard told old new status (has_no_memory s h o e) = untouched heard told status h
-bounded_of words before after heard told old new status (ended command ending c g h p) = untouched heard told status h
-bounded_of words before after heard told old new status (answered command work c g k a) = work_bounded work heard told old new status a
+pub bounded_of : (words : List (List ℕ)) (before after : FilesView) (heard reported : InputView) (old new : OutputView) (status : Status)
+    → Course words before after heard reported old new status → KeepsInputLimit heard reported status
+bounded_of words before after heard reported old new status (is_no_command n s h p) = untouched heard reported status h
+bounded_of words before after heard reported old new status (has_no_memory s h o e) = untouched heard reported status h
+bounded_of words before after heard reported old new status (ended command ending c g h p) = untouched heard reported status h
+bounded_of words before after heard reported old new status (answered command work c g k a) = work_bounded work heard reported old new status a

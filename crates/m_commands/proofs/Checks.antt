@@ -7,11 +7,11 @@ use Rattle.household.specs.Household.{household_of}
 use Rattle.m_symbols.specs.Declarations.{Declared}
 use Rattle.micro_m.specs.declared.base.Base.{Base}
 use Rattle.why_report.specs.Derivations.{IsFirstUnsound, IsSound}
-use Rattle.why_report.specs.Reports.{report_said}
+use Rattle.why_report.specs.Reports.{parsed_report}
 use Rattle.why_report.specs.declared.fault.ReportFault.{ReportFault}
 use Rattle.why_report.specs.declared.line.ReportLine.{ReportLine}
 use Rattle.why_report.proofs.FindingLaws.{no_sound_and_unsound, one_unsound}
-use Rattle.driver_core.specs.Inputs.{inputs_said}
+use Rattle.driver_core.specs.Inputs.{inputs_declared}
 use Rattle.m_compile.proofs.OneLaws.{no_base_and_base_fault, one_base_fault, one_rules}
 use Rattle.command_plans.specs.Status.{IsComplete}
 use Rattle.command_plans.specs.declared.status.Status.{Status}
@@ -72,8 +72,8 @@ one_check source rows report t u s r (check.is_checked declared base rules a) (c
 one_check source rows report t u s r (check.is_checked declared base rules a) (check.is_checked others other also b) =
     one_report others other rows report t u s r (over_same declared others base other rows report t s (one_rules source declared others base other rules also) a) b
 
-report_complete : (declared : Declared) (base : Base) (rows report text : List ℕ) (status : Status) (pairs : List (ℕ × ℤ)) (lines : List ReportLine) → household_of (inputs_said declared) rows ≡ Ok pairs
-    → report_said declared report ≡ Ok lines → IsSound base (given_by declared pairs) lines → ReportReplies declared base rows report text status → IsComplete status
+report_complete : (declared : Declared) (base : Base) (rows report text : List ℕ) (status : Status) (pairs : List (ℕ × ℤ)) (lines : List ReportLine) → household_of (inputs_declared declared) rows ≡ Ok pairs
+    → parsed_report declared report ≡ Ok lines → IsSound base (given_by declared pairs) lines → ReportReplies declared base rows report text status → IsComplete status
 report_complete declared base rows report text status pairs lines g i k (check.household_is_refused fault h l) = cc (g, h)
 report_complete declared base rows report text status pairs lines g i k (check.report_is_refused given fault h j l) = cc (i, j)
 report_complete declared base rows report text status pairs lines g i k (check.is_unsound given others position h j l) =
@@ -86,5 +86,5 @@ report_complete declared base rows report text status pairs lines g i k (check.i
 pub checked_complete : (source : Source) (rows report text : List ℕ) (status : Status) → CheckHasAnswer source rows report → CheckReplies source rows report text status → IsComplete status
 checked_complete source rows report text status h (check.rules_are_refused fault f k) = absurd (no_base_and_base_fault source.texts source.application h.declared h.base fault h.rules.made h.rules.no_cycle f)
 checked_complete source rows report text status h (check.is_checked declared base rules a) =
-    report_complete h.declared h.base rows report text status h.pairs h.lines h.given h.said h.sound
+    report_complete h.declared h.base rows report text status h.pairs h.lines h.given h.stated h.sound
     (over_same declared h.declared base h.base rows report text status (one_rules source declared h.declared base h.base rules h.rules) a)

@@ -11,7 +11,7 @@ use Rattle.code_file.proofs.FormLaws.{no-fault-of-form, one-form}
 use Rattle.household.specs.Household.{household_of, values_of}
 use Rattle.household.specs.declared.fault.HouseholdFault.{HouseholdFault}
 use Rattle.household.proofs.GivenLemmas.{household_gives}
-use Rattle.observables.specs.Answers.{told_of}
+use Rattle.observables.specs.Answers.{observation}
 use Rattle.observables.specs.Outputs.{names_of, notes_of}
 use Rattle.observables.specs.declared.answer.Answer.{Answer}
 use Rattle.observables.specs.declared.face.Face.{Face}
@@ -20,15 +20,15 @@ use Rattle.m_compile.specs.Faults.{IsSourceFault}
 use Rattle.m_compile.specs.declared.fault.SourceFault.{SourceFault}
 use Rattle.m_compile.proofs.OneLaws.{no_valid_and_fault, one_fault}
 use Rattle.command_plans.specs.declared.status.Status.{Status}
-use Rattle.tax_print.specs.Lines.{told_lines}
+use Rattle.tax_print.specs.Lines.{observation_lines}
 use Rattle.command_answers.specs.Compiles.{CompileReplies, CompileHasAnswer}
 use Rattle.command_answers.specs.Compiles as compiles
 use Rattle.code_answers.specs.Execs.{ExecReplies, ExecHasAnswer, code_fault_line}
 use Rattle.code_answers.specs.Execs as exec
-use Rattle.code_answers.specs.Households.{told_status}
+use Rattle.code_answers.specs.Households.{observation_status}
 use Rattle.code_answers.specs.Shown.{HouseholdReplies, Shows}
 use Rattle.code_answers.specs.Shown as prepared
-use Rattle.code_answers.specs.Schemes.{Scheme, told_to}
+use Rattle.code_answers.specs.Schemes.{Scheme, observation_for}
 use Rattle.command_answers.specs.Sources.{IsScheme}
 use Rattle.m_commands.specs.Output.{AreOneOutput, the_same, both_compiled}
 use Rattle.m_commands.proofs.Schemes.{one_line, same_line}
@@ -61,9 +61,9 @@ pub one_inputs : (face : Face) (runs : List Value → Answer) (one other : Schem
 one_inputs face runs one other a b = sym a.inputs ∙ b.inputs
 
 -- and so is what is told to a household
-pub one_told : (face : Face) (runs : List Value → Answer) (one other : Scheme) (rows : List ℕ) (pairs : List (ℕ × ℤ)) → Shows one face runs → Shows other face runs
-    → household_of one.inputs rows ≡ Ok pairs → household_of other.inputs rows ≡ Ok pairs → told_to one pairs ≡ told_to other pairs
-one_told face runs one other rows pairs a b g h =
+pub one_reported : (face : Face) (runs : List Value → Answer) (one other : Scheme) (rows : List ℕ) (pairs : List (ℕ × ℤ)) → Shows one face runs → Shows other face runs
+    → household_of one.inputs rows ≡ Ok pairs → household_of other.inputs rows ≡ Ok pairs → observation_for one pairs ≡ observation_for other pairs
+one_reported face runs one other rows pairs a b g h =
     let n : length one.inputs ≡ length other.inputs = ap length (one_inputs face runs one other a b) in
     let x = a.answers (values_of pairs (length one.inputs)) (household_gives one.inputs rows pairs g) in
     let y = b.answers (values_of pairs (length other.inputs)) (household_gives other.inputs rows pairs h) in
@@ -74,7 +74,7 @@ pub shown_other : (scheme : Scheme) (one other : Loaded) → IsSameCode one othe
 shown_other scheme one other same s = record {
   inputs = sym same.inputs ∙ s.inputs;
   names = ap names_of (sym same.outputs) ∙ s.names;
-  answers = λ values given. (λ i. told_of (sym same.labels i) (notes_of (sym same.outputs i)) (machine_run (sym same.code i) values)) ∙ s.answers values given;
+  answers = λ values given. (λ i. observation (sym same.labels i) (notes_of (sym same.outputs i)) (machine_run (sym same.code i) values)) ∙ s.answers values given;
 }
 
 -- a household is answered in one way by what the code is to it
@@ -84,18 +84,18 @@ one_answer face runs one other rows t u s r a b (prepared.is_refused fault g k) 
     let f : household_of other.inputs rows ≡ Err fault = subst (λ inputs. household_of inputs rows ≡ Err fault) (one_inputs face runs one other a b) g in
     let e : fault ≡ also = cc (f, h) in
     the_same (same_line fault also t u e k l) refl
-one_answer face runs one other rows t u s r a b (prepared.is_refused fault g k) (prepared.is_told pairs h) =
+one_answer face runs one other rows t u s r a b (prepared.is_refused fault g k) (prepared.is_reported pairs h) =
     let f : household_of other.inputs rows ≡ Err fault = subst (λ inputs. household_of inputs rows ≡ Err fault) (one_inputs face runs one other a b) g in
     cc (f, h)
-one_answer face runs one other rows t u s r a b (prepared.is_told pairs g) (prepared.is_refused fault h k) =
+one_answer face runs one other rows t u s r a b (prepared.is_reported pairs g) (prepared.is_refused fault h k) =
     let f : household_of other.inputs rows ≡ Ok pairs = subst (λ inputs. household_of inputs rows ≡ Ok pairs) (one_inputs face runs one other a b) g in
     cc (f, h)
-one_answer face runs one other rows t u s r a b (prepared.is_told pairs g) (prepared.is_told given h) =
+one_answer face runs one other rows t u s r a b (prepared.is_reported pairs g) (prepared.is_reported given h) =
     let f : household_of other.inputs rows ≡ Ok pairs = subst (λ inputs. household_of inputs rows ≡ Ok pairs) (one_inputs face runs one other a b) g in
     let p : given ≡ pairs = cc (f, h) in
-    let e = one_told face runs one other rows pairs a b g f ∙ ap (told_to other) (sym p) in
+    let e = one_reported face runs one other rows pairs a b g f ∙ ap (observation_for other) (sym p) in
     let n : one.names ≡ other.names = sym a.names ∙ b.names in
-    the_same (λ i. told_lines (n i) (e i)) (ap told_status e)
+    the_same (λ i. observation_lines (n i) (e i)) (ap observation_status e)
 
 -- two lines of one fault of a code file
 one_code_line : (fault other : CodeFault) (t u : List ℕ) → fault ≡ other → code_fault_line fault ≡ Some t → code_fault_line other ≡ Some u → t ≡ u
@@ -115,7 +115,7 @@ one_exec code rows t u s r (exec.is_answered one scheme form shown h) (exec.is_a
 
 -- a code file that has an answer has no fault
 pub code_not_refused : (code rows line : List ℕ) (fault : CodeFault) → ExecHasAnswer code rows → IsCodeFault code fault → code_fault_line fault ≡ Some line → ⊥
-code_not_refused code rows line fault h is told = no_form_and_fault code line h.loaded fault h.form is told
+code_not_refused code rows line fault h is reported = no_form_and_fault code line h.loaded fault h.form is reported
 
 -- nor has the household
 pub rows_not_refused : (code rows : List ℕ) (loaded : Loaded) (scheme : Scheme) (fault : HouseholdFault) → ExecHasAnswer code rows → IsFormOf code loaded

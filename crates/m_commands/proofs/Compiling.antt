@@ -5,7 +5,7 @@ use Rattle.code_file.specs.Reading.{IsFormOf}
 use Rattle.code_file.specs.declared.loaded.Loaded.{Loaded}
 use Rattle.tax_print.specs.FaultLines.{too_long_line}
 use Rattle.m_places.specs.declared.source.Source.{Source}
-use Rattle.command_plans.specs.Plan.{Plan, End, done, refuses, asks, and_then, asked, end_of, gathered, refused}
+use Rattle.command_plans.specs.Plan.{Plan, End, done, refuses, fetches, and_then, wanted, end_of, gathered, refused}
 use Rattle.command_plans.specs.Views.{Disk, FilesView, InputView, OutputView}
 use Rattle.command_plans.specs.declared.status.Status.{Status}
 use Rattle.command_plans.specs.declared.status.Status.TheVariants.{Done}
@@ -33,7 +33,7 @@ of_test name f w one other false h e = absurd (cc e)
 
 of_file : {A B : Type 0} (name : List ℕ) (limit : ℕ) (f : A → B) (w : B) (one : List ℕ → End B) (other : List ℕ → End A) (found : Option (List ℕ))
     → ((bytes : List ℕ) → one bytes ≡ gathered w → (a : A) × (w ≡ f a) × (other bytes ≡ gathered a))
-    → asked name limit one found ≡ gathered w → (a : A) × (w ≡ f a) × (asked name limit other found ≡ gathered a)
+    → wanted name limit one found ≡ gathered w → (a : A) × (w ≡ f a) × (wanted name limit other found ≡ gathered a)
 of_file name limit f w one other None h e = absurd (cc e)
 of_file name limit f w one other (Some bytes) h e = of_test name f w (one bytes) (other bytes) (nat_le (length bytes) limit) (h bytes) e
 
@@ -41,14 +41,14 @@ of_file name limit f w one other (Some bytes) h e = of_test name f w (one bytes)
 gathers_made : {A B : Type 0} (disk : Disk) (plan : Plan A) (f : A → B) (w : B) → end_of disk (and_then plan (λ a. done (f a))) ≡ gathered w → (a : A) × (w ≡ f a) × (end_of disk plan ≡ gathered a)
 gathers_made disk (done all) f w e = let s : f all ≡ w = cc e in (all, sym s, refl)
 gathers_made disk (refuses line) f w e = absurd (cc e)
-gathers_made disk (asks name limit behind) f w e =
+gathers_made disk (fetches name limit behind) f w e =
     of_file name limit f w (λ bytes. end_of disk (and_then (behind bytes) (λ a. done (f a)))) (λ bytes. end_of disk (behind bytes)) (disk name) (λ bytes i. gathers_made disk (behind bytes) f w i) e
 
 -- ---- `compile`
 
 -- what a compilation that did its work has written
 pub written : (source : Source) (text : List ℕ) (status : Status) → status ≡ Done → CompileReplies source text status → (loaded : Loaded) × IsPreparedCode source loaded × IsFormOf text loaded
-written source text status d (is_refused fault f told) = absurd (cc d)
+written source text status d (is_refused fault f reported) = absurd (cc d)
 written source text status d (is_compiled loaded is form) = (loaded, is, form)
 
 code_output : (words : List (List ℕ)) (disk : Disk) (names : SourceNames) (text : List ℕ) (status : Status) → command_of words ≡ Some (Compile names) → status ≡ Done → Output words disk [] text status
@@ -63,9 +63,9 @@ code_output words disk names text status c d (answers command gathers e g r) =
     let w = written m.0 text status d q in
     (m.0, w.0, m.2, w.1, w.2)
 
-pub writes_of : (words : List (List ℕ)) (before after : FilesView) (heard told : InputView) (old new : OutputView) (status : Status) → Course words before after heard told old new status → WritesCode words before old new status
-writes_of words before after heard told old new status course disk names t c d =
+pub writes_of : (words : List (List ℕ)) (before after : FilesView) (heard reported : InputView) (old new : OutputView) (status : Status) → Course words before after heard reported old new status → WritesCode words before old new status
+writes_of words before after heard reported old new status course disk names t c d =
     let r : reads_input words ≡ false = ap (λ o. option_map_or takes_input o false) c in
-    let o = text_of words before after heard told old new status course disk [] (λ _. t) (λ s. cc (r, s)) (rw d tt) in
+    let o = text_of words before after heard reported old new status course disk [] (λ _. t) (λ s. cc (r, s)) (rw d tt) in
     let w = code_output words disk names o.0 status c d o.2 in
     (w.0, w.1, o.0, w.2, w.3, w.4, o.1)

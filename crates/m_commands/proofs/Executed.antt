@@ -9,21 +9,21 @@ use Rattle.observables.specs.declared.face.Face.{Face}
 use Rattle.reg_machine.specs.Machine.{machine_run}
 use Rattle.command_plans.specs.declared.status.Status.{Status}
 use Rattle.command_plans.specs.declared.status.Status.TheVariants.{Done}
-use Rattle.tax_print.specs.Lines.{told_lines}
+use Rattle.tax_print.specs.Lines.{observation_lines}
 use Rattle.code_file.specs.Reading.{IsFormOf}
 use Rattle.code_answers.specs.Execs.{ExecReplies, ExecHasAnswer}
 use Rattle.code_answers.specs.Execs as exec
-use Rattle.code_answers.specs.Households.{told_status}
+use Rattle.code_answers.specs.Households.{observation_status}
 use Rattle.code_answers.specs.Shown.{HouseholdReplies, Shows}
 use Rattle.code_answers.specs.Shown as prepared
-use Rattle.code_answers.specs.Schemes.{Scheme, told_to}
+use Rattle.code_answers.specs.Schemes.{Scheme, observation_for}
 use Rattle.command_answers.specs.Compiles.{CompileReplies}
 use Rattle.command_answers.specs.Prepared.{IsPreparedCode}
 use Rattle.command_answers.specs.Runs.{RunReplies, RunHasAnswer}
 use Rattle.command_answers.specs.Runs as run
 use Rattle.command_answers.specs.Sources.{IsScheme, source_is_refused, households_are_refused}
 use Rattle.m_compile.proofs.OneLaws.{no_valid_and_fault}
-use Rattle.m_commands.proofs.Codes.{no_form_and_fault, one_inputs, one_loaded, one_told, shown_other}
+use Rattle.m_commands.proofs.Codes.{no_form_and_fault, one_inputs, one_loaded, one_reported, shown_other}
 use Rattle.m_commands.proofs.Compiling.{written}
 use Rattle.m_commands.proofs.Schemes.{one_scheme}
 
@@ -32,19 +32,19 @@ same_replies : (face : Face) (runs : List Value → Answer) (one other : Scheme)
     → HouseholdReplies [] one rows text status → HouseholdReplies [] other rows text status
 same_replies face runs one other rows text status a b (prepared.is_refused fault g k) =
     prepared.is_refused fault (subst (λ inputs. household_of inputs rows ≡ Err fault) (one_inputs face runs one other a b) g) k
-same_replies face runs one other rows text status a b (prepared.is_told pairs g) =
+same_replies face runs one other rows text status a b (prepared.is_reported pairs g) =
     let f : household_of other.inputs rows ≡ Ok pairs = subst (λ inputs. household_of inputs rows ≡ Ok pairs) (one_inputs face runs one other a b) g in
-    let e : told_to other pairs ≡ told_to one pairs = sym (one_told face runs one other rows pairs a b g f) in
+    let e : observation_for other pairs ≡ observation_for one pairs = sym (one_reported face runs one other rows pairs a b g f) in
     let n : other.names ≡ one.names = sym b.names ∙ a.names in
-    let t : told_lines other.names (told_to other pairs) ≡ told_lines one.names (told_to one pairs) = λ i. told_lines (n i) (e i) in
-    let r : HouseholdReplies [] other rows (told_lines other.names (told_to other pairs)) (told_status (told_to other pairs)) = prepared.is_told pairs f in
-    subst (λ (s : Status). HouseholdReplies [] other rows (told_lines one.names (told_to one pairs)) s) (ap told_status e)
-    (subst (λ (x : List ℕ). HouseholdReplies [] other rows x (told_status (told_to other pairs))) t r)
+    let t : observation_lines other.names (observation_for other pairs) ≡ observation_lines one.names (observation_for one pairs) = λ i. observation_lines (n i) (e i) in
+    let r : HouseholdReplies [] other rows (observation_lines other.names (observation_for other pairs)) (observation_status (observation_for other pairs)) = prepared.is_reported pairs f in
+    subst (λ (s : Status). HouseholdReplies [] other rows (observation_lines one.names (observation_for one pairs)) s) (ap observation_status e)
+    (subst (λ (x : List ℕ). HouseholdReplies [] other rows x (observation_status (observation_for other pairs))) t r)
 
 -- what is answered to a household by the scheme of a source is what `run` answers
 run_of : (source : Source) (scheme : Scheme) (rows text : List ℕ) (status : Status) → IsScheme source scheme → HouseholdReplies [] scheme rows text status → RunReplies source rows text status
 run_of source scheme rows text status v (prepared.is_refused fault g k) = run.is_refused (households_are_refused scheme fault v g k)
-run_of source scheme rows text status v (prepared.is_told pairs g) = run.is_told scheme pairs v g
+run_of source scheme rows text status v (prepared.is_reported pairs g) = run.is_reported scheme pairs v g
 
 -- what `exec` answers by a code file of what a source is compiled to, `run` answers by the source
 executed : (source : Source) (loaded : Loaded) (code rows text : List ℕ) (status : Status) → IsPreparedCode source loaded → IsFormOf code loaded → ExecReplies code rows text status
@@ -62,11 +62,11 @@ shown_by source loaded scheme p v = subst (λ (s : Scheme). Shows s loaded.face 
 -- and what `run` answers by the source, `exec` answers by the code file
 ran : (source : Source) (loaded : Loaded) (code rows text : List ℕ) (status : Status) → IsPreparedCode source loaded → IsFormOf code loaded → RunReplies source rows text status
     → ExecReplies code rows text status
-ran source loaded code rows text status p form (run.is_refused (source_is_refused fault is told)) =
+ran source loaded code rows text status p form (run.is_refused (source_is_refused fault is reported)) =
     absurd (no_valid_and_fault source p.valid.declared p.valid.base p.valid.written p.valid.requests fault p.valid.valid is)
 ran source loaded code rows text status p form (run.is_refused (households_are_refused scheme fault v g k)) =
     exec.is_answered loaded scheme form (shown_by source loaded scheme p v) (prepared.is_refused fault g k)
-ran source loaded code rows text status p form (run.is_told scheme pairs v g) = exec.is_answered loaded scheme form (shown_by source loaded scheme p v) (prepared.is_told pairs g)
+ran source loaded code rows text status p form (run.is_reported scheme pairs v g) = exec.is_answered loaded scheme form (shown_by source loaded scheme p v) (prepared.is_reported pairs g)
 
 -- ---- what `compile` has written
 

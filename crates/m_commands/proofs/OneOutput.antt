@@ -15,13 +15,13 @@ use Rattle.command_plans.specs.Views.{Disk}
 use Rattle.command_plans.specs.declared.status.Status.{Status}
 use Rattle.command_plans.specs.declared.status.Status.TheVariants.{Done, Refused}
 use Rattle.why_session.specs.Explains.{Explaining}
-use Rattle.tax_print.specs.Lines.{told_lines}
+use Rattle.tax_print.specs.Lines.{observation_lines}
 use Rattle.command_answers.specs.Batches as batch
-use Rattle.code_answers.specs.Households.{told_status}
+use Rattle.code_answers.specs.Households.{observation_status}
 use Rattle.command_answers.specs.LargeAnswers as large
 use Rattle.code_answers.specs.Larges.{large_line}
 use Rattle.command_answers.specs.Runs as run
-use Rattle.code_answers.specs.Schemes.{Scheme, told_to}
+use Rattle.code_answers.specs.Schemes.{Scheme, observation_for}
 use Rattle.command_answers.specs.Serves.{IsSession}
 use Rattle.command_answers.specs.Serves as serve
 use Rattle.command_answers.specs.Sessions.{ended_replies, session_replies}
@@ -37,41 +37,41 @@ use Rattle.m_commands.proofs.Cases.{one_cases}
 use Rattle.m_commands.proofs.Checks.{one_check}
 use Rattle.m_commands.proofs.Codes.{one_compile, one_exec}
 use Rattle.m_commands.proofs.Lints.{one_lint}
-use Rattle.m_commands.proofs.Schemes.{not_refused, one_refusal, one_scheme, said_other}
+use Rattle.m_commands.proofs.Schemes.{not_refused, one_refusal, one_scheme, stated_other}
 
 -- the pairs of a household are the same by one scheme and by the other
 one_pairs : (source : Source) (rows : List ℕ) (one other : Scheme) (pairs given : List (ℕ × ℤ)) → IsScheme source one → IsScheme source other
     → household_of one.inputs rows ≡ Ok pairs → household_of other.inputs rows ≡ Ok given → pairs ≡ given
-one_pairs source rows one other pairs given a b p q = let c = said_other source (λ inputs. household_of inputs rows) (Ok pairs) one other a b p in cc (c, q)
+one_pairs source rows one other pairs given a b p q = let c = stated_other source (λ inputs. household_of inputs rows) (Ok pairs) one other a b p in cc (c, q)
 
 one_rows : (source : Source) (table : List ℕ) (one other : Scheme) (rows given : List Row) → IsScheme source one → IsScheme source other
     → table_of one.inputs table ≡ Ok rows → table_of other.inputs table ≡ Ok given → rows ≡ given
-one_rows source table one other rows given a b p q = let c = said_other source (λ inputs. table_of inputs table) (Ok rows) one other a b p in cc (c, q)
+one_rows source table one other rows given a b p q = let c = stated_other source (λ inputs. table_of inputs table) (Ok rows) one other a b p in cc (c, q)
 
 -- ---- runs and `large N`
 
 one_run : (source : Source) (rows t u : List ℕ) (s r : Status) → run.RunReplies source rows t s → run.RunReplies source rows u r → AreOneOutput t s u r
 one_run source rows t u s r (run.is_refused a) (run.is_refused b) = one_refusal source (λ inputs. household_of inputs rows) t u a b
-one_run source rows t u s r (run.is_refused a) (run.is_told scheme pairs v g) = absurd (not_refused source (λ inputs. household_of inputs rows) t scheme pairs v g a)
-one_run source rows t u s r (run.is_told scheme pairs v g) (run.is_refused b) = absurd (not_refused source (λ inputs. household_of inputs rows) u scheme pairs v g b)
-one_run source rows t u s r (run.is_told one pairs v g) (run.is_told other given w h) =
+one_run source rows t u s r (run.is_refused a) (run.is_reported scheme pairs v g) = absurd (not_refused source (λ inputs. household_of inputs rows) t scheme pairs v g a)
+one_run source rows t u s r (run.is_reported scheme pairs v g) (run.is_refused b) = absurd (not_refused source (λ inputs. household_of inputs rows) u scheme pairs v g b)
+one_run source rows t u s r (run.is_reported one pairs v g) (run.is_reported other given w h) =
     let e = one_scheme source one other v w in
     let p = one_pairs source rows one other pairs given v w g h in
-    the_same (λ i. told_lines (e i).names (told_to (e i) (p i))) (λ i. told_status (told_to (e i) (p i)))
+    the_same (λ i. observation_lines (e i).names (observation_for (e i) (p i))) (λ i. observation_status (observation_for (e i) (p i)))
 
 one_large : (n : ℕ) (t u : List ℕ) (s r : Status) → large.LargeReplies n t s → large.LargeReplies n u r → AreOneOutput t s u r
-one_large n t u s r (large.is_told one pairs v g) (large.is_told other given w h) =
+one_large n t u s r (large.is_reported one pairs v g) (large.is_reported other given w h) =
     let e = one_scheme (large_source n) one other v w in
     let p = one_pairs (large_source n) (household_text n) one other pairs given v w g h in
-    the_same (λ i. large_line n ++ told_lines (e i).names (told_to (e i) (p i))) (λ i. told_status (told_to (e i) (p i)))
+    the_same (λ i. large_line n ++ observation_lines (e i).names (observation_for (e i) (p i))) (λ i. observation_status (observation_for (e i) (p i)))
 
 -- ---- batches
 
 one_batch : (source : Source) (table t u : List ℕ) (s r : Status) → batch.BatchReplies source table t s → batch.BatchReplies source table u r → AreOneOutput t s u r
 one_batch source table t u s r (batch.is_refused a) (batch.is_refused b) = one_refusal source (λ inputs. table_of inputs table) t u a b
-one_batch source table t u s r (batch.is_refused a) (batch.is_told scheme rows v g) = absurd (not_refused source (λ inputs. table_of inputs table) t scheme rows v g a)
-one_batch source table t u s r (batch.is_told scheme rows v g) (batch.is_refused b) = absurd (not_refused source (λ inputs. table_of inputs table) u scheme rows v g b)
-one_batch source table t u s r (batch.is_told one rows v g) (batch.is_told other given w h) =
+one_batch source table t u s r (batch.is_refused a) (batch.is_reported scheme rows v g) = absurd (not_refused source (λ inputs. table_of inputs table) t scheme rows v g a)
+one_batch source table t u s r (batch.is_reported scheme rows v g) (batch.is_refused b) = absurd (not_refused source (λ inputs. table_of inputs table) u scheme rows v g b)
+one_batch source table t u s r (batch.is_reported one rows v g) (batch.is_reported other given w h) =
     let e = one_scheme source one other v w in
     let p = one_rows source table one other rows given v w g h in
     the_same (λ i. rows_lines (e i) (p i)) refl

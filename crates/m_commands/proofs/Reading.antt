@@ -20,13 +20,13 @@ use Rattle.command_plans.specs.declared.status.Status.TheVariants.{Refused, Usag
 use Rattle.m_ports.specs.Counts.{Rose}
 use Rattle.command_plans.proofs.Walks.{walks_in_order, walks_fit}
 use Rattle.m_commands.specs.Command.{command_of, plan_of, reads_input}
-use Rattle.m_commands.specs.Clauses.{ReadsInOrder, TellsOfInput, cuts_off}
+use Rattle.m_commands.specs.Clauses.{ReadsInOrder, ReportsInput, cuts_off}
 use Rattle.m_commands.specs.Output.{fetches_of}
 use Rattle.m_commands.specs.declared.command.Command.{Command}
 use Rattle.m_commands.specs.declared.work.Work.{Work}
 use Rattle.m_commands.specs.inner.Courses.{Course, IsWorkOf, is_no_command, has_no_memory, ended, answered}
 use Rattle.m_commands.proofs.Clauses.{gathers}
-use Rattle.m_commands.proofs.Ways.{Way, way_of, tells, lacks_memory, breaks_off, serves_all, serves_part, serves_most, serves_front, serve_reads}
+use Rattle.m_commands.proofs.Ways.{Way, way_of, observe, lacks_memory, breaks_off, serves_all, serves_part, serves_most, serves_front, serve_reads}
 
 abbrev first_or : Attempt → List Attempt → Attempt
 first_or a [] = a
@@ -44,20 +44,20 @@ none_last (m ∷ made) (b ∷ before) name h e = none_last made before name h.1 
 
 -- the names that a command tried, in order
 in_order_of : (words : List (List ℕ)) (before after : FilesView) (command : Command) (result : Result Work Ending) (disk : Disk) → command_of words ≡ Some command
-    → (g : GoesAlong (plan_of command) before after result) → before.told ≡ Some disk → BeginsWith (fetches_of words disk) (names_tried g.made)
+    → (g : GoesAlong (plan_of command) before after result) → before.known_files ≡ Some disk → BeginsWith (fetches_of words disk) (names_tried g.made)
 in_order_of words before after command result disk c g t =
-    let r = walks_in_order before.told disk (plan_of command) g.made g.spent result g.walk t in
+    let r = walks_in_order before.known_files disk (plan_of command) g.made g.spent result g.walk t in
     (r.0, ap (λ o. option_map_or (λ (x : Command). names_fetched disk (plan_of x)) o []) c ∙ r.1)
 
 -- a read fault, if there is one, is of the input
 abbrev OfInput : List (List ℕ) → FilesView → InputView → InputView → OutputView → OutputView → Status → Type 0
-OfInput words before heard told old new status = status ≡ ReadFault → (reads_input words ≡ true) × Rose heard.faults told.faults × TellsOfInput words before heard told old new
+OfInput words before heard reported old new status = status ≡ ReadFault → (reads_input words ≡ true) × Rose heard.faults reported.faults × ReportsInput words before heard reported old new
 
 -- no attempt failed
-reading_none : (words : List (List ℕ)) (before after : FilesView) (heard told : InputView) (old new : OutputView) (status : Status) (made : List Attempt) → after.attempts ≡ before.attempts ++ made
-    → ((disk : Disk) → before.told ≡ Some disk → BeginsWith (fetches_of words disk) (names_tried made)) → NoneFailed made → OfInput words before heard told old new status
-    → ReadsInOrder words before after heard told old new status
-reading_none words before after heard told old new status made a i n r = record {
+reading_none : (words : List (List ℕ)) (before after : FilesView) (heard reported : InputView) (old new : OutputView) (status : Status) (made : List Attempt) → after.attempts ≡ before.attempts ++ made
+    → ((disk : Disk) → before.known_files ≡ Some disk → BeginsWith (fetches_of words disk) (names_tried made)) → NoneFailed made → OfInput words before heard reported old new status
+    → ReadsInOrder words before after heard reported old new status
+reading_none words before after heard reported old new status made a i n r = record {
   made = made;
   appended = a;
   in_order = i;
@@ -72,21 +72,21 @@ not_read text own old new status unlike (inl p) e = unlike (sym p.1 ∙ e)
 not_read text own old new status unlike (inr p) e = cc (p.1, e)
 
 -- nothing was fetched
-still : (words : List (List ℕ)) (before after : FilesView) (heard told : InputView) (old new : OutputView) (status : Status) → after ≡ before → (status ≡ ReadFault → ⊥) → ReadsInOrder words before after heard told old new status
-still words before after heard told old new status s r =
-    reading_none words before after heard told old new status [] (ap (λ (v : FilesView). v.attempts) s ∙ sym (append-nil before.attempts)) (λ disk t. (fetches_of words disk, refl)) tt
+still : (words : List (List ℕ)) (before after : FilesView) (heard reported : InputView) (old new : OutputView) (status : Status) → after ≡ before → (status ≡ ReadFault → ⊥) → ReadsInOrder words before after heard reported old new status
+still words before after heard reported old new status s r =
+    reading_none words before after heard reported old new status [] (ap (λ (v : FilesView). v.attempts) s ∙ sym (append-nil before.attempts)) (λ disk t. (fetches_of words disk, refl)) tt
     (λ e. absurd (r e))
 
 -- the last attempt failed, and was told
-last_told : (words : List (List ℕ)) (before after : FilesView) (heard told : InputView) (old new : OutputView) (status : Status) (command : Command) (name : List ℕ) → command_of words ≡ Some command
-    → GoesAlong (plan_of command) before after (Err (ending.Unreadable name)) → Prints (unreadable_line name) ReadFault old new status → ReadsInOrder words before after heard told old new status
-last_told words before after heard told old new status command name c g p = record {
+last_reported : (words : List (List ℕ)) (before after : FilesView) (heard reported : InputView) (old new : OutputView) (status : Status) (command : Command) (name : List ℕ) → command_of words ≡ Some command
+    → GoesAlong (plan_of command) before after (Err (ending.Unreadable name)) → Prints (unreadable_line name) ReadFault old new status → ReadsInOrder words before after heard reported old new status
+last_reported words before after heard reported old new status command name c g p = record {
   made = g.made;
   appended = g.attempts;
   in_order = λ disk t. in_order_of words before after command (Err (ending.Unreadable name)) disk c g t;
-  at_most_last = inr (name, walks_fit before.told (plan_of command) g.made g.spent (Err (ending.Unreadable name)) g.walk);
+  at_most_last = inr (name, walks_fit before.known_files (plan_of command) g.made g.spent (Err (ending.Unreadable name)) g.walk);
   failed = λ other l. either p;
-  cause = λ e. inl (name, walks_fit before.told (plan_of command) g.made g.spent (Err (ending.Unreadable name)) g.walk, whole p e);
+  cause = λ e. inl (name, walks_fit before.known_files (plan_of command) g.made g.spent (Err (ending.Unreadable name)) g.walk, whole p e);
 }
   where
     either : Prints (unreadable_line name) ReadFault old new status → (status ≡ ReadFault) ⊎ (status ≡ WriteFault)
@@ -102,32 +102,32 @@ whole : (text : List ℕ) (old new : OutputView) (status : Status) → Prints te
 whole text old new status (inl q) e = q.0.0
 whole text old new status (inr q) e = cc (q.1, e)
 
-reading_way : (words : List (List ℕ)) (before after : FilesView) (heard told : InputView) (old new : OutputView) (status : Status) (command : Command) (work : Work) → command_of words ≡ Some command
-    → GoesAlong (plan_of command) before after (Ok work) → IsWorkOf command work → Way work heard told old new status → OfInput words before heard told old new status
-reading_way words before after heard told old new status command work c g k (tells text own r o same p) = λ e. absurd (not_read text own old new status (λ x. subst IsOfEnd x o) p e)
-reading_way words before after heard told old new status command work c g k (lacks_memory same n m) = λ e. cc (m, e)
-reading_way words before after heard told old new status command work c g k (breaks_off text own r b same a n m) = λ e. cc (m, e)
-reading_way words before after heard told old new status command work c g k (serves_all taken text s moved none calm r a is) = λ e. cc (is, e)
-reading_way words before after heard told old new status command work c g k (serves_part taken text s moved rose cut p) = λ e. (
+reading_way : (words : List (List ℕ)) (before after : FilesView) (heard reported : InputView) (old new : OutputView) (status : Status) (command : Command) (work : Work) → command_of words ≡ Some command
+    → GoesAlong (plan_of command) before after (Ok work) → IsWorkOf command work → Way work heard reported old new status → OfInput words before heard reported old new status
+reading_way words before after heard reported old new status command work c g k (observe text own r o same p) = λ e. absurd (not_read text own old new status (λ x. subst IsOfEnd x o) p e)
+reading_way words before after heard reported old new status command work c g k (lacks_memory same n m) = λ e. cc (m, e)
+reading_way words before after heard reported old new status command work c g k (breaks_off text own r b same a n m) = λ e. cc (m, e)
+reading_way words before after heard reported old new status command work c g k (serves_all taken text s moved none calm r a is) = λ e. cc (is, e)
+reading_way words before after heard reported old new status command work c g k (serves_part taken text s moved rose cut p) = λ e. (
   serve_reads words command work c k s,
   rose,
   λ disk typed t h. (taken, text, moved, whole text old new status p e, cuts_off command work c (gathers words disk before after command work (λ _. t) c g) cut),
 )
-reading_way words before after heard told old new status command work c g k (serves_most taken text s moved full calm r p) = λ e. absurd (not_read text Refused old new status (λ x. cc) p e)
-reading_way words before after heard told old new status command work c g k (serves_front s calm fronts rose is) = λ e. cc (is, e)
+reading_way words before after heard reported old new status command work c g k (serves_most taken text s moved full calm r p) = λ e. absurd (not_read text Refused old new status (λ x. cc) p e)
+reading_way words before after heard reported old new status command work c g k (serves_front s calm fronts rose is) = λ e. cc (is, e)
 
-pub reading_of : (words : List (List ℕ)) (before after : FilesView) (heard told : InputView) (old new : OutputView) (status : Status) → Course words before after heard told old new status
-    → ReadsInOrder words before after heard told old new status
-reading_of words before after heard told old new status (is_no_command n s h p) = still words before after heard told old new status s (not_read usage_line Usage old new status (λ x. cc) p)
-reading_of words before after heard told old new status (has_no_memory s h o m) = still words before after heard told old new status s (λ e. cc (m, e))
-reading_of words before after heard told old new status (ended command (ending.Refused refusal) c g h p) =
-    reading_none words before after heard told old new status g.made g.attempts (λ disk t. in_order_of words before after command _ disk c g t)
-    (walks_fit before.told (plan_of command) g.made g.spent (Err (ending.Refused refusal)) g.walk) (λ e. absurd (not_read (refusal_line refusal) Refused old new status (λ x. cc) p e))
-reading_of words before after heard told old new status (ended command (ending.Unreadable name) c g h p) = last_told words before after heard told old new status command name c g p
-reading_of words before after heard told old new status (ended command ending.Memory c g h p) =
-    reading_none words before after heard told old new status g.made g.attempts (λ disk t. in_order_of words before after command _ disk c g t)
-    (walks_fit before.told (plan_of command) g.made g.spent (Err ending.Memory) g.walk) (λ e. cc (p.1, e))
-reading_of words before after heard told old new status (answered command work c g k a) =
-    reading_none words before after heard told old new status g.made g.attempts (λ disk t. in_order_of words before after command _ disk c g t)
-    (walks_fit before.told (plan_of command) g.made g.spent (Ok work) g.walk)
-    (reading_way words before after heard told old new status command work c g k (way_of work heard told old new status a))
+pub reading_of : (words : List (List ℕ)) (before after : FilesView) (heard reported : InputView) (old new : OutputView) (status : Status) → Course words before after heard reported old new status
+    → ReadsInOrder words before after heard reported old new status
+reading_of words before after heard reported old new status (is_no_command n s h p) = still words before after heard reported old new status s (not_read usage_line Usage old new status (λ x. cc) p)
+reading_of words before after heard reported old new status (has_no_memory s h o m) = still words before after heard reported old new status s (λ e. cc (m, e))
+reading_of words before after heard reported old new status (ended command (ending.Refused refusal) c g h p) =
+    reading_none words before after heard reported old new status g.made g.attempts (λ disk t. in_order_of words before after command _ disk c g t)
+    (walks_fit before.known_files (plan_of command) g.made g.spent (Err (ending.Refused refusal)) g.walk) (λ e. absurd (not_read (refusal_line refusal) Refused old new status (λ x. cc) p e))
+reading_of words before after heard reported old new status (ended command (ending.Unreadable name) c g h p) = last_reported words before after heard reported old new status command name c g p
+reading_of words before after heard reported old new status (ended command ending.Memory c g h p) =
+    reading_none words before after heard reported old new status g.made g.attempts (λ disk t. in_order_of words before after command _ disk c g t)
+    (walks_fit before.known_files (plan_of command) g.made g.spent (Err ending.Memory) g.walk) (λ e. cc (p.1, e))
+reading_of words before after heard reported old new status (answered command work c g k a) =
+    reading_none words before after heard reported old new status g.made g.attempts (λ disk t. in_order_of words before after command _ disk c g t)
+    (walks_fit before.known_files (plan_of command) g.made g.spent (Ok work) g.walk)
+    (reading_way words before after heard reported old new status command work c g k (way_of work heard reported old new status a))

@@ -10,7 +10,7 @@ use Rattle.m_compile.specs.declared.fault.SourceFault.{SourceFault}
 use Rattle.command_plans.specs.declared.status.Status.TheVariants.{Refused}
 use Rattle.code_answers.specs.Households.{household_fault_line}
 use Rattle.code_answers.specs.Schemes.{Scheme}
-use Rattle.command_answers.specs.Sources.{IsScheme, Refuses, scheme_said, source_is_refused, households_are_refused}
+use Rattle.command_answers.specs.Sources.{IsScheme, Refuses, source_scheme, source_is_refused, households_are_refused}
 use Rattle.m_commands.specs.Output.{AreOneOutput, the_same, both_cycles, both_recursions}
 use Rattle.m_compile.specs.Faults.{AreOneSourceFault}
 use Rattle.m_compile.specs.Faults as laws
@@ -20,19 +20,19 @@ use Rattle.m_compile.proofs.OneLaws.{no_valid_and_fault, one_validity, one_fault
 pub one_scheme : (source : Source) (one other : Scheme) → IsScheme source one → IsScheme source other → one ≡ other
 one_scheme source one other a b =
     let same = one_validity source a.declared b.declared a.base b.base a.written b.written a.requests b.requests a.valid b.valid in
-    a.said ∙ (λ i. scheme_said (same.0 i) (same.1 i) (same.2 i) (same.3 i)) ∙ sym b.said
+    a.stated ∙ (λ i. source_scheme (same.0 i) (same.1 i) (same.2 i) (same.3 i)) ∙ sym b.stated
 
 -- what a file says is the same by one scheme and by the other
-pub said_other : (source : Source) {Given : Type 0} (said : List Coded → Result Given HouseholdFault) (result : Result Given HouseholdFault) (one other : Scheme) → IsScheme source one → IsScheme source other
-    → said one.inputs ≡ result → said other.inputs ≡ result
-said_other source said result one other a b e = subst (λ (s : Scheme). said s.inputs ≡ result) (one_scheme source one other a b) e
+pub stated_other : (source : Source) {Given : Type 0} (stated : List Coded → Result Given HouseholdFault) (result : Result Given HouseholdFault) (one other : Scheme) → IsScheme source one → IsScheme source other
+    → stated one.inputs ≡ result → stated other.inputs ≡ result
+stated_other source stated result one other a b e = subst (λ (s : Scheme). stated s.inputs ≡ result) (one_scheme source one other a b) e
 
 -- a valid source and a file without a fault aren't refused
-pub not_refused : (source : Source) {Given : Type 0} (said : List Coded → Result Given HouseholdFault) (line : List ℕ) (scheme : Scheme) (given : Given) → IsScheme source scheme → said scheme.inputs ≡ Ok given
-    → Refuses source said line → ⊥
-not_refused source said line scheme given valid e (source_is_refused fault is told) = no_valid_and_fault source valid.declared valid.base valid.written valid.requests fault valid.valid is
-not_refused source said line scheme given valid e (households_are_refused other fault is faulty told) =
-    let c = said_other source said (Err fault) other scheme is valid faulty in
+pub not_refused : (source : Source) {Given : Type 0} (stated : List Coded → Result Given HouseholdFault) (line : List ℕ) (scheme : Scheme) (given : Given) → IsScheme source scheme → stated scheme.inputs ≡ Ok given
+    → Refuses source stated line → ⊥
+not_refused source stated line scheme given valid e (source_is_refused fault is reported) = no_valid_and_fault source valid.declared valid.base valid.written valid.requests fault valid.valid is
+not_refused source stated line scheme given valid e (households_are_refused other fault is faulty reported) =
+    let c = stated_other source stated (Err fault) other scheme is valid faulty in
     cc (c, e)
 
 -- ---- two errors of a source
@@ -55,11 +55,11 @@ same_line fault other t u e a b =
     let c : household_fault_line other ≡ Some t = subst (λ (f : HouseholdFault). household_fault_line f ≡ Some t) e a in
     cc (c, b)
 
-pub one_refusal : (source : Source) {Given : Type 0} (said : List Coded → Result Given HouseholdFault) (t u : List ℕ) → Refuses source said t → Refuses source said u → AreOneOutput t Refused u Refused
-one_refusal source said t u (source_is_refused fault f k) (source_is_refused other g l) = one_line source.texts fault other t u (one_fault source fault other f g) k l
-one_refusal source said t u (source_is_refused fault f k) (households_are_refused scheme other v g l) = absurd (no_valid_and_fault source v.declared v.base v.written v.requests fault v.valid f)
-one_refusal source said t u (households_are_refused scheme fault v g k) (source_is_refused other f l) = absurd (no_valid_and_fault source v.declared v.base v.written v.requests other v.valid f)
-one_refusal source said t u (households_are_refused scheme fault v g k) (households_are_refused also other w h l) =
-    let c = said_other source said (Err fault) scheme also v w g in
+pub one_refusal : (source : Source) {Given : Type 0} (stated : List Coded → Result Given HouseholdFault) (t u : List ℕ) → Refuses source stated t → Refuses source stated u → AreOneOutput t Refused u Refused
+one_refusal source stated t u (source_is_refused fault f k) (source_is_refused other g l) = one_line source.texts fault other t u (one_fault source fault other f g) k l
+one_refusal source stated t u (source_is_refused fault f k) (households_are_refused scheme other v g l) = absurd (no_valid_and_fault source v.declared v.base v.written v.requests fault v.valid f)
+one_refusal source stated t u (households_are_refused scheme fault v g k) (source_is_refused other f l) = absurd (no_valid_and_fault source v.declared v.base v.written v.requests other v.valid f)
+one_refusal source stated t u (households_are_refused scheme fault v g k) (households_are_refused also other w h l) =
+    let c = stated_other source stated (Err fault) scheme also v w g in
     let f : fault ≡ other = cc (c, h) in
     the_same (same_line fault other t u f k l) refl

@@ -77,19 +77,19 @@ without : (most : ℕ) (before after : FilesView) (made : List Attempt) (spent :
 without most before after made spent status e t s =
     no_slack most before after status (let h = within most before after made spent 0 e t (omega (arith, s)) in omega (arith, h))
 
-pub taken_of : (words : List (List ℕ)) (before after : FilesView) (heard told : InputView) (old new : OutputView) (status : Status) → Course words before after heard told old new status → TakesWithin (limit_of words) before after status
-taken_of words before after heard told old new status (is_no_command n s h p) = still (limit_of words) before after status s
-taken_of words before after heard told old new status (has_no_memory s h o m) = still (limit_of words) before after status s
-taken_of words before after heard told old new status (ended command (ending.Refused refusal) c g h p) =
+pub taken_of : (words : List (List ℕ)) (before after : FilesView) (heard reported : InputView) (old new : OutputView) (status : Status) → Course words before after heard reported old new status → TakesWithin (limit_of words) before after status
+taken_of words before after heard reported old new status (is_no_command n s h p) = still (limit_of words) before after status s
+taken_of words before after heard reported old new status (has_no_memory s h o m) = still (limit_of words) before after status s
+taken_of words before after heard reported old new status (ended command (ending.Refused refusal) c g h p) =
     of_command words command before after status c (without (file_limit command) before after g.made g.spent status g.attempts g.taken
-    (walks_within before.told (file_limit command) (plan_of command) g.made g.spent (Err (ending.Refused refusal)) (keeps_limit command) g.walk))
-taken_of words before after heard told old new status (ended command (ending.Unreadable name) c g h p) =
+    (walks_within before.known_files (file_limit command) (plan_of command) g.made g.spent (Err (ending.Refused refusal)) (keeps_limit command) g.walk))
+taken_of words before after heard reported old new status (ended command (ending.Unreadable name) c g h p) =
     of_command words command before after status c (without (file_limit command) before after g.made g.spent status g.attempts g.taken
-    (walks_within before.told (file_limit command) (plan_of command) g.made g.spent (Err (ending.Unreadable name)) (keeps_limit command) g.walk))
-taken_of words before after heard told old new status (ended command ending.Memory c g h p) =
+    (walks_within before.known_files (file_limit command) (plan_of command) g.made g.spent (Err (ending.Unreadable name)) (keeps_limit command) g.walk))
+taken_of words before after heard reported old new status (ended command ending.Memory c g h p) =
     of_command words command before after status c (subst (λ (s : Status). TakesWithin (file_limit command) before after s) (sym p.1)
     (within (file_limit command) before after g.made g.spent (file_limit command + 1) g.attempts g.taken
-    (walks_within before.told (file_limit command) (plan_of command) g.made g.spent (Err ending.Memory) (keeps_limit command) g.walk)))
-taken_of words before after heard told old new status (answered command work c g k a) =
+    (walks_within before.known_files (file_limit command) (plan_of command) g.made g.spent (Err ending.Memory) (keeps_limit command) g.walk)))
+taken_of words before after heard reported old new status (answered command work c g k a) =
     of_command words command before after status c (without (file_limit command) before after g.made g.spent status g.attempts g.taken
-    (walks_within before.told (file_limit command) (plan_of command) g.made g.spent (Ok work) (keeps_limit command) g.walk))
+    (walks_within before.known_files (file_limit command) (plan_of command) g.made g.spent (Ok work) (keeps_limit command) g.walk))

@@ -6,7 +6,7 @@ use Rattle.m_ports.specs.Counts.{Rose}
 use Rattle.m_ports.specs.Files.{failed_count}
 use Rattle.m_ports.specs.declared.files.Attempt.{Attempt}
 use Rattle.m_ports.proofs.FileLemmas.{failed_count-append}
-use Rattle.observables.specs.Answers.{Told, values, stopped}
+use Rattle.observables.specs.Answers.{Observation, values, stopped}
 use Rattle.household.specs.Household.{household_of}
 use Rattle.household.specs.Table.{table_of}
 use Rattle.command_plans.specs.Attempts.{NoneFailed, LastFailed}
@@ -21,11 +21,11 @@ use Rattle.command_plans.proofs.Walks.{walks_to_end, walks_fit}
 use Rattle.command_answers.specs.Batches as batch
 use Rattle.command_answers.specs.Compiles as compiles
 use Rattle.code_answers.specs.Execs as exec
-use Rattle.code_answers.specs.Households.{told_status}
+use Rattle.code_answers.specs.Households.{observation_status}
 use Rattle.command_answers.specs.LargeAnswers as large
 use Rattle.code_answers.specs.Shown as prepared
 use Rattle.command_answers.specs.Runs as run
-use Rattle.code_answers.specs.Schemes.{told_to}
+use Rattle.code_answers.specs.Schemes.{observation_for}
 use Rattle.command_answers.specs.Serves as serve
 use Rattle.m_commands.specs.Answer.{Replies, HasAnswer}
 use Rattle.m_commands.specs.Command.{command_of, plan_of}
@@ -41,12 +41,12 @@ use Rattle.m_commands.proofs.Checks.{checked_complete}
 use Rattle.m_commands.proofs.Codes.{compiled_not_refused, code_not_refused, rows_not_refused}
 use Rattle.m_commands.proofs.Schemes.{not_refused as refusal_none}
 use Rattle.m_commands.proofs.Lints.{linted_complete}
-use Rattle.m_commands.proofs.Ways.{Way, way_of, tells, lacks_memory, breaks_off, serves_all, serves_part, serves_most, serves_front, serve_reads}
+use Rattle.m_commands.proofs.Ways.{Way, way_of, observe, lacks_memory, breaks_off, serves_all, serves_part, serves_most, serves_front, serve_reads}
 
 -- what is told is the end of a command that did all of its work
-told_complete : (told : Told) → IsComplete (told_status told)
-told_complete (values notes vs) = tt
-told_complete (stopped cause) = tt
+reported_complete : (reported : Observation) → IsComplete (observation_status reported)
+reported_complete (values notes vs) = tt
+reported_complete (stopped cause) = tt
 
 -- nothing that is typed is as much as is taken
 nothing_full : (taken rest : List ℕ) → [] ≡ taken ++ rest → length taken ≡ INPUT_BYTES → ⊥
@@ -56,18 +56,18 @@ nothing_full (byte ∷ taken) rest e full = absurd (cc e)
 -- what has an answer is answered, and not refused, where nothing is typed
 replies_complete : (work : Work) (text : List ℕ) (status : Status) → HasAnswer work → Replies work [] text status → IsComplete status
 replies_complete (Run source rows) text status h (run.is_refused {line = line} r) = absurd (refusal_none source (λ inputs. household_of inputs rows) line h.scheme h.pairs h.valid h.given r)
-replies_complete (Run source rows) text status h (run.is_told scheme pairs v g) = told_complete (told_to scheme pairs)
+replies_complete (Run source rows) text status h (run.is_reported scheme pairs v g) = reported_complete (observation_for scheme pairs)
 replies_complete (Serve source rows) text status h (serve.is_refused {line = line} r) = absurd (refusal_none source (λ inputs. household_of inputs rows) line h.scheme h.pairs h.valid h.given r)
 replies_complete (Serve source rows) text status h (serve.is_served scheme explains pairs s few) = tt
 replies_complete (Serve source rows) text status h (serve.is_too_long scheme explains pairs taken rest s e full) = absurd (nothing_full taken rest e full)
 replies_complete (Batch source table) text status h (batch.is_refused {line = line} r) = absurd (refusal_none source (λ inputs. table_of inputs table) line h.scheme h.rows h.valid h.given r)
-replies_complete (Batch source table) text status h (batch.is_told scheme rows v g) = tt
-replies_complete (Large n) text status h (large.is_told scheme pairs v g) = told_complete (told_to scheme pairs)
-replies_complete (Compile source) text status h (compiles.is_refused fault is told) = absurd (compiled_not_refused source fault h is)
+replies_complete (Batch source table) text status h (batch.is_reported scheme rows v g) = tt
+replies_complete (Large n) text status h (large.is_reported scheme pairs v g) = reported_complete (observation_for scheme pairs)
+replies_complete (Compile source) text status h (compiles.is_refused fault is reported) = absurd (compiled_not_refused source fault h is)
 replies_complete (Compile source) text status h (compiles.is_compiled compiled is form) = tt
-replies_complete (Exec code rows) text status h (exec.code_is_refused fault is told) = absurd (code_not_refused code rows text fault h is told)
-replies_complete (Exec code rows) text status h (exec.is_answered loaded scheme form shown (prepared.is_refused fault given told)) = absurd (rows_not_refused code rows loaded scheme fault h form shown given)
-replies_complete (Exec code rows) text status h (exec.is_answered loaded scheme form shown (prepared.is_told pairs given)) = told_complete (told_to scheme pairs)
+replies_complete (Exec code rows) text status h (exec.code_is_refused fault is reported) = absurd (code_not_refused code rows text fault h is reported)
+replies_complete (Exec code rows) text status h (exec.is_answered loaded scheme form shown (prepared.is_refused fault given reported)) = absurd (rows_not_refused code rows loaded scheme fault h form shown given)
+replies_complete (Exec code rows) text status h (exec.is_answered loaded scheme form shown (prepared.is_reported pairs given)) = reported_complete (observation_for scheme pairs)
 replies_complete (Check source rows report) text status h replies = checked_complete source rows report text status h replies
 replies_complete (Lint source) text status h replies = linted_complete source text status h replies
 replies_complete (Cases source table) text status h replies = compared_complete source table text status h replies
@@ -102,26 +102,26 @@ complete text own old new status (inl p) d q = subst IsComplete (sym p.1) d
 complete text own old new status (inr p) d q = absurd (q p.0.1)
 
 -- a text that was cut short for a failed read of the input
-complete_way : (words : List (List ℕ)) (command : Command) (work : Work) (heard told : InputView) (old new : OutputView) (status : Status) → command_of words ≡ Some command → IsWorkOf command work
-    → HasAnswer work → (Rose heard.faults told.faults → ⊥) → (Rose old.faults new.faults → ⊥) → TakesFew words heard told → Way work heard told old new status → IsComplete status
-complete_way words command work heard told old new status c k h input out few (tells text own r o same p) = complete text own old new status p (replies_complete work text own h (r [])) out
-complete_way words command work heard told old new status c k h input out few (lacks_memory same n m) = subst IsComplete (sym m) tt
-complete_way words command work heard told old new status c k h input out few (breaks_off text own r b same a n m) = subst IsComplete (sym m) tt
-complete_way words command work heard told old new status c k h input out few (serves_all taken text s moved none calm r a is) = subst IsComplete (sym is) tt
-complete_way words command work heard told old new status c k h input out few (serves_part taken text s moved rose cut p) = absurd (input rose)
-complete_way words command work heard told old new status c k h input out few (serves_most taken text s moved full calm r p) =
+complete_way : (words : List (List ℕ)) (command : Command) (work : Work) (heard reported : InputView) (old new : OutputView) (status : Status) → command_of words ≡ Some command → IsWorkOf command work
+    → HasAnswer work → (Rose heard.faults reported.faults → ⊥) → (Rose old.faults new.faults → ⊥) → TakesFew words heard reported → Way work heard reported old new status → IsComplete status
+complete_way words command work heard reported old new status c k h input out few (observe text own r o same p) = complete text own old new status p (replies_complete work text own h (r [])) out
+complete_way words command work heard reported old new status c k h input out few (lacks_memory same n m) = subst IsComplete (sym m) tt
+complete_way words command work heard reported old new status c k h input out few (breaks_off text own r b same a n m) = subst IsComplete (sym m) tt
+complete_way words command work heard reported old new status c k h input out few (serves_all taken text s moved none calm r a is) = subst IsComplete (sym is) tt
+complete_way words command work heard reported old new status c k h input out few (serves_part taken text s moved rose cut p) = absurd (input rose)
+complete_way words command work heard reported old new status c k h input out few (serves_most taken text s moved full calm r p) =
     absurd (omega (arith, full, few (serve_reads words command work c k s) taken moved))
-complete_way words command work heard told old new status c k h input out few (serves_front s calm fronts rose is) = absurd (out rose)
+complete_way words command work heard reported old new status c k h input out few (serves_front s calm fronts rose is) = absurd (out rose)
 
-pub complete_of : (words : List (List ℕ)) (before after : FilesView) (heard told : InputView) (old new : OutputView) (status : Status) → Course words before after heard told old new status
-    → AnswersValid words before after heard told old new status
-complete_of words before after heard told old new status (is_no_command n s h p) disk t valid quiet few = let i = valid.is_command in cc (n, i)
-complete_of words before after heard told old new status (has_no_memory s h o m) disk t valid quiet few = subst IsComplete (sym m) tt
-complete_of words before after heard told old new status (ended command (ending.Refused refusal) c g h p) disk t valid quiet few =
-    absurd (not_refused words disk command (refusal_line refusal) valid c (walks_to_end before.told disk (plan_of command) g.made g.spent (Err (ending.Refused refusal)) g.walk (asking words disk before command t c)))
-complete_of words before after heard told old new status (ended command (ending.Unreadable name) c g h p) disk t valid quiet few =
-    absurd (quiet.0 (inl (rose before after g.made name g.attempts (walks_fit before.told (plan_of command) g.made g.spent (Err (ending.Unreadable name)) g.walk))))
-complete_of words before after heard told old new status (ended command ending.Memory c g h p) disk t valid quiet few = subst IsComplete (sym p.1) tt
-complete_of words before after heard told old new status (answered command work c g k a) disk t valid quiet few =
-    complete_way words command work heard told old new status c k (has_answer words disk command work valid c (gathers words disk before after command work t c g)) quiet.1 quiet.2 few
-    (way_of work heard told old new status a)
+pub complete_of : (words : List (List ℕ)) (before after : FilesView) (heard reported : InputView) (old new : OutputView) (status : Status) → Course words before after heard reported old new status
+    → AnswersValid words before after heard reported old new status
+complete_of words before after heard reported old new status (is_no_command n s h p) disk t valid quiet few = let i = valid.is_command in cc (n, i)
+complete_of words before after heard reported old new status (has_no_memory s h o m) disk t valid quiet few = subst IsComplete (sym m) tt
+complete_of words before after heard reported old new status (ended command (ending.Refused refusal) c g h p) disk t valid quiet few =
+    absurd (not_refused words disk command (refusal_line refusal) valid c (walks_to_end before.known_files disk (plan_of command) g.made g.spent (Err (ending.Refused refusal)) g.walk (asking words disk before command t c)))
+complete_of words before after heard reported old new status (ended command (ending.Unreadable name) c g h p) disk t valid quiet few =
+    absurd (quiet.0 (inl (rose before after g.made name g.attempts (walks_fit before.known_files (plan_of command) g.made g.spent (Err (ending.Unreadable name)) g.walk))))
+complete_of words before after heard reported old new status (ended command ending.Memory c g h p) disk t valid quiet few = subst IsComplete (sym p.1) tt
+complete_of words before after heard reported old new status (answered command work c g k a) disk t valid quiet few =
+    complete_way words command work heard reported old new status c k (has_answer words disk command work valid c (gathers words disk before after command work t c g)) quiet.1 quiet.2 few
+    (way_of work heard reported old new status a)

@@ -58,19 +58,19 @@ pub record IsFront (work : Work) (typed : List ℕ) (old new : OutputView) : Typ
 
 -- A text was printed, whatever is typed; or there was no memory, before anything was written or, where an answer is written in parts, on the way; or a session
 -- had its input.
-pub data Way (work : Work) (heard told : InputView) (old new : OutputView) (status : Status) : Type 0 where
-  tells : (text : List ℕ) (own : Status) → ((typed : List ℕ) → Replies work typed text own) → IsOfEnd own → told ≡ heard → Prints text own old new status → Way work heard told old new status
-  lacks_memory : told ≡ heard → new ≡ old → status ≡ Memory → Way work heard told old new status
-  breaks_off : (text : List ℕ) (own : Status) → ((typed : List ℕ) → Replies work typed text own) → form_in_parts (work_form work) ≡ true → told ≡ heard
-      → AppendsPrefix old.written new.written text → new.faults ≡ old.faults → status ≡ Memory → Way work heard told old new status
-  serves_all : (taken text : List ℕ) → work_form work ≡ Some form.Serve → heard.left ≡ prepend_known taken told.left → IsAtEnd told.left → told.faults ≡ heard.faults
-      → Replies work taken text Done → Appends text old new → status ≡ Done → Way work heard told old new status
-  serves_part : (taken text : List ℕ) → work_form work ≡ Some form.Serve → heard.left ≡ prepend_known taken told.left → Rose heard.faults told.faults
-      → CutOff work taken text → Prints text ReadFault old new status → Way work heard told old new status
-  serves_most : (taken text : List ℕ) → work_form work ≡ Some form.Serve → heard.left ≡ prepend_known taken told.left → length taken ≡ INPUT_BYTES → told.faults ≡ heard.faults
-      → ((rest : List ℕ) → Replies work (taken ++ rest) text Refused) → Prints text Refused old new status → Way work heard told old new status
-  serves_front : work_form work ≡ Some form.Serve → told.faults ≡ heard.faults → ((typed : List ℕ) → Some typed ≡ heard.left → IsFront work typed old new) → Rose old.faults new.faults
-      → status ≡ WriteFault → Way work heard told old new status
+pub data Way (work : Work) (heard reported : InputView) (old new : OutputView) (status : Status) : Type 0 where
+  observe : (text : List ℕ) (own : Status) → ((typed : List ℕ) → Replies work typed text own) → IsOfEnd own → reported ≡ heard → Prints text own old new status → Way work heard reported old new status
+  lacks_memory : reported ≡ heard → new ≡ old → status ≡ Memory → Way work heard reported old new status
+  breaks_off : (text : List ℕ) (own : Status) → ((typed : List ℕ) → Replies work typed text own) → form_in_parts (work_form work) ≡ true → reported ≡ heard
+      → AppendsPrefix old.written new.written text → new.faults ≡ old.faults → status ≡ Memory → Way work heard reported old new status
+  serves_all : (taken text : List ℕ) → work_form work ≡ Some form.Serve → heard.left ≡ prepend_known taken reported.left → IsAtEnd reported.left → reported.faults ≡ heard.faults
+      → Replies work taken text Done → Appends text old new → status ≡ Done → Way work heard reported old new status
+  serves_part : (taken text : List ℕ) → work_form work ≡ Some form.Serve → heard.left ≡ prepend_known taken reported.left → Rose heard.faults reported.faults
+      → CutOff work taken text → Prints text ReadFault old new status → Way work heard reported old new status
+  serves_most : (taken text : List ℕ) → work_form work ≡ Some form.Serve → heard.left ≡ prepend_known taken reported.left → length taken ≡ INPUT_BYTES → reported.faults ≡ heard.faults
+      → ((rest : List ℕ) → Replies work (taken ++ rest) text Refused) → Prints text Refused old new status → Way work heard reported old new status
+  serves_front : work_form work ≡ Some form.Serve → reported.faults ≡ heard.faults → ((typed : List ℕ) → Some typed ≡ heard.left → IsFront work typed old new) → Rose old.faults new.faults
+      → status ≡ WriteFault → Way work heard reported old new status
 
 -- ---- what was typed and what was taken of it
 
@@ -111,44 +111,44 @@ session_front source rows scheme explains pairs taken rest old new s within pref
       }
 ]
 
-pub way_of : (work : Work) (heard told : InputView) (old new : OutputView) (status : Status) → WorkIsAnswered work heard told old new status → Way work heard told old new status
-way_of (Run source rows) heard told old new status (same, printed text own r o p) = tells text own (λ typed. r) o same p
-way_of (Run source rows) heard told old new status (same, no_memory n m) = lacks_memory same n m
-way_of (Serve source rows) heard told old new status (serve.refused line r same p) = tells line Refused (λ typed. serve.is_refused r) tt same p
-way_of (Serve source rows) heard told old new status (serve.no_memory same n m) = lacks_memory same n m
-way_of (Serve source rows) heard told old new status (serve.served scheme explains pairs s (to_its_end taken moved few none calm appends is)) =
+pub way_of : (work : Work) (heard reported : InputView) (old new : OutputView) (status : Status) → WorkIsAnswered work heard reported old new status → Way work heard reported old new status
+way_of (Run source rows) heard reported old new status (same, printed text own r o p) = observe text own (λ typed. r) o same p
+way_of (Run source rows) heard reported old new status (same, no_memory n m) = lacks_memory same n m
+way_of (Serve source rows) heard reported old new status (serve.refused line r same p) = observe line Refused (λ typed. serve.is_refused r) tt same p
+way_of (Serve source rows) heard reported old new status (serve.no_memory same n m) = lacks_memory same n m
+way_of (Serve source rows) heard reported old new status (serve.served scheme explains pairs s (to_its_end taken moved few none calm appends is)) =
     serves_all taken (session_replies scheme explains pairs taken) refl moved none calm (serve.is_served scheme explains pairs s few) appends is
-way_of (Serve source rows) heard told old new status (serve.served scheme explains pairs s (unread taken moved few rose p)) =
+way_of (Serve source rows) heard reported old new status (serve.served scheme explains pairs s (unread taken moved few rose p)) =
     serves_part taken (ended_replies scheme explains pairs taken ++ unreadable_input_line) refl moved rose (serve.is_cut_off scheme explains pairs s few) p
-way_of (Serve source rows) heard told old new status (serve.served scheme explains pairs s (too_long taken moved full calm p)) =
+way_of (Serve source rows) heard reported old new status (serve.served scheme explains pairs s (too_long taken moved full calm p)) =
     serves_most taken (ended_replies scheme explains pairs taken ++ input_too_long_line) refl moved full calm (λ rest. serve.is_too_long scheme explains pairs taken rest s refl full) p
-way_of (Serve source rows) heard told old new status (serve.served scheme explains pairs s (unwritten taken moved within calm breaks is)) =
-    serves_front refl calm (λ typed e. let t = typed_rest told.left typed taken (e ∙ moved) in subst (λ (b : List ℕ). IsFront (Serve source rows) b old new) (sym t.1)
+way_of (Serve source rows) heard reported old new status (serve.served scheme explains pairs s (unwritten taken moved within calm breaks is)) =
+    serves_front refl calm (λ typed e. let t = typed_rest reported.left typed taken (e ∙ moved) in subst (λ (b : List ℕ). IsFront (Serve source rows) b old new) (sym t.1)
     (session_front source rows scheme explains pairs taken t.0 old new s within breaks.0)) breaks.1 is
-way_of (Serve source rows) heard told old new status (serve.served scheme explains pairs s (unwritten_at_end taken moved few none calm breaks is)) =
-    serves_front refl calm (λ typed e. subst (λ (b : List ℕ). IsFront (Serve source rows) b old new) (sym (typed_all told.left typed taken (e ∙ moved) none))
+way_of (Serve source rows) heard reported old new status (serve.served scheme explains pairs s (unwritten_at_end taken moved few none calm breaks is)) =
+    serves_front refl calm (λ typed e. subst (λ (b : List ℕ). IsFront (Serve source rows) b old new) (sym (typed_all reported.left typed taken (e ∙ moved) none))
     (record { text = session_replies scheme explains pairs taken; own = Done; replies = serve.is_served scheme explains pairs s few; prefix = breaks.0 })) breaks.1 is
-way_of (Batch source table) heard told old new status (same, parts.printed text own r o p) = tells text own (λ typed. r) o same p
-way_of (Batch source table) heard told old new status (same, parts.no_memory n m) = lacks_memory same n m
-way_of (Batch source table) heard told old new status (same, parts.broke_off text own r a f m) = breaks_off text own (λ typed. r) refl same a f m
-way_of (Large n) heard told old new status (same, printed text own r o p) = tells text own (λ typed. r) o same p
-way_of (Large n) heard told old new status (same, no_memory e m) = lacks_memory same e m
-way_of (Compile source) heard told old new status (same, printed text own r o p) = tells text own (λ typed. r) o same p
-way_of (Compile source) heard told old new status (same, no_memory e m) = lacks_memory same e m
-way_of (Exec code rows) heard told old new status (same, printed text own r o p) = tells text own (λ typed. r) o same p
-way_of (Exec code rows) heard told old new status (same, no_memory e m) = lacks_memory same e m
-way_of (Check source rows report) heard told old new status (same, printed text own r o p) = tells text own (λ typed. r) o same p
-way_of (Check source rows report) heard told old new status (same, no_memory e m) = lacks_memory same e m
-way_of (Lint source) heard told old new status (same, printed text own r o p) = tells text own (λ typed. r) o same p
-way_of (Lint source) heard told old new status (same, no_memory e m) = lacks_memory same e m
-way_of (Cases source table) heard told old new status (same, parts.printed text own r o p) = tells text own (λ typed. r) o same p
-way_of (Cases source table) heard told old new status (same, parts.no_memory n m) = lacks_memory same n m
-way_of (Cases source table) heard told old new status (same, parts.broke_off text own r a f m) = breaks_off text own (λ typed. r) refl same a f m
+way_of (Batch source table) heard reported old new status (same, parts.printed text own r o p) = observe text own (λ typed. r) o same p
+way_of (Batch source table) heard reported old new status (same, parts.no_memory n m) = lacks_memory same n m
+way_of (Batch source table) heard reported old new status (same, parts.broke_off text own r a f m) = breaks_off text own (λ typed. r) refl same a f m
+way_of (Large n) heard reported old new status (same, printed text own r o p) = observe text own (λ typed. r) o same p
+way_of (Large n) heard reported old new status (same, no_memory e m) = lacks_memory same e m
+way_of (Compile source) heard reported old new status (same, printed text own r o p) = observe text own (λ typed. r) o same p
+way_of (Compile source) heard reported old new status (same, no_memory e m) = lacks_memory same e m
+way_of (Exec code rows) heard reported old new status (same, printed text own r o p) = observe text own (λ typed. r) o same p
+way_of (Exec code rows) heard reported old new status (same, no_memory e m) = lacks_memory same e m
+way_of (Check source rows report) heard reported old new status (same, printed text own r o p) = observe text own (λ typed. r) o same p
+way_of (Check source rows report) heard reported old new status (same, no_memory e m) = lacks_memory same e m
+way_of (Lint source) heard reported old new status (same, printed text own r o p) = observe text own (λ typed. r) o same p
+way_of (Lint source) heard reported old new status (same, no_memory e m) = lacks_memory same e m
+way_of (Cases source table) heard reported old new status (same, parts.printed text own r o p) = observe text own (λ typed. r) o same p
+way_of (Cases source table) heard reported old new status (same, parts.no_memory n m) = lacks_memory same n m
+way_of (Cases source table) heard reported old new status (same, parts.broke_off text own r a f m) = breaks_off text own (λ typed. r) refl same a f m
 
 -- ---- the command of a work
 
 -- what a command does is told by its form
-form_does : (asked : Command) → (takes_input asked ≡ form_takes (command_form asked)) × (writes_in_parts asked ≡ form_in_parts (command_form asked))
+form_does : (wanted : Command) → (takes_input wanted ≡ form_takes (command_form wanted)) × (writes_in_parts wanted ≡ form_in_parts (command_form wanted))
 form_does (command.Run names household) = (refl, refl)
 form_does (command.Serve names household) = (refl, refl)
 form_does (command.Batch names table) = (refl, refl)
@@ -168,13 +168,13 @@ one_takes (Some form.Batch) e = absurd (cc e)
 one_takes (Some form.Cases) e = absurd (cc e)
 
 -- the command that takes from the input is a session
-pub session_asked : (asked : Command) → takes_input asked ≡ true → command_form asked ≡ Some form.Serve
-session_asked asked e = one_takes (command_form asked) (sym (form_does asked).0 ∙ e)
+pub session_requested : (wanted : Command) → takes_input wanted ≡ true → command_form wanted ≡ Some form.Serve
+session_requested wanted e = one_takes (command_form wanted) (sym (form_does wanted).0 ∙ e)
 
 -- a session was asked for
-pub serve_reads : (words : List (List ℕ)) (asked : Command) (work : Work) → command_of words ≡ Some asked → IsWorkOf asked work → work_form work ≡ Some form.Serve → reads_input words ≡ true
-serve_reads words asked work c k e = ap (λ o. option_map_or takes_input o false) c ∙ (form_does asked).0 ∙ ap form_takes (sym k ∙ e)
+pub serve_reads : (words : List (List ℕ)) (wanted : Command) (work : Work) → command_of words ≡ Some wanted → IsWorkOf wanted work → work_form work ≡ Some form.Serve → reads_input words ≡ true
+serve_reads words wanted work c k e = ap (λ o. option_map_or takes_input o false) c ∙ (form_does wanted).0 ∙ ap form_takes (sym k ∙ e)
 
 -- what writes in parts was asked for
-pub batch_writes : (words : List (List ℕ)) (asked : Command) (work : Work) → command_of words ≡ Some asked → IsWorkOf asked work → form_in_parts (work_form work) ≡ true → writes_early words ≡ true
-batch_writes words asked work c k e = ap (λ o. option_map_or writes_in_parts o false) c ∙ (form_does asked).1 ∙ ap form_in_parts (sym k) ∙ e
+pub batch_writes : (words : List (List ℕ)) (wanted : Command) (work : Work) → command_of words ≡ Some wanted → IsWorkOf wanted work → form_in_parts (work_form work) ≡ true → writes_early words ≡ true
+batch_writes words wanted work c k e = ap (λ o. option_map_or writes_in_parts o false) c ∙ (form_does wanted).1 ∙ ap form_in_parts (sym k) ∙ e

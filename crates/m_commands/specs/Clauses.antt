@@ -27,8 +27,8 @@ use Rattle.m_commands.specs.declared.command.Command.TheVariants.{Compile}
 use Rattle.m_commands.specs.declared.work.Work.{Work}
 
 -- what is known of the files, where the command fetches one
-abbrev pub IsTold : List (List ℕ) → FilesView → Disk → Type 0
-IsTold words files disk = reads_files words ≡ true → files.told ≡ Some disk
+abbrev pub KnowsDisk : List (List ℕ) → FilesView → Disk → Type 0
+KnowsDisk words files disk = reads_files words ≡ true → files.known_files ≡ Some disk
 
 -- what is known of the input, where the command reads it
 abbrev pub IsTyped : List (List ℕ) → InputView → List ℕ → Type 0
@@ -38,7 +38,7 @@ IsTyped words input typed = reads_input words ≡ true → input.left ≡ Some t
 -- status are an `Output`.
 abbrev pub PrintsOutput : List (List ℕ) → FilesView → InputView → OutputView → OutputView → Status → Type 0
 PrintsOutput words files input old new status =
-    (disk : Disk) (typed : List ℕ) → IsTold words files disk → IsTyped words input typed → IsFaultless status
+    (disk : Disk) (typed : List ℕ) → KnowsDisk words files disk → IsTyped words input typed → IsFaultless status
     → (text : List ℕ) × (new.written ≡ append_known old.written text) × Output words disk typed text status
 
 -- the text of a command whose read of the input fails after these bytes
@@ -46,75 +46,75 @@ pub data IsCutOff (words : List (List ℕ)) (disk : Disk) (taken text : List ℕ
   cuts_off : (command : Command) (work : Work) → command_of words ≡ Some command → end_of disk (plan_of command) ≡ gathered work → CutOff work taken text → IsCutOff words disk taken text
 
 -- Where the files and the input are told, what is appended is the text of a read that failed after what was taken.
-abbrev pub TellsOfInput : List (List ℕ) → FilesView → InputView → InputView → OutputView → OutputView → Type 0
-TellsOfInput words before heard told old new =
-    (disk : Disk) (typed : List ℕ) → before.told ≡ Some disk → heard.left ≡ Some typed
-    → (taken text : List ℕ) × (heard.left ≡ prepend_known taken told.left) × (new.written ≡ append_known old.written text) × IsCutOff words disk taken text
+abbrev pub ReportsInput : List (List ℕ) → FilesView → InputView → InputView → OutputView → OutputView → Type 0
+ReportsInput words before heard reported old new =
+    (disk : Disk) (typed : List ℕ) → before.known_files ≡ Some disk → heard.left ≡ Some typed
+    → (taken text : List ℕ) × (heard.left ≡ prepend_known taken reported.left) × (new.written ≡ append_known old.written text) × IsCutOff words disk taken text
 
 -- Of the input no more was taken than a session takes of one, and as much only at the status of an input that is too long, or of a failed write. So a
 -- session that came to the input's end has taken less, and one whose read failed.
-abbrev pub KeepsInputLimit : (heard told : InputView) → Status → Type 0
-KeepsInputLimit heard told status =
-    (taken : List ℕ) × (heard.left ≡ prepend_known taken told.left) × (length taken ≤ INPUT_BYTES)
+abbrev pub KeepsInputLimit : (heard reported : InputView) → Status → Type 0
+KeepsInputLimit heard reported status =
+    (taken : List ℕ) × (heard.left ≡ prepend_known taken reported.left) × (length taken ≤ INPUT_BYTES)
     × (length taken ≡ INPUT_BYTES → (status ≡ Refused) ⊎ (status ≡ WriteFault))
 
 -- The attempts that a call made. Where the files are told, their names are fetched in the order of
 -- `fetches_of`. At most the last of them failed, and then the status says so, or that writing did.
 -- `ReadFault` comes only there or where a fault of the input rose, and the line that tells of an
 -- unreadable file names it.
-pub record ReadsInOrder (words : List (List ℕ)) (before after : FilesView) (heard told : InputView) (old new : OutputView) (status : Status) : Type 0 where
+pub record ReadsInOrder (words : List (List ℕ)) (before after : FilesView) (heard reported : InputView) (old new : OutputView) (status : Status) : Type 0 where
   pub made : List Attempt
   pub appended : after.attempts ≡ before.attempts ++ made
-  pub in_order : (disk : Disk) → before.told ≡ Some disk → BeginsWith (fetches_of words disk) (names_tried made)
+  pub in_order : (disk : Disk) → before.known_files ≡ Some disk → BeginsWith (fetches_of words disk) (names_tried made)
   pub at_most_last : NoneFailed made ⊎ ((name : List ℕ) × LastFailed made name)
   pub failed : (name : List ℕ) → LastFailed made name → (status ≡ ReadFault) ⊎ (status ≡ WriteFault)
   pub cause : status ≡ ReadFault → ((name : List ℕ) × LastFailed made name × (new.written ≡ append_known old.written (unreadable_line name)))
-      ⊎ ((reads_input words ≡ true) × Rose heard.faults told.faults × TellsOfInput words before heard told old new)
+      ⊎ ((reads_input words ≡ true) × Rose heard.faults reported.faults × ReportsInput words before heard reported old new)
 
 -- A text that a call writes if no write fails: an output, the line of the file that can't be read, or the text of a read of the input that
 -- failed.
-pub data IsWholeText (words : List (List ℕ)) (disk : Disk) (typed : List ℕ) (before after : FilesView) (heard told : InputView) (text : List ℕ) : Type 0 where
-  output : {status : Status} → Output words disk typed text status → IsWholeText words disk typed before after heard told text
+pub data IsWholeText (words : List (List ℕ)) (disk : Disk) (typed : List ℕ) (before after : FilesView) (heard reported : InputView) (text : List ℕ) : Type 0 where
+  output : {status : Status} → Output words disk typed text status → IsWholeText words disk typed before after heard reported text
   unreadable : {made : List Attempt} {name : List ℕ} → after.attempts ≡ before.attempts ++ made → LastFailed made name → text ≡ unreadable_line name
-      → IsWholeText words disk typed before after heard told text
-  cut_off : (taken : List ℕ) → heard.left ≡ prepend_known taken told.left → Rose heard.faults told.faults → IsCutOff words disk taken text → IsWholeText words disk typed before after heard told text
+      → IsWholeText words disk typed before after heard reported text
+  cut_off : (taken : List ℕ) → heard.left ≡ prepend_known taken reported.left → Rose heard.faults reported.faults → IsCutOff words disk taken text → IsWholeText words disk typed before after heard reported text
 
 -- Where the files and the input are told, as far as the command reads them, and a write failed, what is appended is the prefix of a whole text.
 abbrev pub WritesFront : List (List ℕ) → FilesView → FilesView → InputView → InputView → OutputView → OutputView → Status → Type 0
-WritesFront words before after heard told old new status =
-    (disk : Disk) (typed : List ℕ) → IsTold words before disk → IsTyped words heard typed → status ≡ WriteFault
-    → (text : List ℕ) × IsWholeText words disk typed before after heard told text × AppendsPrefix old.written new.written text
+WritesFront words before after heard reported old new status =
+    (disk : Disk) (typed : List ℕ) → KnowsDisk words before disk → IsTyped words heard typed → status ≡ WriteFault
+    → (text : List ℕ) × IsWholeText words disk typed before after heard reported text × AppendsPrefix old.written new.written text
 
 -- Where the files are told, if the command fetches one, and there was no memory, nothing is appended or the prefix of an output.
 abbrev pub StopsInFront : List (List ℕ) → FilesView → OutputView → OutputView → Status → Type 0
 StopsInFront words before old new status =
-    (disk : Disk) (typed : List ℕ) → IsTold words before disk → status ≡ Memory
+    (disk : Disk) (typed : List ℕ) → KnowsDisk words before disk → status ≡ Memory
     → (new.written ≡ old.written) ⊎ ((text : List ℕ) × (own : Status) × Output words disk typed text own × AppendsPrefix old.written new.written text)
 
 -- Where the files are told, `compile` that did all of its work has written a code file, of what its source is compiled to: code that is to households
 -- what the source is, with its face. The text has the form that `exec` takes.
 abbrev pub WritesCode : List (List ℕ) → FilesView → OutputView → OutputView → Status → Type 0
 WritesCode words before old new status =
-    (disk : Disk) (names : SourceNames) → before.told ≡ Some disk → command_of words ≡ Some (Compile names) → status ≡ Done
+    (disk : Disk) (names : SourceNames) → before.known_files ≡ Some disk → command_of words ≡ Some (Compile names) → status ≡ Done
     → (source : Source) × (loaded : Loaded) × (text : List ℕ) × (end_of disk (source_plan names) ≡ gathered source) × IsPreparedCode source loaded × IsFormOf text loaded
     × (new.written ≡ append_known old.written text)
 
 -- no read and no write failed
 abbrev pub NothingFailed : FilesView → FilesView → InputView → InputView → OutputView → OutputView → Type 0
-NothingFailed before after heard told old new =
-    (Rose (failed_count before.attempts) (failed_count after.attempts) → ⊥) × (Rose heard.faults told.faults → ⊥) × (Rose old.faults new.faults → ⊥)
+NothingFailed before after heard reported old new =
+    (Rose (failed_count before.attempts) (failed_count after.attempts) → ⊥) × (Rose heard.faults reported.faults → ⊥) × (Rose old.faults new.faults → ⊥)
 
 -- less is taken of the input than may be, where the command reads it
 abbrev pub TakesFew : List (List ℕ) → InputView → InputView → Type 0
-TakesFew words heard told = reads_input words ≡ true → (taken : List ℕ) → heard.left ≡ prepend_known taken told.left → length taken < INPUT_BYTES
+TakesFew words heard reported = reads_input words ≡ true → (taken : List ℕ) → heard.left ≡ prepend_known taken reported.left → length taken < INPUT_BYTES
 
 -- What is valid is answered, unless a read, a write or memory failed. Over files that the command doesn't fetch nothing has to be told.
 abbrev pub AnswersValid : List (List ℕ) → FilesView → FilesView → InputView → InputView → OutputView → OutputView → Status → Type 0
-AnswersValid words before after heard told old new status =
-    (disk : Disk) → IsTold words before disk → IsValidCommand words disk → NothingFailed before after heard told old new → TakesFew words heard told → IsComplete status
+AnswersValid words before after heard reported old new status =
+    (disk : Disk) → KnowsDisk words before disk → IsValidCommand words disk → NothingFailed before after heard reported old new → TakesFew words heard reported → IsComplete status
 
 -- The usage line is printed only for words that are no command, and for these always but where a write
 -- or memory failed.
-pub record IsToldUsage (words : List (List ℕ)) (status : Status) : Type 0 where
+pub record IsUsageReport (words : List (List ℕ)) (status : Status) : Type 0 where
   pub only : status ≡ Usage → command_of words ≡ None
   pub always : command_of words ≡ None → (status ≡ Usage) ⊎ (status ≡ WriteFault) ⊎ (status ≡ Memory)

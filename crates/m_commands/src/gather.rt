@@ -18,8 +18,8 @@ use std::alloc::{AllocError, Global};
 /// Gathers the files of a command. What ends it before it has them is the error.
 pub fn gather<F: Files>(alloc: Global, files: &mut F, command: &Command) -> Result<Work, Ending>
     requires { IsInReach command.now }
-    ensures along { GoesAlong (plan_of command.now) (files_view F.told F.attempts F.taken files.old)
-        (files_view F.told F.attempts F.taken files.new) result }
+    ensures along { GoesAlong (plan_of command.now) (files_view F.known_files F.attempts F.taken files.old)
+        (files_view F.known_files F.attempts F.taken files.new) result }
     ensures within { IfOk result WorkKeepsLimits }
     ensures kind { IfOk result (IsWorkOf command.now) }
 {
@@ -46,8 +46,8 @@ fn gather_compile<F: Files>(
     files: &mut F,
     names: &SourceNames,
 ) -> Result<Work, Ending>
-    ensures along { GoesAlong (compile_plan names.now) (files_view F.told F.attempts F.taken files.old)
-        (files_view F.told F.attempts F.taken files.new) result }
+    ensures along { GoesAlong (compile_plan names.now) (files_view F.known_files F.attempts F.taken files.old)
+        (files_view F.known_files F.attempts F.taken files.new) result }
     ensures within { IfOk result WorkKeepsLimits }
     ensures kind { IfOk result (λ work. work_form work ≡ None) }
 {
@@ -62,8 +62,8 @@ fn gather_exec<F: Files>(
     code: &Name,
     household: &Name,
 ) -> Result<Work, Ending>
-    ensures along { GoesAlong (exec_plan code.now household.now) (files_view F.told F.attempts F.taken files.old)
-        (files_view F.told F.attempts F.taken files.new) result }
+    ensures along { GoesAlong (exec_plan code.now household.now) (files_view F.known_files F.attempts F.taken files.old)
+        (files_view F.known_files F.attempts F.taken files.new) result }
     ensures within { IfOk result WorkKeepsLimits }
     ensures kind { IfOk result (λ work. work_form work ≡ None) }
 {
@@ -74,8 +74,8 @@ fn gather_exec<F: Files>(
 
 // Gathers a source alone.
 fn gather_lint<F: Files>(alloc: Global, files: &mut F, names: &SourceNames) -> Result<Work, Ending>
-    ensures along { GoesAlong (lint_plan names.now) (files_view F.told F.attempts F.taken files.old)
-        (files_view F.told F.attempts F.taken files.new) result }
+    ensures along { GoesAlong (lint_plan names.now) (files_view F.known_files F.attempts F.taken files.old)
+        (files_view F.known_files F.attempts F.taken files.new) result }
     ensures within { IfOk result WorkKeepsLimits }
     ensures kind { IfOk result (λ work. work_form work ≡ None) }
 {
@@ -91,8 +91,8 @@ fn gather_check<F: Files>(
     household: &Name,
     report: &Name,
 ) -> Result<Work, Ending>
-    ensures along { GoesAlong (check_plan list.now household.now report.now) (files_view F.told F.attempts F.taken files.old)
-        (files_view F.told F.attempts F.taken files.new) result }
+    ensures along { GoesAlong (check_plan list.now household.now report.now) (files_view F.known_files F.attempts F.taken files.old)
+        (files_view F.known_files F.attempts F.taken files.new) result }
     ensures within { IfOk result WorkKeepsLimits }
     ensures kind { IfOk result (λ work. work_form work ≡ None) }
 {
@@ -122,8 +122,8 @@ fn gather_work<F: Files>(
     names: &SourceNames,
     behind: &Name,
 ) -> Result<Work, Ending>
-    ensures along { GoesAlong (work_plan names.now behind.now (work_of form)) (files_view F.told F.attempts F.taken files.old)
-        (files_view F.told F.attempts F.taken files.new) result }
+    ensures along { GoesAlong (work_plan names.now behind.now (work_of form)) (files_view F.known_files F.attempts F.taken files.old)
+        (files_view F.known_files F.attempts F.taken files.new) result }
     ensures within { IfOk result WorkKeepsLimits }
     ensures kind { IfOk result (λ work. work_form work ≡ Some form) }
 {

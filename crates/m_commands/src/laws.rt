@@ -14,7 +14,7 @@ ghost use Rattle.m_lint.specs.Lines.{findings_text};
 ghost use Rattle.m_lint.specs.Truths.{IsTrueFinding};
 ghost use Rattle.m_lint.specs.declared.finding.Finding.{Finding};
 ghost use Rattle.m_compile.specs.Answers.{answer_to};
-ghost use Rattle.driver_core.specs.Inputs.{inputs_said};
+ghost use Rattle.driver_core.specs.Inputs.{inputs_declared};
 ghost use Rattle.m_compile.specs.Sources.{IsValid};
 ghost use Rattle.rule_answers.specs.Lints.{LintReplies};
 
@@ -32,5 +32,5 @@ pub fn linted_truly()
     ensures { (source : Source) (text : List ℕ) (status : Status) (declared : Declared) (base : Base) (written : Option Core) (requests : List ℕ) →
         IsValid source declared base written requests → LintReplies source text status →
         (findings : List Finding) × (text ≡ findings_text declared base findings) ×
-        AllByRecursion (IsTrueFinding declared base (inputs_said declared) (answer_to declared base written requests)) findings }
+        AllByRecursion (IsTrueFinding declared base (inputs_declared declared) (answer_to declared base written requests)) findings }
 {}

@@ -6,14 +6,14 @@ ghost use Rattle.command_plans.specs.Attempts.{TakesWithin};
 ghost use Rattle.command_plans.specs.Views.{Disk, files_view, input_view, output_view};
 ghost use Rattle.command_plans.specs.declared.status.Status.{Status};
 ghost use Rattle.m_commands.specs.Command.{IsInReach, command_of, limit_of, reads_input, writes_early};
-ghost use Rattle.m_commands.specs.Clauses.{PrintsOutput, WritesCode, KeepsInputLimit, ReadsInOrder, WritesFront, StopsInFront, AnswersValid, IsToldUsage};
+ghost use Rattle.m_commands.specs.Clauses.{PrintsOutput, WritesCode, KeepsInputLimit, ReadsInOrder, WritesFront, StopsInFront, AnswersValid, IsUsageReport};
 ghost use Rattle.m_commands.specs.Output.{Output, AreOneOutput};
 ghost use Rattle.m_commands.specs.inner.Courses.{Course};
 
 use crate::answer::answer;
 use crate::command::{Command, command_of};
 use crate::gather::gather;
-use command_plans::{Status, print_fault, tell};
+use command_plans::{Status, print_fault, report_ending};
 use m_places::Word;
 use m_ports::{Files, Sink, Source};
 use std::alloc::Global;
@@ -29,7 +29,7 @@ fn perform<R: Threads + Sync, F: Files, S: Source, K: Sink>(
     input: &mut S,
     out: &mut K,
 ) -> Status
-    ensures { Course words.now (files_view F.told F.attempts F.taken files.old) (files_view F.told F.attempts F.taken files.new)
+    ensures { Course words.now (files_view F.known_files F.attempts F.taken files.old) (files_view F.known_files F.attempts F.taken files.new)
         (input_view S.left S.faults input.old) (input_view S.left S.faults input.new)
         (output_view K.written K.faults out.old) (output_view K.written K.faults out.new) result }
 {
@@ -55,7 +55,7 @@ fn act<R: Threads + Sync, F: Files, S: Source, K: Sink>(
 ) -> Status
     requires { IsInReach command.now }
     ensures { (words : List (List ℕ)) → command_of words ≡ Some command.now
-        → Course words (files_view F.told F.attempts F.taken files.old) (files_view F.told F.attempts F.taken files.new)
+        → Course words (files_view F.known_files F.attempts F.taken files.old) (files_view F.known_files F.attempts F.taken files.new)
         (input_view S.left S.faults input.old) (input_view S.left S.faults input.new)
         (output_view K.written K.faults out.old) (output_view K.written K.faults out.new) result }
 {
@@ -66,7 +66,7 @@ fn act<R: Threads + Sync, F: Files, S: Source, K: Sink>(
             status
         }
         Err(ending) => {
-            let status = tell(out, &ending);
+            let status = report_ending(out, &ending);
             drop(ending);
             status
         }
@@ -86,22 +86,22 @@ pub fn m_tax<R: Threads + Sync, F: Files, S: Source, K: Sink>(
 ) -> Status
     // Where the files and the input are told, as far as the command reads them, and neither reading, writing nor memory failed, the
     // text that is appended and the status are an `Output` of the words and the files.
-    ensures text { PrintsOutput words.now (files_view F.told F.attempts F.taken files.old) (input_view S.left S.faults input.old)
+    ensures text { PrintsOutput words.now (files_view F.known_files F.attempts F.taken files.old) (input_view S.left S.faults input.old)
         (output_view K.written K.faults out.old) (output_view K.written K.faults out.new) result }
 
     // What `compile` has written, where it did all of its work, is the code file of what its source is compiled to, in the form
     // that `exec` takes.
-    ensures compiled { WritesCode words.now (files_view F.told F.attempts F.taken files.old)
+    ensures compiled { WritesCode words.now (files_view F.known_files F.attempts F.taken files.old)
         (output_view K.written K.faults out.old) (output_view K.written K.faults out.new) result }
 
     // The attempts on files are those of `fetches_of`, at most the last of them failed, and a read fault
     // is told only there or where a read of the input failed. All files together give at most one byte past
     // the limit for each that was tried.
-    ensures reading { ReadsInOrder words.now (files_view F.told F.attempts F.taken files.old) (files_view F.told F.attempts F.taken files.new)
+    ensures reading { ReadsInOrder words.now (files_view F.known_files F.attempts F.taken files.old) (files_view F.known_files F.attempts F.taken files.new)
         (input_view S.left S.faults input.old) (input_view S.left S.faults input.new)
         (output_view K.written K.faults out.old) (output_view K.written K.faults out.new) result }
-    ensures taken { TakesWithin (limit_of words.now) (files_view F.told F.attempts F.taken files.old)
-        (files_view F.told F.attempts F.taken files.new) result }
+    ensures taken { TakesWithin (limit_of words.now) (files_view F.known_files F.attempts F.taken files.old)
+        (files_view F.known_files F.attempts F.taken files.new) result }
     ensures input_left { reads_input words.now ≡ false → S.left input.new ≡ S.left input.old }
     ensures input_faults { reads_input words.now ≡ false → S.faults input.new ≡ S.faults input.old }
 
@@ -112,30 +112,30 @@ pub fn m_tax<R: Threads + Sync, F: Files, S: Source, K: Sink>(
     ensures input_taken { KeepsInputLimit (input_view S.left S.faults input.old) (input_view S.left S.faults input.new) result }
 
     // A read of the input that failed is told, but where a write failed too.
-    ensures read_told { S.faults input.old < S.faults input.new → (result ≡ Status.ReadFault) ⊎ (result ≡ Status.WriteFault) }
+    ensures read_reported { S.faults input.old < S.faults input.new → (result ≡ Status.ReadFault) ⊎ (result ≡ Status.WriteFault) }
 
     // A write fault is told only where one happened and always where one did, and what was written is
     // the prefix of a text, or of the replies to all of an input.
     ensures write_fault { result ≡ Status.WriteFault → Rose (K.faults out.old) (K.faults out.new) }
-    ensures write_told { K.faults out.old < K.faults out.new → result ≡ Status.WriteFault }
-    ensures writing { WritesFront words.now (files_view F.told F.attempts F.taken files.old) (files_view F.told F.attempts F.taken files.new)
+    ensures write_reported { K.faults out.old < K.faults out.new → result ≡ Status.WriteFault }
+    ensures writing { WritesFront words.now (files_view F.known_files F.attempts F.taken files.old) (files_view F.known_files F.attempts F.taken files.new)
         (input_view S.left S.faults input.old) (input_view S.left S.faults input.new)
         (output_view K.written K.faults out.old) (output_view K.written K.faults out.new) result }
 
     // Without memory nothing was written, but by a command that writes in parts, which has written the prefix of an output. Nothing was
     // taken from the input then.
     ensures memory { result ≡ Status.Memory → writes_early words.now ≡ false → K.written out.new ≡ K.written out.old }
-    ensures memory_front { StopsInFront words.now (files_view F.told F.attempts F.taken files.old)
+    ensures memory_front { StopsInFront words.now (files_view F.known_files F.attempts F.taken files.old)
         (output_view K.written K.faults out.old) (output_view K.written K.faults out.new) result }
     ensures memory_input { result ≡ Status.Memory → S.left input.new ≡ S.left input.old }
 
     // What is valid is answered, unless a read, a write or memory failed, or as much was taken of the input as may be.
-    ensures completeness { AnswersValid words.now (files_view F.told F.attempts F.taken files.old) (files_view F.told F.attempts F.taken files.new)
+    ensures completeness { AnswersValid words.now (files_view F.known_files F.attempts F.taken files.old) (files_view F.known_files F.attempts F.taken files.new)
         (input_view S.left S.faults input.old) (input_view S.left S.faults input.new)
         (output_view K.written K.faults out.old) (output_view K.written K.faults out.new) result }
 
     // The usage line is printed exactly for words that are no command.
-    ensures usage { IsToldUsage words.now result }
+    ensures usage { IsUsageReport words.now result }
 {
     perform(rt, alloc, words, files, input, out)
 }

@@ -24,7 +24,7 @@ use Rattle.observables.specs.declared.inputs.InputType.{InputType}
 use Rattle.observables.specs.Inputs.{codes_of as codes_shown}
 use Rattle.rule_base.specs.Base.{IsBaseOf}
 use Rattle.m_places.specs.declared.source.Text.{Text}
-use Rattle.driver_core.specs.Inputs.{input_said, inputs_said, type_said}
+use Rattle.driver_core.specs.Inputs.{input_declared, inputs_declared, type_declared}
 
 parts : (a b : Option DeclareFault) → first_of a b ≡ None → (a ≡ None) × (b ≡ None)
 parts None b e = (refl, e)
@@ -75,17 +75,17 @@ one_code : (code : Option (List ℕ)) (kind : InputType) (inputs : List Coded) (
 one_code None kind inputs codes e = e
 one_code (Some code) kind inputs codes e = ap (λ rest. code ∷ rest) e
 
-said_codes : (variables : List Declaration) → codes_shown (filter_map input_said variables) ≡ codes_of variables
-said_codes [] = refl
-said_codes (v ∷ variables) = one_code (code_of v) (type_said v.item.value_word) (filter_map input_said variables) (codes_of variables) (said_codes variables)
+stated_codes : (variables : List Declaration) → codes_shown (filter_map input_declared variables) ≡ codes_of variables
+stated_codes [] = refl
+stated_codes (v ∷ variables) = one_code (code_of v) (type_declared v.item.value_word) (filter_map input_declared variables) (codes_of variables) (stated_codes variables)
 
-pub codes_said : (declared : Declared) → codes_shown (inputs_said declared) ≡ codes_of declared.variables
-codes_said declared = said_codes declared.variables
+pub parsed_codes : (declared : Declared) → codes_shown (inputs_declared declared) ≡ codes_of declared.variables
+parsed_codes declared = stated_codes declared.variables
 
 -- and as many as the inputs that are declared
-pub many_inputs : (declared : Declared) → length (inputs_said declared) ≡ length (inputs_from 0 declared.variables)
-many_inputs declared = sym (length-map (inputs_said declared) (λ (input : Coded). input.code)) ∙ ap length (codes_said declared) ∙ as_many_codes 0 declared.variables
+pub many_inputs : (declared : Declared) → length (inputs_declared declared) ≡ length (inputs_from 0 declared.variables)
+many_inputs declared = sym (length-map (inputs_declared declared) (λ (input : Coded). input.code)) ∙ ap length (parsed_codes declared) ∙ as_many_codes 0 declared.variables
 
 -- so they are different
-pub distinct_inputs : (texts : List Text) (application : List ℕ) (declared : Declared) (base : Base) → IsBaseOf texts application declared base → AreDistinct (codes_shown (inputs_said declared))
-distinct_inputs texts application declared base b = subst AreDistinct (sym (codes_said declared)) (distinct_codes texts application declared base b)
+pub distinct_inputs : (texts : List Text) (application : List ℕ) (declared : Declared) (base : Base) → IsBaseOf texts application declared base → AreDistinct (codes_shown (inputs_declared declared))
+distinct_inputs texts application declared base b = subst AreDistinct (sym (parsed_codes declared)) (distinct_codes texts application declared base b)

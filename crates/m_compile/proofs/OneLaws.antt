@@ -9,7 +9,7 @@ use Rattle.micro_m.specs.Reads.{HasNoCycle}
 use Rattle.driver_core.specs.declared.program.Core.{Core}
 use Rattle.driver_core.specs.Weights.{weight_of}
 use Rattle.m_symbols.specs.declared.request_fault.RequestFault.{RequestFault}
-use Rattle.m_symbols.specs.Requests.{requests_said}
+use Rattle.m_symbols.specs.Requests.{parsed_requests}
 use Rattle.mpp_lexer.specs.declared.fault.DriverFault.{DriverFault}
 use Rattle.mpp_parser.specs.declared.command.Driver.{Driver}
 use Rattle.mpp_parser.specs.Faults.{IsDriver, IsFault}
@@ -24,7 +24,7 @@ use Rattle.rule_base.proofs.OneLaws.{one_base, no_base_and_fault, one_fault as o
 use Rattle.m_compile.specs.declared.fault.SourceFault.{SourceFault}
 use Rattle.m_compile.specs.declared.fault.SourceFault.TheVariants.{Rules, Driver as DriverIs, Core as CoreIs, Requests, DriverTooLarge}
 use Rattle.m_compile.specs.Sources.{HasRules, IsWritten, without, by_driver, running, IsValid}
-use Rattle.m_compile.specs.Faults.{told_weight, IsBaseFault, of_files, IsSourceFault, of_rules, of_driver, of_core, of_requests, of_weight, AreOneSourceFault, the_same, both_cycles, both_rings}
+use Rattle.m_compile.specs.Faults.{observation_weight, IsBaseFault, of_files, IsSourceFault, of_rules, of_driver, of_core, of_requests, of_weight, AreOneSourceFault, the_same, both_cycles, both_rings}
 
 some_one : {A : Type 0} {o : Option A} {x y : A} → o ≡ Some x → o ≡ Some y → x ≡ y
 some_one e f = cc
@@ -74,18 +74,18 @@ written_at : (source : Source) {declared others : Declared} {written : Option Co
 written_at source {written = written} s w = subst (λ (k : Declared). IsWritten k source.driver written) s w
 
 -- The requests.
-requests_one : (source : Source) {declared others : Declared} → declared ≡ others → requests_said source.requests declared ≡ requests_said source.requests others
-requests_one source s = ap (requests_said source.requests) s
+requests_one : (source : Source) {declared others : Declared} → declared ≡ others → parsed_requests source.requests declared ≡ parsed_requests source.requests others
+requests_one source s = ap (parsed_requests source.requests) s
 
-pub one_validity : (source : Source) (declared others : Declared) (base other : Base) (written another : Option Core) (requests asked : List ℕ) → IsValid source declared base written requests → IsValid source others other another asked
-    → (declared ≡ others) × (base ≡ other) × (written ≡ another) × (requests ≡ asked)
-one_validity source declared others base other written another requests asked a b =
+pub one_validity : (source : Source) (declared others : Declared) (base other : Base) (written another : Option Core) (requests wanted : List ℕ) → IsValid source declared base written requests → IsValid source others other another wanted
+    → (declared ≡ others) × (base ≡ other) × (written ≡ another) × (requests ≡ wanted)
+one_validity source declared others base other written another requests wanted a b =
     let r = rules_one source a.rules b.rules in
     (r.0, r.1, written_one others source.driver written another (written_at source r.0 a.driven) b.driven, ok_one a.requested (requests_one source r.0 ∙ b.requested))
 
 -- what costs too much is no valid source
-weight_same : {declared others : Declared} {base other : Base} {written another : Option Core} {requests asked : List ℕ} → declared ≡ others → base ≡ other → written ≡ another → requests ≡ asked
-    → weight_of (running written requests declared) base ≡ weight_of (running another asked others) other
+weight_same : {declared others : Declared} {base other : Base} {written another : Option Core} {requests wanted : List ℕ} → declared ≡ others → base ≡ other → written ≡ another → requests ≡ wanted
+    → weight_of (running written requests declared) base ≡ weight_of (running another wanted others) other
 weight_same d b w r = λ i. weight_of (running (w i) (r i) (d i)) (b i)
 
 pub no_valid_and_fault : (source : Source) (declared : Declared) (base : Base) (written : Option Core) (requests : List ℕ) (fault : SourceFault) → IsValid source declared base written requests → IsSourceFault source fault → ⊥
@@ -94,7 +94,7 @@ no_valid_and_fault source declared base written requests _ v (of_driver {bytes =
 no_valid_and_fault source declared base written requests _ v (of_core {declared = others} {bytes = bs} {fault = g} driver h e d f) =
     names_well declared others source.driver written bs driver g (rules_one source v.rules h).0 e v.driven d f
 no_valid_and_fault source declared base written requests _ v (of_requests h w e) = ok_or_err v.requested (requests_one source (rules_one source v.rules h).0 ∙ e)
-no_valid_and_fault source declared base written requests _ v (of_weight {declared = others} {base = other} {written = another} {requests = asked} h w r less) =
+no_valid_and_fault source declared base written requests _ v (of_weight {declared = others} {base = other} {written = another} {requests = wanted} h w r less) =
     let s = rules_one source v.rules h in
     let same = weight_same s.0 s.1 (written_one others source.driver written another (written_at source s.0 v.driven) w) (ok_one v.requested (requests_one source s.0 ∙ r)) in
     let light = v.light in
@@ -137,7 +137,7 @@ by_names source declared base bytes spelled fault _ a e d f (of_requests {declar
 by_names source declared base bytes spelled fault _ a e d f (of_weight {declared = others} {written = w} h x r less) = absurd (names_well others declared source.driver w bytes spelled fault (rules_one source h a).0 e x d f)
 
 by_requests : (source : Source) (declared : Declared) (base : Base) (written : Option Core) (fault : RequestFault) (other : SourceFault) → HasRules source declared base → IsWritten declared source.driver written
-    → requests_said source.requests declared ≡ Err fault → IsSourceFault source other → AreOneSourceFault (Requests fault) other
+    → parsed_requests source.requests declared ≡ Err fault → IsSourceFault source other → AreOneSourceFault (Requests fault) other
 by_requests source declared base written fault _ a w e (of_rules k) = absurd (rules_or_fault source a k)
 by_requests source declared base written fault _ a w e (of_driver {bytes = bs} {fault = g} h i k) = absurd (lines_well declared source.driver written bs g i w k)
 by_requests source declared base written fault _ a w e (of_core {declared = others} {bytes = bs} {fault = g} driver h i d k) = absurd (names_well declared others source.driver written bs driver g (rules_one source a h).0 i w d k)
@@ -145,18 +145,18 @@ by_requests source declared base written fault _ a w e (of_requests h x i) = the
 by_requests source declared base written fault _ a w e (of_weight h x r less) = absurd (ok_or_err r (requests_one source (rules_one source h a).0 ∙ e))
 
 by_weight : (source : Source) (declared : Declared) (base : Base) (written : Option Core) (requests : List ℕ) (other : SourceFault) → HasRules source declared base → IsWritten declared source.driver written
-    → requests_said source.requests declared ≡ Ok requests → DRIVER_WEIGHT < weight_of (running written requests declared) base → IsSourceFault source other
-    → AreOneSourceFault (DriverTooLarge (told_weight (running written requests declared) base)) other
+    → parsed_requests source.requests declared ≡ Ok requests → DRIVER_WEIGHT < weight_of (running written requests declared) base → IsSourceFault source other
+    → AreOneSourceFault (DriverTooLarge (observation_weight (running written requests declared) base)) other
 by_weight source declared base written requests _ a w e less (of_rules k) = absurd (rules_or_fault source a k)
 by_weight source declared base written requests _ a w e less (of_driver {bytes = bs} {fault = g} h i k) = absurd (lines_well declared source.driver written bs g i w k)
 by_weight source declared base written requests _ a w e less (of_core {declared = others} {bytes = bs} {fault = g} driver h i d k) =
     absurd (names_well declared others source.driver written bs driver g (rules_one source a h).0 i w d k)
 by_weight source declared base written requests _ a w e less (of_requests h x i) = absurd (ok_or_err e (requests_one source (rules_one source a h).0 ∙ i))
-by_weight source declared base written requests _ a w e less (of_weight {declared = others} {base = other} {written = another} {requests = asked} h x r more) =
+by_weight source declared base written requests _ a w e less (of_weight {declared = others} {base = other} {written = another} {requests = wanted} h x r more) =
     let s = rules_one source a h in
     let q = written_one others source.driver written another (written_at source s.0 w) x in
     let p = ok_one e (requests_one source s.0 ∙ r) in
-    the_same (λ i. DriverTooLarge (told_weight (running (q i) (p i) (s.0 i)) (s.1 i)))
+    the_same (λ i. DriverTooLarge (observation_weight (running (q i) (p i) (s.0 i)) (s.1 i)))
 
 pub one_fault : (source : Source) (fault other : SourceFault) → IsSourceFault source fault → IsSourceFault source other → AreOneSourceFault fault other
 one_fault source _ other (of_rules {fault = f} k) h = by_rules source f other k h

@@ -24,9 +24,9 @@ use Rattle.flat_code.specs.declared.program.Flat.{Flat}
 use Rattle.micro_m.specs.declared.base.Base.{Base}
 use Rattle.micro_m.specs.Reads.{HasNoCycle}
 use Rattle.driver_core.specs.declared.program.Core.{Core}
-use Rattle.driver_core.specs.Inputs.{inputs_said}
+use Rattle.driver_core.specs.Inputs.{inputs_declared}
 use Rattle.driver_core.specs.Weights.{weight_of}
-use Rattle.m_symbols.specs.Requests.{requests_said, lines_said, few}
+use Rattle.m_symbols.specs.Requests.{parsed_requests, parsed_lines, few}
 use Rattle.m_text.specs.Lines.{lines_of}
 use Rattle.m_symbols.specs.declared.request_fault.RequestFault.{RequestFault}
 use Rattle.m_symbols.specs.declared.request_fault.RequestFault.TheVariants as requests
@@ -52,26 +52,26 @@ use Rattle.m_compile.specs.declared.fault.SourceFault.TheVariants.{Memory}
 use Rattle.m_compile.specs.Sources.{HasRules, IsWritten, running}
 use Rattle.m_compile.specs.Faults.{IsBaseFault, of_files, IsSourceFault, of_rules, of_driver, of_core, of_requests, of_weight}
 use Rattle.m_compile.specs.Compiled.{IsCompiled, IsRunnable}
-use Rattle.m_compile.specs.inner.Parts.{IsAsked, IsAskedFault, in_driver, in_requests, IsProgram, IsHeavy, heavy, of_lines, of_names, IsDriverFault, IsReady, compiled_of}
-use Rattle.m_compile.proofs.Distinct.{codes_said, distinct_codes, many_inputs}
+use Rattle.m_compile.specs.inner.Parts.{AreRequests, IsRequestsFault, in_driver, in_requests, IsProgram, IsHeavy, heavy, of_lines, of_names, IsDriverFault, IsReady, compiled_of}
+use Rattle.m_compile.proofs.Distinct.{parsed_codes, distinct_codes, many_inputs}
 use Rattle.m_compile.proofs.Noted.{names_noted, notes_noted}
 use Rattle.m_compile.proofs.words.Faces.{printable_face}
 use Rattle.m_compile.proofs.Tidied.{plain_values, labels_kept, labels_all}
 use Rattle.m_compile.specs.inner.Steps.{rule_step, driver_step, core_step, request_step, inline_step}
 
 -- the fault of the rule files
-pub rules_told : (texts : List Text) (application : List ℕ) (fault : RuleFault) → (fault ≢ rules.Memory → IsRuleFault texts application fault) → rule_step fault ≢ Memory → IsBaseFault texts application (rule_step fault)
-rules_told texts application rules.Memory h k = absurd (k refl)
-rules_told texts application (rules.Lex f) h k = of_files (h (λ e. cc))
-rules_told texts application (rules.Parse f) h k = of_files (h (λ e. cc))
-rules_told texts application (rules.Declare f) h k = of_files (h (λ e. cc))
-rules_told texts application (rules.Expand f) h k = of_files (h (λ e. cc))
-rules_told texts application (rules.Resolve f) h k = of_files (h (λ e. cc))
-rules_told texts application (rules.Cycle names) h k = of_files (h (λ e. cc))
+pub rules_reported : (texts : List Text) (application : List ℕ) (fault : RuleFault) → (fault ≢ rules.Memory → IsRuleFault texts application fault) → rule_step fault ≢ Memory → IsBaseFault texts application (rule_step fault)
+rules_reported texts application rules.Memory h k = absurd (k refl)
+rules_reported texts application (rules.Lex f) h k = of_files (h (λ e. cc))
+rules_reported texts application (rules.Parse f) h k = of_files (h (λ e. cc))
+rules_reported texts application (rules.Declare f) h k = of_files (h (λ e. cc))
+rules_reported texts application (rules.Expand f) h k = of_files (h (λ e. cc))
+rules_reported texts application (rules.Resolve f) h k = of_files (h (λ e. cc))
+rules_reported texts application (rules.Cycle names) h k = of_files (h (λ e. cc))
 
 -- it is one of the source, where the texts and the application are lent
-pub base_told : (source : Source) (texts : List Text) (application : List ℕ) (fault : SourceFault) → texts ≡ source.texts → application ≡ source.application → IsBaseFault texts application fault → IsSourceFault source fault
-base_told source texts application _ t a (of_files {fault = f} k) =
+pub base_reported : (source : Source) (texts : List Text) (application : List ℕ) (fault : SourceFault) → texts ≡ source.texts → application ≡ source.application → IsBaseFault texts application fault → IsSourceFault source fault
+base_reported source texts application _ t a (of_files {fault = f} k) =
     of_rules (subst (λ (x : List Text). IsRuleFault x source.application f) t (subst (λ (x : List ℕ). IsRuleFault texts x f) a k))
 
 -- the rules, where the texts and the application are lent
@@ -81,72 +81,72 @@ rules_made source texts application declared base t a b n =
     record { made = subst (λ (x : List Text). IsBaseOf x source.application declared base) t (subst (λ (x : List ℕ). IsBaseOf texts x declared base) a b); no_cycle = n }
 
 -- the fault of the driver's lines
-pub lines_told : (declared : Declared) (bytes : List ℕ) (fault : DriverFault) → (fault ≢ lines.Memory → IsFault bytes fault) → driver_step fault ≢ Memory → IsDriverFault declared (Some bytes) (driver_step fault)
-lines_told declared bytes lines.Memory h k = absurd (k refl)
-lines_told declared bytes (lines.DriverToken n) h k = of_lines (h (λ e. cc))
-lines_told declared bytes (lines.DriverTooDeep n) h k = of_lines (h (λ e. cc))
-lines_told declared bytes (lines.DriverSyntax n) h k = of_lines (h (λ e. cc))
+pub lines_reported : (declared : Declared) (bytes : List ℕ) (fault : DriverFault) → (fault ≢ lines.Memory → IsFault bytes fault) → driver_step fault ≢ Memory → IsDriverFault declared (Some bytes) (driver_step fault)
+lines_reported declared bytes lines.Memory h k = absurd (k refl)
+lines_reported declared bytes (lines.DriverToken n) h k = of_lines (h (λ e. cc))
+lines_reported declared bytes (lines.DriverTooDeep n) h k = of_lines (h (λ e. cc))
+lines_reported declared bytes (lines.DriverSyntax n) h k = of_lines (h (λ e. cc))
 
 -- the fault of the driver's names
-pub names_told : (declared : Declared) (bytes : List ℕ) (driver : Driver) (fault : CoreFault) → IsDriver bytes driver → (fault ≢ core.Memory → IsCoreFault driver declared fault) → core_step fault ≢ Memory
+pub names_reported : (declared : Declared) (bytes : List ℕ) (driver : Driver) (fault : CoreFault) → IsDriver bytes driver → (fault ≢ core.Memory → IsCoreFault driver declared fault) → core_step fault ≢ Memory
     → IsDriverFault declared (Some bytes) (core_step fault)
-names_told declared bytes driver core.Memory d h k = absurd (k refl)
-names_told declared bytes driver (core.FunctionTwice name line) d h k = of_names driver d (h (λ e. cc))
-names_told declared bytes driver core.NoMain d h k = of_names driver d (h (λ e. cc))
-names_told declared bytes driver (core.UnknownInDriver name line) d h k = of_names driver d (h (λ e. cc))
-names_told declared bytes driver (core.BadTargetInDriver name line) d h k = of_names driver d (h (λ e. cc))
-names_told declared bytes driver (core.DriverRecursion names) d h k = of_names driver d (h (λ e. cc))
+names_reported declared bytes driver core.Memory d h k = absurd (k refl)
+names_reported declared bytes driver (core.FunctionTwice name line) d h k = of_names driver d (h (λ e. cc))
+names_reported declared bytes driver core.NoMain d h k = of_names driver d (h (λ e. cc))
+names_reported declared bytes driver (core.UnknownInDriver name line) d h k = of_names driver d (h (λ e. cc))
+names_reported declared bytes driver (core.BadTargetInDriver name line) d h k = of_names driver d (h (λ e. cc))
+names_reported declared bytes driver (core.DriverRecursion names) d h k = of_names driver d (h (λ e. cc))
 
 -- the fault of a driver is one of the source
-driver_told : (source : Source) (declared : Declared) (base : Base) (given : Option (List ℕ)) (fault : SourceFault) → HasRules source declared base → source.driver ≡ given → IsDriverFault declared given fault → IsSourceFault source fault
-driver_told source declared base _ fault r e (of_lines f) = of_driver r e f
-driver_told source declared base _ fault r e (of_names driver d f) = of_core driver r e d f
+driver_reported : (source : Source) (declared : Declared) (base : Base) (given : Option (List ℕ)) (fault : SourceFault) → HasRules source declared base → source.driver ≡ given → IsDriverFault declared given fault → IsSourceFault source fault
+driver_reported source declared base _ fault r e (of_lines f) = of_driver r e f
+driver_reported source declared base _ fault r e (of_names driver d f) = of_core driver r e d f
 
 -- the fault of the requests
-pub requests_told : (source : Source) (declared : Declared) (written : Option Core) (fault : RequestFault) → IsWritten declared source.driver written
-    → (fault ≢ requests.Memory → requests_said source.requests declared ≡ Err fault) → request_step fault ≢ Memory → IsAskedFault declared source (request_step fault)
-requests_told source declared written requests.Memory d h k = absurd (k refl)
-requests_told source declared written (requests.BadRequest line) d h k = in_requests d (h (λ e. cc))
-requests_told source declared written requests.TooManyRequests d h k = in_requests d (h (λ e. cc))
+pub requests_reported : (source : Source) (declared : Declared) (written : Option Core) (fault : RequestFault) → IsWritten declared source.driver written
+    → (fault ≢ requests.Memory → parsed_requests source.requests declared ≡ Err fault) → request_step fault ≢ Memory → IsRequestsFault declared source (request_step fault)
+requests_reported source declared written requests.Memory d h k = absurd (k refl)
+requests_reported source declared written (requests.BadRequest line) d h k = in_requests d (h (λ e. cc))
+requests_reported source declared written requests.TooManyRequests d h k = in_requests d (h (λ e. cc))
 
 -- both are faults of the source
-pub asked_told : (source : Source) (declared : Declared) (base : Base) (fault : SourceFault) → HasRules source declared base → IsAskedFault declared source fault → IsSourceFault source fault
-asked_told source declared base fault r (in_driver f) = driver_told source declared base source.driver fault r refl f
-asked_told source declared base _ r (in_requests d e) = of_requests r d e
+pub requested_reported : (source : Source) (declared : Declared) (base : Base) (fault : SourceFault) → HasRules source declared base → IsRequestsFault declared source fault → IsSourceFault source fault
+requested_reported source declared base fault r (in_driver f) = driver_reported source declared base source.driver fault r refl f
+requested_reported source declared base _ r (in_requests d e) = of_requests r d e
 
 -- no more is asked for than there may be
 few_when : (all cells : List ℕ) (many : Bool) → nat_lt REQUESTS (length all) ≡ many → cond many (Err TooManyRequests) (Ok all) ≡ Ok cells → length cells ≤ REQUESTS
 few_when all cells true m e = cc
 few_when all cells false m e = let s : all ≡ cells = cc in subst (λ (l : List ℕ). length l ≤ REQUESTS) s (ltb-false REQUESTS (length all) m)
 
-few_said : (said : Result (List ℕ) RequestFault) (cells : List ℕ) → few said ≡ Ok cells → length cells ≤ REQUESTS
-few_said (Ok all) cells e = few_when all cells (nat_lt REQUESTS (length all)) refl e
-few_said (Err fault) cells e = cc
+few_parsed : (stated : Result (List ℕ) RequestFault) (cells : List ℕ) → few stated ≡ Ok cells → length cells ≤ REQUESTS
+few_parsed (Ok all) cells e = few_when all cells (nat_lt REQUESTS (length all)) refl e
+few_parsed (Err fault) cells e = cc
 
-pub few_asked : (given : Option (List ℕ)) (declared : Declared) (cells : List ℕ) → requests_said given declared ≡ Ok cells → length cells ≤ REQUESTS
-few_asked None declared cells e = few_said (Ok (returned_cells declared)) cells e
-few_asked (Some bytes) declared cells e = few_said (lines_said declared 1 [] (lines_of bytes)) cells e
+pub few_requested : (given : Option (List ℕ)) (declared : Declared) (cells : List ℕ) → parsed_requests given declared ≡ Ok cells → length cells ≤ REQUESTS
+few_requested None declared cells e = few_parsed (Ok (returned_cells declared)) cells e
+few_requested (Some bytes) declared cells e = few_parsed (parsed_lines declared 1 [] (lines_of bytes)) cells e
 
 -- the weight
-pub weight_told : (core : Core) (base : Base) (fault : InlineFault) → (fault ≢ inline.Memory → IsTooLarge core base fault) → inline_step fault ≢ Memory → IsHeavy core base (inline_step fault)
-weight_told core base inline.Memory h k = absurd (k refl)
-weight_told core base (inline.DriverTooLarge weight) h k =
+pub weight_reported : (core : Core) (base : Base) (fault : InlineFault) → (fault ≢ inline.Memory → IsTooLarge core base fault) → inline_step fault ≢ Memory → IsHeavy core base (inline_step fault)
+weight_reported core base inline.Memory h k = absurd (k refl)
+weight_reported core base (inline.DriverTooLarge weight) h k =
     let w = h (λ e. cc) in
     subst (λ n. IsHeavy core base (inline_step (inline.DriverTooLarge n))) (sym w.1) (heavy w.0)
 
-heavy_told : (source : Source) (declared : Declared) (base : Base) (written : Option Core) (asked : List ℕ) (fault : SourceFault) → HasRules source declared base → IsWritten declared source.driver written
-    → requests_said source.requests declared ≡ Ok asked → IsHeavy (running written asked declared) base fault → IsSourceFault source fault
-heavy_told source declared base written asked fault r d q (heavy w) = of_weight r d q w
+heavy_reported : (source : Source) (declared : Declared) (base : Base) (written : Option Core) (wanted : List ℕ) (fault : SourceFault) → HasRules source declared base → IsWritten declared source.driver written
+    → parsed_requests source.requests declared ≡ Ok wanted → IsHeavy (running written wanted declared) base fault → IsSourceFault source fault
+heavy_reported source declared base written wanted fault r d q (heavy w) = of_weight r d q w
 
 -- the whole
-compiled_when : (source : Source) (declared : Declared) (base : Base) (asked : List ℕ) (core : Core) (flat : Flat) (face : Face) (runnable : IsRunnable face flat) → HasRules source declared base → IsAsked declared source core asked
-    → IsProgram declared base core asked flat face → (code : Listing) → IsAllocation flat (length face.labels) code → IsCompiled source (compiled_of flat face code)
-compiled_when source declared base asked core flat face runnable r a p code l =
+compiled_when : (source : Source) (declared : Declared) (base : Base) (wanted : List ℕ) (core : Core) (flat : Flat) (face : Face) (runnable : IsRunnable face flat) → HasRules source declared base → AreRequests declared source core wanted
+    → IsProgram declared base core wanted flat face → (code : Listing) → IsAllocation flat (length face.labels) code → IsCompiled source (compiled_of flat face code)
+compiled_when source declared base wanted core flat face runnable r a p code l =
     record {
       declared = declared;
       base = base;
       written = a.written;
-      requests = asked;
+      requests = wanted;
       valid = record { rules = r; driven = a.driven; requested = a.requested; light = subst (λ c. weight_of c base ≤ DRIVER_WEIGHT) a.runs p.light };
       runnable = runnable;
       tidy = p.tidy;
@@ -156,23 +156,23 @@ compiled_when source declared base asked core flat face runnable r a p code l =
       notes = p.notes;
       first_labels = p.first_labels;
       further_labels = p.further_labels;
-      printable = printable_face source.texts source.application source.requests declared base asked face r.made a.requested (distinct_codes source.texts source.application declared base r.made)
-          (ap codes_of p.inputs ∙ codes_said declared) p.names p.first_labels p.further_labels;
+      printable = printable_face source.texts source.application source.requests declared base wanted face r.made a.requested (distinct_codes source.texts source.application declared base r.made)
+          (ap codes_of p.inputs ∙ parsed_codes declared) p.names p.first_labels p.further_labels;
       answers = λ inputs given. rw (sym a.runs) (p.answers inputs given);
     }
 
-runnable_when : (source : Source) (declared : Declared) (base : Base) (asked : List ℕ) (core : Core) (flat : Flat) (face : Face) → HasRules source declared base → IsProgram declared base core asked flat face → IsRunnable face flat
-runnable_when source declared base asked core flat face r p =
-    record { valid = p.valid; shown = p.shown; distinct = rw (ap codes_of p.inputs ∙ codes_said declared) (distinct_codes source.texts source.application declared base r.made); nodes_fit = p.nodes_fit }
+runnable_when : (source : Source) (declared : Declared) (base : Base) (wanted : List ℕ) (core : Core) (flat : Flat) (face : Face) → HasRules source declared base → IsProgram declared base core wanted flat face → IsRunnable face flat
+runnable_when source declared base wanted core flat face r p =
+    record { valid = p.valid; shown = p.shown; distinct = rw (ap codes_of p.inputs ∙ parsed_codes declared) (distinct_codes source.texts source.application declared base r.made); nodes_fit = p.nodes_fit }
 
 -- there may be code of a program as small as this
 few_when_fit : (labels base : ℕ) → base ≤ PARTS → labels ≤ base + most_nodes → labels < 2 ^ 32
 few_when_fit labels base b l = omega (arith, b, l)
 
-ready_when : (source : Source) (declared : Declared) (base : Base) (asked : List ℕ) (core : Core) (flat : Flat) (face : Face) → length base.labels ≤ PARTS → HasRules source declared base → IsAsked declared source core asked
-    → IsProgram declared base core asked flat face → IsReady source flat face
-ready_when source declared base asked core flat face few r a p =
-    let runnable = runnable_when source declared base asked core flat face r p in
+ready_when : (source : Source) (declared : Declared) (base : Base) (wanted : List ℕ) (core : Core) (flat : Flat) (face : Face) → length base.labels ≤ PARTS → HasRules source declared base → AreRequests declared source core wanted
+    → IsProgram declared base core wanted flat face → IsReady source flat face
+ready_when source declared base wanted core flat face few r a p =
+    let runnable = runnable_when source declared base wanted core flat face r p in
     record {
       few_labels = few_when_fit (length face.labels) (length base.labels) few p.labels_fit;
       small = record {
@@ -182,40 +182,40 @@ ready_when source declared base asked core flat face few r a p =
         labelled = labels_all (length face.labels) flat.checks p.shown.labels;
       };
       runnable = runnable;
-      compiled = compiled_when source declared base asked core flat face runnable r a p;
+      compiled = compiled_when source declared base wanted core flat face runnable r a p;
     }
 
-pub finished : (source : Source) (declared : Declared) (base : Base) (asked : List ℕ) (core : Core) (result : Result (Flat × Face) SourceFault) → length base.labels ≤ PARTS → HasRules source declared base
-    → IsAsked declared source core asked → Outcome Memory result (λ given. IsProgram declared base core asked given.0 given.1) (IsHeavy core base)
+pub finished : (source : Source) (declared : Declared) (base : Base) (wanted : List ℕ) (core : Core) (result : Result (Flat × Face) SourceFault) → length base.labels ≤ PARTS → HasRules source declared base
+    → AreRequests declared source core wanted → Outcome Memory result (λ given. IsProgram declared base core wanted given.0 given.1) (IsHeavy core base)
     → Outcome Memory result (λ given. IsReady source given.0 given.1) (IsSourceFault source)
-finished source declared base asked core (Ok given) few r a p = ready_when source declared base asked core given.0 given.1 few r a p
-finished source declared base asked core (Err fault) few r a p = λ m. heavy_told source declared base a.written asked fault r a.driven a.requested (subst (λ c. IsHeavy c base fault) a.runs (p m))
+finished source declared base wanted core (Ok given) few r a p = ready_when source declared base wanted core given.0 given.1 few r a p
+finished source declared base wanted core (Err fault) few r a p = λ m. heavy_reported source declared base a.written wanted fault r a.driven a.requested (subst (λ c. IsHeavy c base fault) a.runs (p m))
 
 -- ---- the program of a driver
 
-as_many_inputs : (declared : Declared) (said : List Coded) (inputs : ℕ) → said ≡ inputs_said declared → inputs ≡ length (inputs_from 0 declared.variables) → length said ≡ inputs
-as_many_inputs declared said inputs c i = ap length c ∙ many_inputs declared ∙ sym i
+as_many_inputs : (declared : Declared) (stated : List Coded) (inputs : ℕ) → stated ≡ inputs_declared declared → inputs ≡ length (inputs_from 0 declared.variables) → length stated ≡ inputs
+as_many_inputs declared stated inputs c i = ap length c ∙ many_inputs declared ∙ sym i
 
 -- the outputs: the notes, and then the names of the cells that are asked for
 abbrev outputs_made : Declared → List ℕ → List ℕ → List FaceOutput
-outputs_made declared notes asked = map Noted notes ++ map Named (map (cell_name declared) asked)
+outputs_made declared notes wanted = map Noted notes ++ map Named (map (cell_name declared) wanted)
 
-as_many_outputs : (declared : Declared) (outputs : List FaceOutput) (notes asked : List ℕ) → outputs ≡ outputs_made declared notes asked → length outputs ≡ length notes + length asked
-as_many_outputs declared outputs notes asked e =
+as_many_outputs : (declared : Declared) (outputs : List FaceOutput) (notes wanted : List ℕ) → outputs ≡ outputs_made declared notes wanted → length outputs ≡ length notes + length wanted
+as_many_outputs declared outputs notes wanted e =
     ap length e
-    ∙ length-append (map Noted notes) (map Named (map (cell_name declared) asked))
-    ∙ (λ i. length-map notes Noted i + (length-map (map (cell_name declared) asked) Named ∙ length-map asked (cell_name declared)) i)
+    ∙ length-append (map Noted notes) (map Named (map (cell_name declared) wanted))
+    ∙ (λ i. length-map notes Noted i + (length-map (map (cell_name declared) wanted) Named ∙ length-map wanted (cell_name declared)) i)
 
-few_outputs : (outputs notes asked : ℕ) → outputs ≡ notes + asked → notes ≤ most_nodes → asked ≤ REQUESTS → outputs < 2 ^ 32
-few_outputs outputs notes asked e n h = omega (arith, e, n, h)
+few_outputs : (outputs notes wanted : ℕ) → outputs ≡ notes + wanted → notes ≤ most_nodes → wanted ≤ REQUESTS → outputs < 2 ^ 32
+few_outputs outputs notes wanted e n h = omega (arith, e, n, h)
 
 -- the tidy program with its face
-pub program_made : (declared : Declared) (base : Base) (core : Core) (asked : List ℕ) (flat tidy : Flat) (face : Face) (labels : List FaceLabel) (notes : List ℕ) → HasWeight core base
-    → IsInlined core base declared asked flat labels notes → Becomes flat tidy → IsTidy tidy → face.labels ≡ labels → face.inputs ≡ inputs_said declared → face.outputs ≡ outputs_made declared notes asked
-    → length asked ≤ REQUESTS → IsProgram declared base core asked tidy face
-program_made declared base core asked flat tidy face labels notes w i b t l f o h =
-    let many = as_many_outputs declared face.outputs notes asked o in
-    let noted : notes_of face.outputs ≡ notes = ap notes_of o ∙ notes_noted notes (map (cell_name declared) asked) in
+pub program_made : (declared : Declared) (base : Base) (core : Core) (wanted : List ℕ) (flat tidy : Flat) (face : Face) (labels : List FaceLabel) (notes : List ℕ) → HasWeight core base
+    → IsInlined core base declared wanted flat labels notes → Becomes flat tidy → IsTidy tidy → face.labels ≡ labels → face.inputs ≡ inputs_declared declared → face.outputs ≡ outputs_made declared notes wanted
+    → length wanted ≤ REQUESTS → IsProgram declared base core wanted tidy face
+program_made declared base core wanted flat tidy face labels notes w i b t l f o h =
+    let many = as_many_outputs declared face.outputs notes wanted o in
+    let noted : notes_of face.outputs ≡ notes = ap notes_of o ∙ notes_noted notes (map (cell_name declared) wanted) in
     record {
       light = w;
       valid = b.valid;
@@ -224,10 +224,10 @@ program_made declared base core asked flat tidy face labels notes w i b t l f o 
         inputs = as_many_inputs declared face.inputs tidy.inputs f (b.inputs ∙ i.inputs);
         labels = labels_kept (length face.labels) flat.checks tidy.checks (subst (λ (ls : List FaceLabel). All (λ check. check.label < length ls) flat.checks) (sym l) i.labelled) b.labels;
         outputs = many ∙ sym (b.outputs ∙ i.outputs);
-        few = few_outputs (length face.outputs) (length notes) (length asked) many i.notes_fit h;
+        few = few_outputs (length face.outputs) (length notes) (length wanted) many i.notes_fit h;
       };
       inputs = f;
-      names = ap names_of o ∙ names_noted notes (map (cell_name declared) asked);
+      names = ap names_of o ∙ names_noted notes (map (cell_name declared) wanted);
       notes = subst (AllByRecursion (λ number. number < length base.labels)) (sym noted) i.noted;
       first_labels = subst (λ (ls : List FaceLabel). take (length base.labels) ls ≡ map Verif base.labels) (sym l) i.first_labels;
       further_labels = subst (λ (ls : List FaceLabel). AllByRecursion IsDriverLine (drop (length base.labels) ls)) (sym l) i.further_labels;
@@ -235,5 +235,5 @@ program_made declared base core asked flat tidy face labels notes w i b t l f o 
       checks_fit = omega (arith, b.checks, i.checks_fit);
       labels_fit = subst (λ (ls : List FaceLabel). length ls ≤ length base.labels + most_nodes) (sym l) i.labels_fit;
       few_outputs = omega (arith, many, i.notes_fit, h);
-      answers = λ inputs given. rw (l, noted, b.answer inputs (plain_values face.inputs inputs given)) (i.answer inputs (subst (λ said. AreValuesOf said inputs) f given));
+      answers = λ inputs given. rw (l, noted, b.answer inputs (plain_values face.inputs inputs given)) (i.answer inputs (subst (λ stated. AreValuesOf stated inputs) f given));
     }

@@ -3,11 +3,11 @@ use Rattle.std.specs.Prelude.{ℕ, List, Option}
 use Rattle.m_fixed.specs.declared.amount.Value.{Value}
 use Rattle.m_symbols.specs.Declarations.{Declared}
 use Rattle.micro_m.specs.declared.base.Base.{Base}
-use Rattle.observables.specs.Answers.{Told}
+use Rattle.observables.specs.Answers.{Observation}
 use Rattle.driver_core.specs.declared.program.Core.{Core}
 use Rattle.driver_core.specs.Answers.{answer_of}
 use Rattle.m_compile.specs.Sources.{running}
 
 -- what the driver that was written, or the one without one, answers over the rules to these values of the inputs
-abbrev pub answer_to : Declared → Base → Option Core → List ℕ → List Value → Told
+abbrev pub answer_to : Declared → Base → Option Core → List ℕ → List Value → Observation
 answer_to declared base written requests inputs = answer_of (running written requests declared) base declared requests inputs

@@ -8,7 +8,7 @@ use Rattle.m_symbols.specs.Declarations.{Declared}
 use Rattle.micro_m.specs.declared.base.Base.{Base}
 use Rattle.observables.specs.declared.face.Face.{Face}
 use Rattle.observables.specs.declared.face.FaceLabel.TheVariants.{Verif}
-use Rattle.observables.specs.Answers.{told_of}
+use Rattle.observables.specs.Answers.{observation}
 use Rattle.observables.specs.Inputs.{AreValuesOf, codes_of}
 use Rattle.observables.specs.Outputs.{names_of, notes_of}
 use Rattle.flat_code.specs.declared.program.Flat.{Flat}
@@ -17,7 +17,7 @@ use Rattle.flat_code.specs.Runs.{IsFlat, flat_run}
 use Rattle.flat_code.specs.Tidy.{IsTidy}
 use Rattle.register_alloc.specs.Allocation.{IsAllocation}
 use Rattle.driver_core.specs.declared.program.Core.{Core}
-use Rattle.driver_core.specs.Inputs.{inputs_said}
+use Rattle.driver_core.specs.Inputs.{inputs_declared}
 use Rattle.m_symbols.specs.Cells.{cell_name}
 use Rattle.mpp_inline.specs.Inlined.{IsDriverLine, most_nodes}
 use Rattle.code_file.specs.Printable.{IsPrintable}
@@ -45,11 +45,11 @@ pub record IsCompiled (source : Source) (compiled : Compiled) : Type 0 where
   pub runnable : IsRunnable compiled.face compiled.tidy
   pub tidy : IsTidy compiled.tidy
   pub allocated : IsAllocation compiled.tidy (length compiled.face.labels) compiled.code
-  pub inputs : compiled.face.inputs ≡ inputs_said declared
+  pub inputs : compiled.face.inputs ≡ inputs_declared declared
   pub names : names_of compiled.face.outputs ≡ map (cell_name declared) requests
   pub notes : AllByRecursion (λ number. number < length base.labels) (notes_of compiled.face.outputs)
   pub first_labels : take (length base.labels) compiled.face.labels ≡ map Verif base.labels
   pub further_labels : AllByRecursion IsDriverLine (drop (length base.labels) compiled.face.labels)
   pub printable : IsPrintable compiled.face
   pub answers : (inputs : List Value) → AreValuesOf compiled.face.inputs inputs
-      → told_of compiled.face.labels (notes_of compiled.face.outputs) (flat_run compiled.tidy inputs) ≡ Some (answer_to declared base written requests inputs)
+      → observation compiled.face.labels (notes_of compiled.face.outputs) (flat_run compiled.tidy inputs) ≡ Some (answer_to declared base written requests inputs)

@@ -8,7 +8,7 @@ use Rattle.micro_m.specs.declared.base.Base.{Base}
 use Rattle.driver_core.specs.declared.program.Core.{Core}
 use Rattle.driver_core.specs.Weights.{weight_of}
 use Rattle.m_symbols.specs.declared.request_fault.RequestFault.{RequestFault}
-use Rattle.m_symbols.specs.Requests.{requests_said}
+use Rattle.m_symbols.specs.Requests.{parsed_requests}
 use Rattle.mpp_lexer.specs.declared.fault.DriverFault.{DriverFault}
 use Rattle.mpp_parser.specs.declared.command.Driver.{Driver}
 use Rattle.mpp_parser.specs.Faults.{IsDriver, IsFault}
@@ -27,8 +27,8 @@ abbrev pub most_weight : ℕ
 most_weight = 18_446_744_073_709_551_615
 
 -- what is told of a driver that costs too much over a base
-abbrev pub told_weight : Core → Base → ℕ
-told_weight core base = min (weight_of core base) most_weight
+abbrev pub observation_weight : Core → Base → ℕ
+observation_weight core base = min (weight_of core base) most_weight
 
 -- The steps in their order: the rule files, the lines of the driver, its names, the requests, the weight of the whole. A fault stands only where the steps
 -- before its own have none.
@@ -39,10 +39,10 @@ pub data IsSourceFault (source : Source) : SourceFault → Type 0 where
   of_core : {declared : Declared} {base : Base} {bytes : List ℕ} {fault : CoreFault} (driver : Driver) → HasRules source declared base
       → source.driver ≡ Some bytes → IsDriver bytes driver → IsCoreFault driver declared fault → IsSourceFault source (CoreIs fault)
   of_requests : {declared : Declared} {base : Base} {written : Option Core} {fault : RequestFault} → HasRules source declared base
-      → IsWritten declared source.driver written → requests_said source.requests declared ≡ Err fault → IsSourceFault source (Requests fault)
+      → IsWritten declared source.driver written → parsed_requests source.requests declared ≡ Err fault → IsSourceFault source (Requests fault)
   of_weight : {declared : Declared} {base : Base} {written : Option Core} {requests : List ℕ} → HasRules source declared base
-      → IsWritten declared source.driver written → requests_said source.requests declared ≡ Ok requests
-      → DRIVER_WEIGHT < weight_of (running written requests declared) base → IsSourceFault source (DriverTooLarge (told_weight (running written requests declared) base))
+      → IsWritten declared source.driver written → parsed_requests source.requests declared ≡ Ok requests
+      → DRIVER_WEIGHT < weight_of (running written requests declared) base → IsSourceFault source (DriverTooLarge (observation_weight (running written requests declared) base))
 
 -- The fault of rule files by themselves: that of the earliest step of theirs that has one.
 pub data IsBaseFault (texts : List Text) (application : List ℕ) : SourceFault → Type 0 where

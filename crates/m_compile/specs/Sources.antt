@@ -7,7 +7,7 @@ use Rattle.micro_m.specs.declared.base.Base.{Base}
 use Rattle.micro_m.specs.Reads.{HasNoCycle}
 use Rattle.driver_core.specs.declared.program.Core.{Core}
 use Rattle.driver_core.specs.Weights.{weight_of}
-use Rattle.m_symbols.specs.Requests.{requests_said}
+use Rattle.m_symbols.specs.Requests.{parsed_requests}
 use Rattle.mpp_parser.specs.declared.command.Driver.{Driver}
 use Rattle.mpp_parser.specs.Faults.{IsDriver}
 use Rattle.mpp_core.specs.Cores.{IsCore, plain_core}
@@ -33,5 +33,5 @@ running (Some core) requests declared = core
 pub record IsValid (source : Source) (declared : Declared) (base : Base) (written : Option Core) (requests : List ℕ) : Type 0 where
   pub rules : HasRules source declared base
   pub driven : IsWritten declared source.driver written
-  pub requested : requests_said source.requests declared ≡ Ok requests
+  pub requested : parsed_requests source.requests declared ≡ Ok requests
   pub light : weight_of (running written requests declared) base ≤ DRIVER_WEIGHT

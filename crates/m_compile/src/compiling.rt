@@ -14,7 +14,7 @@ ghost use Rattle.flat_code.specs.Faces.{IsFaceOf};
 ghost use Rattle.register_alloc.specs.Allocation.{IsAllocation, IsSmall};
 ghost use Rattle.code_file.specs.Loading.{counts_agree};
 ghost use Rattle.m_compile.specs.Compiled.{IsCompiled, IsRunnable};
-ghost use Rattle.m_compile.specs.inner.Parts.{IsAsked, IsAskedFault, IsProgram, IsHeavy, IsDriverFault, IsReady};
+ghost use Rattle.m_compile.specs.inner.Parts.{AreRequests, IsRequestsFault, IsProgram, IsHeavy, IsDriverFault, IsReady};
 ghost use Rattle.m_compile.specs.declared.fault.SourceFault.TheVariants.{Memory};
 
 use crate::SourceFault;
@@ -158,15 +158,15 @@ fn program(alloc: Global, source: &Source, made: &RuleBase) -> Result<(Tidy, Fac
     requires placed { IsPlaced made.now.symbols }
     ensures { Outcome Memory result (λ given. IsReady source.now given.0 given.1) (IsSourceFault source.now) }
 {
-    let (core, requests) = asked(alloc, source, &made.symbols)?;
+    let (core, requests) = core_and_requests(alloc, source, &made.symbols)?;
     faced(alloc, made, &core, requests.as_slice())
 }
 
 // What a source asks for, over what its rules declare: the driver that runs, and the cells of the requests.
-fn asked(alloc: Global, source: &Source, symbols: &Symbols) -> Result<(Core, Seq<u32>), SourceFault>
+fn core_and_requests(alloc: Global, source: &Source, symbols: &Symbols) -> Result<(Core, Seq<u32>), SourceFault>
     requires limits { SourceKeepsLimits source.now }
     requires placed { IsPlaced symbols.now }
-    ensures outcome { Outcome Memory result (λ given. IsAsked symbols.now source.now given.0 given.1) (IsAskedFault symbols.now source.now) }
+    ensures outcome { Outcome Memory result (λ given. AreRequests symbols.now source.now given.0 given.1) (IsRequestsFault symbols.now source.now) }
     ensures known { IfOk result (λ given. All (λ c. c < length (owners_from 0 symbols.now.variables)) given.1) }
 {
     let written = written(alloc, &source.driver, symbols)?;

@@ -6,7 +6,7 @@ ghost use Rattle.m_symbols.specs.Cells.{cell_name};
 ghost use Rattle.m_symbols.specs.Declarations.{owners_from};
 ghost use Rattle.observables.specs.declared.face.FaceOutput.TheVariants.{Named, Noted};
 ghost use Rattle.observables.specs.Outputs.{verif_at};
-ghost use Rattle.driver_core.specs.Inputs.{input_said, inputs_said, type_said};
+ghost use Rattle.driver_core.specs.Inputs.{input_declared, inputs_declared, type_declared};
 
 use m_ast::Role;
 use m_places::{Name, Seq};
@@ -25,7 +25,7 @@ pub(crate) fn face_of(
 ) -> Result<Face, AllocError>
     requires known { All (λ c. c < length (owners_from 0 symbols.now.variables)) requests.now }
     requires noted { AllByRecursion (λ n. IsTrue (is_some (verif_at labels n))) notes.now }
-    ensures inputs { IfOk result (λ face. face.inputs ≡ inputs_said symbols.now) }
+    ensures inputs { IfOk result (λ face. face.inputs ≡ inputs_declared symbols.now) }
     ensures labels { IfOk result (λ face. face.labels ≡ labels) }
     ensures outputs { IfOk result (λ face. face.outputs ≡ map Noted notes.now ++ map Named (map (cell_name symbols.now) requests.now)) }
 {
@@ -41,7 +41,7 @@ pub(crate) fn face_of(
 /// The inputs that are declared, in order: what a program over these declarations shows as its inputs. Its only error is running out
 /// of memory.
 pub fn inputs_of(alloc: Global, symbols: &Symbols) -> Result<Seq<Coded>, AllocError>
-    ensures { IfOk result (λ inputs. inputs ≡ inputs_said symbols.now) }
+    ensures { IfOk result (λ inputs. inputs ≡ inputs_declared symbols.now) }
 {
     let mut inputs = Vec::new(alloc);
     for number in 0..symbols.count() {
@@ -52,12 +52,12 @@ pub fn inputs_of(alloc: Global, symbols: &Symbols) -> Result<Seq<Coded>, AllocEr
 
 // Adds a variable, if it is an input.
 fn add_input(alloc: Global, variable: &Variable, inputs: &mut Vec<Coded>) -> Result<(), AllocError>
-    ensures { OnOk result (inputs.new.items ≡ inputs.old.items ++ cons_option (input_said variable.now) []) }
+    ensures { OnOk result (inputs.new.items ≡ inputs.old.items ++ cons_option (input_declared variable.now) []) }
 {
     match &variable.item.role {
         Role::Input(code) => inputs.push(Coded {
             code: code.copy(alloc)?,
-            kind: type_said(&variable.item.value_word),
+            kind: type_declared(&variable.item.value_word),
         })?,
         Role::Computed(_) => {}
         Role::Constant(_) => {}
@@ -66,8 +66,8 @@ fn add_input(alloc: Global, variable: &Variable, inputs: &mut Vec<Coded>) -> Res
 }
 
 // The type of an input by the word after `type`: without one it may have each amount.
-fn type_said(word: &Option<Name>) -> InputType
-    ensures { result ≡ type_said word.now }
+fn type_declared(word: &Option<Name>) -> InputType
+    ensures { result ≡ type_declared word.now }
 {
     match word {
         Some(word) => type_of(word.bytes()),

@@ -13,9 +13,9 @@ ghost use Rattle.m_compile.specs.declared.fault.SourceFault.{SourceFault};
 
 /// A valid source declares one thing, its rules are one base, one driver was written or none, and these cells alone are asked for.
 pub fn one_validity()
-    ensures { (source : Source) (declared others : Declared) (base other : Base) (written another : Option Core) (requests asked : List ℕ) →
-        IsValid source declared base written requests → IsValid source others other another asked →
-        (declared ≡ others) × (base ≡ other) × (written ≡ another) × (requests ≡ asked) }
+    ensures { (source : Source) (declared others : Declared) (base other : Base) (written another : Option Core) (requests wanted : List ℕ) →
+        IsValid source declared base written requests → IsValid source others other another wanted →
+        (declared ≡ others) × (base ≡ other) × (written ≡ another) × (requests ≡ wanted) }
 {}
 
 /// A valid source has no fault, so a source that has one is none.

@@ -8,7 +8,7 @@ mod compiling;
 mod face;
 mod fault;
 mod laws;
-mod told;
+mod entries;
 
 pub use base::compile_base;
 pub use compiling::{Compiled, compile_with, compile_with_rules};
@@ -18,4 +18,4 @@ pub use laws::{
     base_fault_of_source, no_base_and_base_fault, no_valid_and_fault, one_base_fault, one_fault,
     one_rules, one_validity,
 };
-pub use told::told_fault;
+pub use entries::fault_entry;

@@ -16,7 +16,7 @@ use Rattle.observables.specs.declared.face.FaceLabel.{FaceLabel}
 use Rattle.observables.specs.declared.face.FaceOutput.{FaceOutput}
 use Rattle.observables.specs.declared.face.FaceOutput.TheVariants.{Named, Noted}
 use Rattle.observables.specs.Inputs.{AreValuesOf}
-use Rattle.observables.specs.Answers.{Told, values, stopped, label_number, cause_of, told_of}
+use Rattle.observables.specs.Answers.{Observation, values, stopped, label_number, cause_of, observation}
 use Rattle.observables.specs.Outputs.{are_named, notes_of, notes_stand_first, verif_at}
 use Rattle.flat_code.specs.declared.program.Flat.{Flat}
 use Rattle.flat_code.specs.Facts.{AreWithin}
@@ -30,29 +30,29 @@ use Rattle.input_reads.proofs.ListLemmas.{number-has, all-drop}
 use Rattle.input_reads.proofs.ValueLemmas.{agree}
 use Rattle.micro_m.specs.declared.base.Base.{Base}
 use Rattle.m_lint.specs.Findings.{fact_at, is_never_stopping}
-use Rattle.m_lint.proofs.TruthLemmas.{named-none, label-silent, never-told}
+use Rattle.m_lint.proofs.TruthLemmas.{named-none, label-silent, never-reported}
 use Rattle.m_facts.specs.Found.{known_of, node_of, found_of}
 use Rattle.m_facts.specs.Lines.{named_facts}
 use Rattle.m_facts.proofs.FindLemmas.{all-at}
 use Rattle.m_facts.specs.Truths.{ArePossible, IsSilent, DependsOn}
 
-abbrev TellsAll : Flat → Face → (List Value → Told) → Type 0
-TellsAll flat face tells = (vs : List Value) → AreValuesOf face.inputs vs → told_of face.labels (notes_of face.outputs) (flat_run flat vs) ≡ Some (tells vs)
+abbrev ReportsAll : Flat → Face → (List Value → Observation) → Type 0
+ReportsAll flat face observe = (vs : List Value) → AreValuesOf face.inputs vs → observation face.labels (notes_of face.outputs) (flat_run flat vs) ≡ Some (observe vs)
 
 -- ---- what is told where a run doesn't stop
 
-told-are : (flat : Flat) (face : Face) (vs told : List Value) (notes : List Label) → told_of face.labels (notes_of face.outputs) (flat_run flat vs) ≡ Some (values notes told)
-    → told ≡ drop (length (notes_of face.outputs)) (map (value_at (node_values vs flat.nodes)) flat.outputs)
-told-are flat face vs told notes e = by (first_stop (node_values vs flat.nodes) flat.checks) e
+reported-are : (flat : Flat) (face : Face) (vs reported : List Value) (notes : List Label) → observation face.labels (notes_of face.outputs) (flat_run flat vs) ≡ Some (values notes reported)
+    → reported ≡ drop (length (notes_of face.outputs)) (map (value_at (node_values vs flat.nodes)) flat.outputs)
+reported-are flat face vs reported notes e = by (first_stop (node_values vs flat.nodes) flat.checks) e
   where
     all : List Value
     all = map (value_at (node_values vs flat.nodes)) flat.outputs
 
-    never : (stop : Stop) (found : Option FaceLabel) → option_map (λ label. stopped (cause_of stop label)) found ≡ Some (values notes told) → ⊥
+    never : (stop : Stop) (found : Option FaceLabel) → option_map (λ label. stopped (cause_of stop label)) found ≡ Some (values notes reported) → ⊥
     never stop None e = cc e
     never stop (Some label) e = cc e
 
-    by : (found : Option Stop) → told_of face.labels (notes_of face.outputs) (option_map_or Stopped found (Values all)) ≡ Some (values notes told) → told ≡ drop (length (notes_of face.outputs)) all
+    by : (found : Option Stop) → observation face.labels (notes_of face.outputs) (option_map_or Stopped found (Values all)) ≡ Some (values notes reported) → reported ≡ drop (length (notes_of face.outputs)) all
     by None e = cc
     by (Some stop) e = absurd (never stop (slice_get face.labels (label_number stop)) e)
 
@@ -84,14 +84,14 @@ named-after labels (Noted number ∷ outputs) f [] e same = absurd (omega (arith
 named-after labels (Noted number ∷ outputs) f (p ∷ ps) e same =
     named-after labels outputs f ps (and_parts (is_some (verif_at labels number)) (notes_stand_first labels outputs) e).1 (omega (arith, same))
 
-pub possible-true : (base : Base) (flat : Flat) (face : Face) (given : List Possible) (tells : List Value → Told) → IsFlat flat → IsFaceOf face flat → TellsAll flat face tells
-    → ArePossible face.inputs given tells (named_facts face.outputs (found_of base flat face given).possible)
-possible-true base flat face given tells valid shown all = λ vs allowed notes told e.
+pub possible-true : (base : Base) (flat : Flat) (face : Face) (given : List Possible) (observe : List Value → Observation) → IsFlat flat → IsFaceOf face flat → ReportsAll flat face observe
+    → ArePossible face.inputs given observe (named_facts face.outputs (found_of base flat face given).possible)
+possible-true base flat face given observe valid shown all = λ vs allowed notes reported e.
     let known = known_of flat given in
     let f : ℕ → Possible = fact_at known in
     let g : ℕ → Value = value_at (node_values vs flat.nodes) in
     let m = length (notes_of face.outputs) in
-    let are : told ≡ map g (drop m flat.outputs) = told-are flat face vs told notes (all vs allowed.may ∙ ap Some e) ∙ drop-map g m flat.outputs in
+    let are : reported ≡ map g (drop m flat.outputs) = reported-are flat face vs reported notes (all vs allowed.may ∙ ap Some e) ∙ drop-map g m flat.outputs in
     let facts : named_facts face.outputs (map f flat.outputs) ≡ map f (drop m flat.outputs) = named-after face.labels face.outputs f flat.outputs face.notes shown.outputs in
     subst (AllZip Holds (named_facts face.outputs (map f flat.outputs))) (sym are)
     (subst (λ facts. AllZip Holds facts (map g (drop m flat.outputs))) (sym facts)
@@ -107,49 +107,49 @@ filter-all P test (k ∷ ks) h = by (test k) refl (filter-all P test ks h)
     by true e rest = (h k e, rest)
     by false e rest = rest
 
-pub silent-true : (base : Base) (flat : Flat) (face : Face) (given : List Possible) (tells : List Value → Told) → IsFlat flat → IsFaceOf face flat → TellsAll flat face tells
-    → AllByRecursion (IsSilent base face.inputs given tells) (found_of base flat face given).silent
-silent-true base flat face given tells valid shown all =
+pub silent-true : (base : Base) (flat : Flat) (face : Face) (given : List Possible) (observe : List Value → Observation) → IsFlat flat → IsFaceOf face flat → ReportsAll flat face observe
+    → AllByRecursion (IsSilent base face.inputs given observe) (found_of base flat face given).silent
+silent-true base flat face given observe valid shown all =
     let known = known_of flat given in
-    filter-all (IsSilent base face.inputs given tells) (is_never_stopping known base flat face) (range_with_len 0 (length base.checks))
-    (λ k e. λ label is vs allowed told.
-    never-told known flat face label (node_values vs flat.nodes) (tells vs) valid (held flat given vs valid allowed.within) (label-silent known base flat face k label is e) (all vs allowed.may) told)
+    filter-all (IsSilent base face.inputs given observe) (is_never_stopping known base flat face) (range_with_len 0 (length base.checks))
+    (λ k e. λ label is vs allowed reported.
+    never-reported known flat face label (node_values vs flat.nodes) (observe vs) valid (held flat given vs valid allowed.within) (label-silent known base flat face k label is e) (all vs allowed.may) reported)
 
 -- ---- dependences
 
 -- the value that is told at a place is that of its output's node
-told-at : (flat : Flat) (face : Face) (vs told : List Value) (notes : List Label) (place k : ℕ) → told_of face.labels (notes_of face.outputs) (flat_run flat vs) ≡ Some (values notes told)
-    → k ≡ length (notes_of face.outputs) + place → k < length flat.outputs → value_at told place ≡ value_at (node_values vs flat.nodes) (node_of flat.outputs k)
-told-at flat face vs told notes place k e is low =
+reported-at : (flat : Flat) (face : Face) (vs reported : List Value) (notes : List Label) (place k : ℕ) → observation face.labels (notes_of face.outputs) (flat_run flat vs) ≡ Some (values notes reported)
+    → k ≡ length (notes_of face.outputs) + place → k < length flat.outputs → value_at reported place ≡ value_at (node_values vs flat.nodes) (node_of flat.outputs k)
+reported-at flat face vs reported notes place k e is low =
     let g : ℕ → Value = value_at (node_values vs flat.nodes) in
     let m = length (notes_of face.outputs) in
-    ap (λ vs. value_at vs place) (told-are flat face vs told notes e) ∙ get_or-drop m (map g flat.outputs) place Undef
+    ap (λ vs. value_at vs place) (reported-are flat face vs reported notes e) ∙ get_or-drop m (map g flat.outputs) place Undef
     ∙ ap (λ j. get_or (map g flat.outputs) j Undef) (sym is) ∙ get_or-map g flat.outputs k 0 Undef low
 
-told-past : (flat : Flat) (face : Face) (vs told : List Value) (notes : List Label) (place k : ℕ) → told_of face.labels (notes_of face.outputs) (flat_run flat vs) ≡ Some (values notes told)
-    → k ≡ length (notes_of face.outputs) + place → length flat.outputs ≤ k → value_at told place ≡ Undef
-told-past flat face vs told notes place k e is high =
+reported-past : (flat : Flat) (face : Face) (vs reported : List Value) (notes : List Label) (place k : ℕ) → observation face.labels (notes_of face.outputs) (flat_run flat vs) ≡ Some (values notes reported)
+    → k ≡ length (notes_of face.outputs) + place → length flat.outputs ≤ k → value_at reported place ≡ Undef
+reported-past flat face vs reported notes place k e is high =
     let g : ℕ → Value = value_at (node_values vs flat.nodes) in
     let m = length (notes_of face.outputs) in
-    ap (λ vs. value_at vs place) (told-are flat face vs told notes e) ∙ get_or-drop m (map g flat.outputs) place Undef
+    ap (λ vs. value_at vs place) (reported-are flat face vs reported notes e) ∙ get_or-drop m (map g flat.outputs) place Undef
     ∙ ap (λ j. get_or (map g flat.outputs) j Undef) (sym is) ∙ get_or_past (map g flat.outputs) k Undef (omega (arith, high, length-map flat.outputs g))
 
-pub depends-true : (flat : Flat) (face : Face) (given : List Possible) (tells : List Value → Told) (place k : ℕ) → IsFlat flat → IsFaceOf face flat → TellsAll flat face tells
+pub depends-true : (flat : Flat) (face : Face) (given : List Possible) (observe : List Value → Observation) (place k : ℕ) → IsFlat flat → IsFaceOf face flat → ReportsAll flat face observe
     → k ≡ length (notes_of face.outputs) + place
-    → DependsOn face.inputs given tells place (depends_on (known_of flat given) flat.nodes flat.inputs (node_of flat.outputs k))
-depends-true flat face given tells place k valid shown all is = λ vs ws first second same notes others told said e d.
+    → DependsOn face.inputs given observe place (depends_on (known_of flat given) flat.nodes flat.inputs (node_of flat.outputs k))
+depends-true flat face given observe place k valid shown all is = λ vs ws first second same notes others reported stated e d.
     let known = known_of flat given in
     let p = node_of flat.outputs k in
-    let told_vs = all vs first.may ∙ ap Some e in
-    let told_ws = all ws second.may ∙ ap Some d in
+    let reported_vs = all vs first.may ∙ ap Some e in
+    let reported_ws = all ws second.may ∙ ap Some d in
     ⊎_elim
     (λ (low : k < length flat.outputs).
-    told-at flat face vs told notes place k told_vs is low
+    reported-at flat face vs reported notes place k reported_vs is low
     ∙ agree known flat.nodes flat.inputs p vs ws valid.nodes
     (λ q lt. held flat given vs valid first.within q (omega (arith, lt, length-node_values vs flat.nodes)))
     (λ q lt. held flat given ws valid second.within q (omega (arith, lt, length-node_values ws flat.nodes)))
     (all-at (length flat.nodes) k flat.outputs valid.outputs low)
     (λ n steps. same n (number-has (may_depend known flat.nodes p) flat.inputs n (depends-within known flat.nodes flat.inputs n p valid.nodes steps) (by-test known flat.nodes flat.inputs n p valid.nodes steps)))
-    ∙ sym (told-at flat face ws said others place k told_ws is low))
-    (λ (high : length flat.outputs ≤ k). told-past flat face vs told notes place k told_vs is high ∙ sym (told-past flat face ws said others place k told_ws is high))
+    ∙ sym (reported-at flat face ws stated others place k reported_ws is low))
+    (λ (high : length flat.outputs ≤ k). reported-past flat face vs reported notes place k reported_vs is high ∙ sym (reported-past flat face ws stated others place k reported_ws is high))
     (cases_lt k (length flat.outputs))

@@ -5,13 +5,13 @@ use Rattle.m_fixed.specs.declared.amount.Value.{Value}
 use Rattle.m_places.specs.declared.verification.Label.{Label}
 use Rattle.definedness.specs.Facts.{Possible, Holds}
 use Rattle.observables.specs.declared.inputs.Coded.{Coded}
-use Rattle.observables.specs.Answers.{Told, values}
+use Rattle.observables.specs.Answers.{Observation, values}
 use Rattle.observables.specs.Inputs.{AreValuesOf}
 use Rattle.flat_code.specs.Facts.{AreWithin}
 use Rattle.flat_code.specs.Runs.{value_at}
 use Rattle.micro_m.specs.declared.base.Base.{Base}
 use Rattle.m_lint.specs.Findings.{label_of_check}
-use Rattle.m_lint.specs.Truths.{Tells}
+use Rattle.m_lint.specs.Truths.{ReportsEnding}
 
 -- values that inputs may have, each of which is possible by the fact of its input
 pub record AreAllowed (inputs : List Coded) (given : List Possible) (vs : List Value) : Type 0 where
@@ -19,21 +19,21 @@ pub record AreAllowed (inputs : List Coded) (given : List Possible) (vs : List V
   pub within : AreWithin given vs
 
 -- Each value that a household is told is possible by the fact of its cell.
-abbrev pub ArePossible : List Coded → List Possible → (List Value → Told) → List Possible → Type 0
-ArePossible inputs given tells facts =
-    (vs : List Value) → AreAllowed inputs given vs → (notes : List Label) (told : List Value) → tells vs ≡ values notes told → AllZip Holds facts told
+abbrev pub ArePossible : List Coded → List Possible → (List Value → Observation) → List Possible → Type 0
+ArePossible inputs given observe facts =
+    (vs : List Value) → AreAllowed inputs given vs → (notes : List Label) (reported : List Value) → observe vs ≡ values notes reported → AllZip Holds facts reported
 
 -- The check's label is told to no household.
-abbrev pub IsSilent : Base → List Coded → List Possible → (List Value → Told) → ℕ → Type 0
-IsSilent base inputs given tells k =
-    (label : Label) → label_of_check base k ≡ Some label → (vs : List Value) → AreAllowed inputs given vs → Tells (tells vs) label → ⊥
+abbrev pub IsSilent : Base → List Coded → List Possible → (List Value → Observation) → ℕ → Type 0
+IsSilent base inputs given observe k =
+    (label : Label) → label_of_check base k ≡ Some label → (vs : List Value) → AreAllowed inputs given vs → ReportsEnding (observe vs) label → ⊥
 
 -- two lists have the same values for the inputs with these numbers
 abbrev pub AgreeOn : List ℕ → List Value → List Value → Type 0
 AgreeOn ns vs ws = (n : ℕ) → Contains ns n → value_at vs n ≡ value_at ws n
 
 -- Two households that agree on these inputs, of which neither stops, are told the same value at this place.
-abbrev pub DependsOn : List Coded → List Possible → (List Value → Told) → ℕ → List ℕ → Type 0
-DependsOn inputs given tells place ns =
+abbrev pub DependsOn : List Coded → List Possible → (List Value → Observation) → ℕ → List ℕ → Type 0
+DependsOn inputs given observe place ns =
     (vs ws : List Value) → AreAllowed inputs given vs → AreAllowed inputs given ws → AgreeOn ns vs ws
-    → (notes others : List Label) (told said : List Value) → tells vs ≡ values notes told → tells ws ≡ values others said → value_at told place ≡ value_at said place
+    → (notes others : List Label) (reported stated : List Value) → observe vs ≡ values notes reported → observe ws ≡ values others stated → value_at reported place ≡ value_at stated place

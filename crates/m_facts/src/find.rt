@@ -98,18 +98,18 @@ fn reads_of(
     requires within { AllByRecursion (λ k. k < length flat.now.outputs) outputs.now }
     ensures { IfOk result (λ reads. reads ≡ map (depends_on known.now flat.now.nodes flat.now.inputs) (map (node_of flat.now.outputs) outputs.now)) }
 {
-    let asked = nodes_of(alloc, flat.outputs.as_slice(), outputs)?;
-    dependences(alloc, flat.nodes.as_slice(), flat.inputs, known, &asked)
+    let wanted = nodes_of(alloc, flat.outputs.as_slice(), outputs)?;
+    dependences(alloc, flat.nodes.as_slice(), flat.inputs, known, &wanted)
 }
 
 // The nodes of these outputs.
 fn nodes_of(alloc: Global, nodes: &[u32], outputs: &[u32]) -> Result<Vec<u32>, AllocError>
     requires { AllByRecursion (λ k. k < length nodes.now) outputs.now }
-    ensures { IfOk result (λ asked. asked.items ≡ map (node_of nodes.now) outputs.now) }
+    ensures { IfOk result (λ wanted. wanted.items ≡ map (node_of nodes.now) outputs.now) }
 {
-    let mut asked = Vec::with_capacity(alloc, outputs.len())?;
+    let mut wanted = Vec::with_capacity(alloc, outputs.len())?;
     for k in outputs {
-        asked.push(nodes[*k as usize])?;
+        wanted.push(nodes[*k as usize])?;
     }
-    Ok(asked)
+    Ok(wanted)
 }

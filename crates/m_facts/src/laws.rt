@@ -5,7 +5,7 @@ ghost use Rattle.std.specs.List.{AllByRecursion};
 ghost use Rattle.m_fixed.specs.declared.amount.Value.{Value};
 ghost use Rattle.definedness.specs.Facts.{Possible};
 ghost use Rattle.observables.specs.declared.face.Face.{Face};
-ghost use Rattle.observables.specs.Answers.{Told, told_of};
+ghost use Rattle.observables.specs.Answers.{Observation, observation};
 ghost use Rattle.observables.specs.Inputs.{AreValuesOf};
 ghost use Rattle.observables.specs.Outputs.{notes_of};
 ghost use Rattle.flat_code.specs.declared.program.Flat.{Flat};
@@ -19,23 +19,23 @@ ghost use Rattle.m_facts.specs.Truths.{ArePossible, IsSilent, DependsOn};
 
 /// Each value that a household within the facts is told is possible by what is printed of its cell.
 pub fn values_are_possible()
-    ensures { (base : Base) (flat : Flat) (face : Face) (given : List Possible) (tells : List Value → Told) → IsFlat flat → IsFaceOf face flat
-        → ((vs : List Value) → AreValuesOf face.inputs vs → told_of face.labels (notes_of face.outputs) (flat_run flat vs) ≡ Some (tells vs))
-        → ArePossible face.inputs given tells (named_facts face.outputs (found_of base flat face given).possible) }
+    ensures { (base : Base) (flat : Flat) (face : Face) (given : List Possible) (observe : List Value → Observation) → IsFlat flat → IsFaceOf face flat
+        → ((vs : List Value) → AreValuesOf face.inputs vs → observation face.labels (notes_of face.outputs) (flat_run flat vs) ≡ Some (observe vs))
+        → ArePossible face.inputs given observe (named_facts face.outputs (found_of base flat face given).possible) }
 {}
 
 /// The label of a check that never stops is told to no household within the facts.
 pub fn silent_checks_never_stop()
-    ensures { (base : Base) (flat : Flat) (face : Face) (given : List Possible) (tells : List Value → Told) → IsFlat flat → IsFaceOf face flat
-        → ((vs : List Value) → AreValuesOf face.inputs vs → told_of face.labels (notes_of face.outputs) (flat_run flat vs) ≡ Some (tells vs))
-        → AllByRecursion (IsSilent base face.inputs given tells) (found_of base flat face given).silent }
+    ensures { (base : Base) (flat : Flat) (face : Face) (given : List Possible) (observe : List Value → Observation) → IsFlat flat → IsFaceOf face flat
+        → ((vs : List Value) → AreValuesOf face.inputs vs → observation face.labels (notes_of face.outputs) (flat_run flat vs) ≡ Some (observe vs))
+        → AllByRecursion (IsSilent base face.inputs given observe) (found_of base flat face given).silent }
 {}
 
 /// Two households within the facts that agree on the inputs on which a requested cell may depend, of which neither stops, are told the
 /// same value of it. The place of a value that is told is the number of its output without the notes, which stand first.
 pub fn dependences_suffice()
-    ensures { (flat : Flat) (face : Face) (given : List Possible) (tells : List Value → Told) (place k : ℕ) → IsFlat flat → IsFaceOf face flat
-        → ((vs : List Value) → AreValuesOf face.inputs vs → told_of face.labels (notes_of face.outputs) (flat_run flat vs) ≡ Some (tells vs))
+    ensures { (flat : Flat) (face : Face) (given : List Possible) (observe : List Value → Observation) (place k : ℕ) → IsFlat flat → IsFaceOf face flat
+        → ((vs : List Value) → AreValuesOf face.inputs vs → observation face.labels (notes_of face.outputs) (flat_run flat vs) ≡ Some (observe vs))
         → k ≡ length (notes_of face.outputs) + place
-        → DependsOn face.inputs given tells place (depends_on (known_of flat given) flat.nodes flat.inputs (node_of flat.outputs k)) }
+        → DependsOn face.inputs given observe place (depends_on (known_of flat given) flat.nodes flat.inputs (node_of flat.outputs k)) }
 {}

@@ -17,7 +17,7 @@ use Rattle.m_lexer.proofs.ChainComplete.{open_complete}
 use Rattle.m_items.specs.declared.item_fault.ItemFault.{ItemFault}
 use Rattle.m_items.specs.declared.item_fault.ItemFault.TheVariants.{NoItem, Memory}
 use Rattle.m_items.specs.DeclarationGrammar.{input, computed, constant, error, SpellsApplications, SpellsDeclaration, a_variable, an_error, an_application, a_chaining}
-use Rattle.m_items.specs.Standing.{DeclarationStands, NoDeclaration, ApplicationsStand, NoApplications, EndsApplications, BeginsDeclaration, by_name, by_application, by_chaining}
+use Rattle.m_items.specs.Standing.{DeclarationAt, NoDeclaration, ApplicationsStand, NoApplications, EndsApplications, BeginsDeclaration, by_name, by_application, by_chaining}
 use Rattle.m_items.specs.inner.DeclarationReading.{Fails, sign_at, applications_at, declaration_at}
 use Rattle.m_items.proofs.DeclarationSoundLaws.{applications_sound, declaration_sound}
 use Rattle.m_items.proofs.DeclarationPassLaws.{applications_passes, declaration_passes}
@@ -49,8 +49,8 @@ left_of tokens rest b =
     record { some = omega arith; within = omega arith; left = behind_drop b (length tokens - length rest) (omega arith) }
 
 -- Declarations.
-pub declaration_stands : (tokens : List Token) {i : Item} {rest : List Token} → declaration_at tokens ≡ Some (i, rest) → DeclarationStands tokens i (length tokens - length rest)
-declaration_stands tokens {i} {rest} e =
+pub declaration_found : (tokens : List Token) {i : Item} {rest : List Token} → declaration_at tokens ≡ Some (i, rest) → DeclarationAt tokens i (length tokens - length rest)
+declaration_found tokens {i} {rest} e =
     let spelled : SpellsDeclaration i tokens rest = found (declaration_sound tokens) e in
     let l : Left tokens rest = left_of tokens rest (declaration_passes _ _ _ spelled) in
     record { some = l.some; within = l.within; spelled = subst (λ m. SpellsDeclaration i tokens m) l.left spelled }

@@ -14,13 +14,13 @@ use Rattle.m_lexer.specs.Chains.{First, first}
 use Rattle.m_terms.specs.Tokens.{is_sign, kind_is_sign}
 use Rattle.m_terms.specs.Grammar.{SpellsInner}
 use Rattle.m_terms.specs.Headers.{SpellsHeader}
-use Rattle.m_terms.specs.Terms.{SpellsTerm, follows, follows_of, BeginsBy, TermStands, HeaderStands, NoTermStands, NoHeaderStands}
+use Rattle.m_terms.specs.Terms.{SpellsTerm, follows, follows_of, BeginsBy, TermAt, HeaderAt, NoTermAt, NoHeaderAt}
 use Rattle.m_lexer.specs.inner.Chains.{◌>>=◌}
 use Rattle.m_terms.specs.inner.Reading.{begins_by, header_at, expr_at, inner_at}
 use Rattle.m_lexer.proofs.ChainComplete.{open_complete}
 use Rattle.m_terms.proofs.HeaderLaws.{grip_of, Loose, header_complete}
 use Rattle.m_terms.proofs.TermLaws.{tightness, Below, inner_passes, inner_complete, expr_complete}
-use Rattle.m_terms.proofs.Answered.{term_stands, header_stands}
+use Rattle.m_terms.proofs.Answered.{term_is_marked, header_found}
 use Rattle.m_items.specs.inner.DeclarationReading.{Fails}
 use Rattle.m_items.specs.inner.RuleReading.{item_fault_of, term_at, headed_at}
 
@@ -45,14 +45,14 @@ pub term_complete : {t : Syntax} {ts rest : List Token} → SpellsTerm t ts rest
 unfolding term_at
 term_complete {rest = rest} d b = rw (expr_complete (SpellsInner BRACKET_DEPTH) (inner_passes BRACKET_DEPTH) (inner_at BRACKET_DEPTH) (inner_complete BRACKET_DEPTH) _ _ _ d (first_below b.1), begins_true follows rest b) refl
 
-pub term_read : (ts : List Token) {t : Syntax} {to : ℕ} → TermStands ts 0 t to → term_at ts ≡ Some (t, drop to ts)
+pub term_read : (ts : List Token) {t : Syntax} {to : ℕ} → TermAt ts 0 t to → term_at ts ≡ Some (t, drop to ts)
 term_read ts s = term_complete s.spelled s.closed
 
-term_stuck : (ts : List Token) (t : Syntax) (rest : List Token) → expr_at (inner_at BRACKET_DEPTH) ts ≡ Some (t, rest) → NoTermStands ts 0 → (b : Bool) → begins_by follows rest ≡ b → cond {A = Option (Syntax × List Token)} b (Some (t, rest)) None ≡ None
-term_stuck ts t rest e none true f = absurd (none t _ (term_stands ts 0 (omega arith) e f))
+term_stuck : (ts : List Token) (t : Syntax) (rest : List Token) → expr_at (inner_at BRACKET_DEPTH) ts ≡ Some (t, rest) → NoTermAt ts 0 → (b : Bool) → begins_by follows rest ≡ b → cond {A = Option (Syntax × List Token)} b (Some (t, rest)) None ≡ None
+term_stuck ts t rest e none true f = absurd (none t _ (term_is_marked ts 0 (omega arith) e f))
 term_stuck ts t rest e none false f = refl
 
-no_term : (ts : List Token) → NoTermStands ts 0 → term_at ts ≡ None
+no_term : (ts : List Token) → NoTermAt ts 0 → term_at ts ≡ None
 unfolding term_at
 no_term ts none = go (expr_at (inner_at BRACKET_DEPTH) ts) refl
   where
@@ -60,7 +60,7 @@ no_term ts none = go (expr_at (inner_at BRACKET_DEPTH) ts) refl
     go None e = refl
     go (Some t) e = term_stuck ts t.0 t.1 e none (begins_by follows t.1) refl
 
-pub term_fails : (ts : List Token) (fault : TermFault) → ((fault ≡ Memory → ⊥) → NoTermStands ts 0) → Fails (item_fault_of fault) (term_at ts)
+pub term_fails : (ts : List Token) (fault : TermFault) → ((fault ≡ Memory → ⊥) → NoTermAt ts 0) → Fails (item_fault_of fault) (term_at ts)
 term_fails ts NoTerm h = no_term ts (h (λ e. absurd (cc)))
 term_fails ts Memory h = tt
 
@@ -76,14 +76,14 @@ pub headed_complete : {h : Header} {ts rest : List Token} → SpellsHeader h ts 
 unfolding headed_at
 headed_complete {rest = rest} d b = rw (header_complete _ _ _ d (first_loose b.1), begins_true (is_sign Colon) rest b) refl
 
-pub header_read : (ts : List Token) {h : Header} {to : ℕ} → HeaderStands ts 0 h to → headed_at ts ≡ Some (h, drop to ts)
+pub header_read : (ts : List Token) {h : Header} {to : ℕ} → HeaderAt ts 0 h to → headed_at ts ≡ Some (h, drop to ts)
 header_read ts s = headed_complete s.spelled s.closed
 
-header_stuck : (ts : List Token) (h : Header) (rest : List Token) → header_at ts ≡ Some (h, rest) → NoHeaderStands ts 0 → (b : Bool) → begins_by (is_sign Colon) rest ≡ b → cond {A = Option (Header × List Token)} b (Some (h, rest)) None ≡ None
-header_stuck ts h rest e none true f = absurd (none h _ (header_stands ts 0 (omega arith) e f))
+header_stuck : (ts : List Token) (h : Header) (rest : List Token) → header_at ts ≡ Some (h, rest) → NoHeaderAt ts 0 → (b : Bool) → begins_by (is_sign Colon) rest ≡ b → cond {A = Option (Header × List Token)} b (Some (h, rest)) None ≡ None
+header_stuck ts h rest e none true f = absurd (none h _ (header_found ts 0 (omega arith) e f))
 header_stuck ts h rest e none false f = refl
 
-no_header : (ts : List Token) → NoHeaderStands ts 0 → headed_at ts ≡ None
+no_header : (ts : List Token) → NoHeaderAt ts 0 → headed_at ts ≡ None
 unfolding headed_at
 no_header ts none = go (header_at ts) refl
   where
@@ -91,6 +91,6 @@ no_header ts none = go (header_at ts) refl
     go None e = refl
     go (Some h) e = header_stuck ts h.0 h.1 e none (begins_by (is_sign Colon) h.1) refl
 
-pub header_fails : (ts : List Token) (fault : TermFault) → ((fault ≡ Memory → ⊥) → NoHeaderStands ts 0) → Fails (item_fault_of fault) (headed_at ts)
+pub header_fails : (ts : List Token) (fault : TermFault) → ((fault ≡ Memory → ⊥) → NoHeaderAt ts 0) → Fails (item_fault_of fault) (headed_at ts)
 header_fails ts NoTerm h = no_header ts (h (λ e. absurd (cc)))
 header_fails ts Memory h = tt

@@ -121,10 +121,10 @@ error_key _ x e = absurd (cc)
 pub error_kind_first : {x : ErrorKind} {ts rest : List Token} → First error_kind x ts rest → BeginsWith (Key (kind_key x)) ts
 error_kind_first (first {t = t} e) = begins_with (error_key t.kind _ e)
 
-place_says : (o : Option (Unit {0})) (p q : Place) → place_where o p ≡ Some q → o ≡ Some tt
-place_says None p q e = absurd (cc)
-place_says (Some b) p q e = refl
+place_meaning : (o : Option (Unit {0})) (p q : Place) → place_where o p ≡ Some q → o ≡ Some tt
+place_meaning None p q e = absurd (cc)
+place_meaning (Some b) p q e = refl
 
 -- a reserved word with its place, without it
 pub key_begins : (k : AKey) {p : Place} {ts rest : List Token} → SpellsKeyAt k p ts rest → SpellsKey k ts rest
-key_begins k {p} (first {t = t} e) = first (place_says (kind_is_key k t.kind) t.place p e)
+key_begins k {p} (first {t = t} e) = first (place_meaning (kind_is_key k t.kind) t.place p e)

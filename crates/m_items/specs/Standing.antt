@@ -12,7 +12,7 @@ use Rattle.m_items.specs.Tokens.{name, SpellsSign, SpellsKey}
 use Rattle.m_items.specs.DeclarationGrammar.{SpellsDeclaration, SpellsApplications}
 
 -- The tokens up to a position spell the declaration: of those of `SEUIL : const = 1000 ;` the first six do.
-pub record DeclarationStands (tokens : List Token) (item : Item) (to : ℕ) : Type 0 where
+pub record DeclarationAt (tokens : List Token) (item : Item) (to : ℕ) : Type 0 where
   pub some : 0 < to
   pub within : to ≤ length tokens
   pub spelled : SpellsDeclaration item tokens (drop to tokens)

@@ -2,7 +2,7 @@
 ghost use Rattle.std.specs.Prelude.{◌≡◌};
 ghost use Rattle.m_places.specs.Refusals.{Outcome};
 ghost use Rattle.m_items.specs.declared.item_fault.ItemFault.TheVariants.{Memory};
-ghost use Rattle.m_items.specs.Standing.{DeclarationStands, NoDeclaration, ApplicationsStand, NoApplications};
+ghost use Rattle.m_items.specs.Standing.{DeclarationAt, NoDeclaration, ApplicationsStand, NoApplications};
 
 use crate::cursor::Cursor;
 use crate::declarations::declaration;
@@ -19,7 +19,7 @@ use std::alloc::Global;
 /// Of `SEUIL : const = 1000 ; IRN` it reads the first six tokens and answers 6. `NoItem` comes exactly where no
 /// prefix of the tokens spells a declaration.
 pub fn read_declaration(alloc: Global, tokens: &[Token]) -> Result<(Item, usize), ItemFault>
-    ensures outcome { Outcome Memory result (λ read. DeclarationStands tokens.now read.0 read.1) (λ fault. NoDeclaration tokens.now) }
+    ensures outcome { Outcome Memory result (λ read. DeclarationAt tokens.now read.0 read.1) (λ fault. NoDeclaration tokens.now) }
 {
     let mut cursor = Cursor::new(tokens);
     let item = declaration(alloc, &mut cursor)?;

@@ -8,7 +8,7 @@ use Rattle.m_places.specs.declared.place.Place.{Place}
 use Rattle.m_lexer.specs.declared.token.Token.{Token}
 use Rattle.m_lexer.specs.declared.fault.LexFault.{LexFault}
 use Rattle.m_text.specs.Bytes.{line_feed}
-use Rattle.m_lexer.specs.Tokens.{Lexes, end, gap, token, FirstFault, bad_byte, open_string, too_great, StandsIn, IsFaultAt, behind}
+use Rattle.m_lexer.specs.Tokens.{Lexes, end, gap, token, FirstFault, bad_byte, open_string, too_great, IsTokenOf, IsFaultAt, behind}
 
 -- after one text and then another is after both
 behind_both : (t u : List ℕ) (p : Place) → behind u (behind t p) ≡ behind (t ++ u) p
@@ -19,7 +19,7 @@ behind_both t u p =
     let lines : p.line + count_by (λ b. b == line_feed) t + count_by (λ b. b == line_feed) u ≡ p.line + count_by (λ b. b == line_feed) (t ++ u) = omega arith in
     λ i. record { file = p.file; byte = bytes i; line = lines i }
 
-later : (p : Place) (bytes t rest : List ℕ) (tok : Token) → bytes ≡ t ++ rest → StandsIn (behind t p) rest tok → StandsIn p bytes tok
+later : (p : Place) (bytes t rest : List ℕ) (tok : Token) → bytes ≡ t ++ rest → IsTokenOf (behind t p) rest tok → IsTokenOf p bytes tok
 later p bytes t rest tok e s = record {
   before = t ++ s.before;
   spelling = s.spelling;
@@ -29,7 +29,7 @@ later p bytes t rest tok e s = record {
   placed = s.placed ∙ behind_both t s.before p;
 }
 
-all_later : (p : Place) (bytes t rest : List ℕ) (tokens : List Token) → bytes ≡ t ++ rest → AllByRecursion (StandsIn (behind t p) rest) tokens → AllByRecursion (StandsIn p bytes) tokens
+all_later : (p : Place) (bytes t rest : List ℕ) (tokens : List Token) → bytes ≡ t ++ rest → AllByRecursion (IsTokenOf (behind t p) rest) tokens → AllByRecursion (IsTokenOf p bytes) tokens
 all_later p bytes t rest [] e h = tt
 all_later p bytes t rest (x ∷ tokens) e h = (later p bytes t rest x e h.0, all_later p bytes t rest tokens e h.1)
 
@@ -39,7 +39,7 @@ behind_nothing p =
     let lines : p.line ≡ p.line + 0 = omega arith in
     λ i. record { file = p.file; byte = bytes i; line = lines i }
 
-in_place : (p : Place) (bytes : List ℕ) (tokens : List Token) → Lexes p bytes tokens → AllByRecursion (StandsIn p bytes) tokens
+in_place : (p : Place) (bytes : List ℕ) (tokens : List Token) → Lexes p bytes tokens → AllByRecursion (IsTokenOf p bytes) tokens
 in_place p bytes tokens end = tt
 in_place p bytes tokens (gap {t = t} {rest = r} l g d) = all_later p bytes t r tokens l.parts (in_place (behind t p) r tokens d)
 in_place p bytes tokens (token {t = t} {rest = r} {tokens = ts} l s d) = (
@@ -47,8 +47,8 @@ in_place p bytes tokens (token {t = t} {rest = r} {tokens = ts} l s d) = (
   all_later p bytes t r ts l.parts (in_place (behind t p) r ts d),
 )
 
-pub tokens_in_place : (p : Place) (bytes : List ℕ) (tokens : List Token) → Lexes p bytes tokens → All (StandsIn p bytes) tokens
-tokens_in_place p bytes tokens d = All-from_recursion (StandsIn p bytes) tokens (in_place p bytes tokens d)
+pub tokens_in_place : (p : Place) (bytes : List ℕ) (tokens : List Token) → Lexes p bytes tokens → All (IsTokenOf p bytes) tokens
+tokens_in_place p bytes tokens d = All-from_recursion (IsTokenOf p bytes) tokens (in_place p bytes tokens d)
 
 moved : (p q : Place) (f : LexFault) → p ≡ q → IsFaultAt p f → IsFaultAt q f
 moved p q f e h = subst (λ x. IsFaultAt x f) e h

@@ -72,7 +72,7 @@ pub data FirstFault : Place → List ℕ → LexFault → Type 0 where
 
 -- A token stands where its place says: a spelling of it is there, and its place is the one after
 -- all that comes before.
-pub record StandsIn (p : Place) (bytes : List ℕ) (token : Token) : Type 0 where
+pub record IsTokenOf (p : Place) (bytes : List ℕ) (token : Token) : Type 0 where
   pub before : List ℕ
   pub spelling : List ℕ
   pub others : List ℕ

@@ -5,7 +5,7 @@ ghost use Rattle.std.specs.Prelude.{◌≡◌, ◌++◌, ℕ, List, All};
 ghost use Rattle.m_places.specs.declared.place.Place.{Place};
 ghost use Rattle.m_lexer.specs.declared.token.Token.{Token};
 ghost use Rattle.m_lexer.specs.declared.fault.LexFault.{LexFault};
-ghost use Rattle.m_lexer.specs.Tokens.{Lexes, FirstFault, StandsIn, IsFaultAt, behind};
+ghost use Rattle.m_lexer.specs.Tokens.{Lexes, FirstFault, IsTokenOf, IsFaultAt, behind};
 
 /// The same bytes have one list of tokens.
 pub fn one_list()
@@ -28,7 +28,7 @@ pub fn one_first_fault()
 /// Each token stands where its place says, as many bytes and lines into the file.
 pub fn tokens_in_place()
     ensures { (p : Place) (bytes : List ℕ) (tokens : List Token) →
-        Lexes p bytes tokens → All (StandsIn p bytes) tokens }
+        Lexes p bytes tokens → All (IsTokenOf p bytes) tokens }
 {}
 
 /// The first fault is at a place of the file, as many bytes and lines into it.

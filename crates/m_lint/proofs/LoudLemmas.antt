@@ -18,7 +18,7 @@ use Rattle.flat_code.specs.declared.program.Flat.{Flat}
 use Rattle.m_places.specs.declared.place.Place.{Place}
 use Rattle.micro_m.specs.Trees.{Tree}
 use Rattle.micro_m.specs.declared.base.Base.{Base}
-use Rattle.m_lint.specs.Findings.{fact_at, is_quiet, is_silent, is_same_label, has_label, checks_are_silent, output_is_silent, notes_are_silent, is_never_told, is_never_stopping}
+use Rattle.m_lint.specs.Findings.{fact_at, is_quiet, is_silent, is_same_label, has_label, checks_are_silent, output_is_silent, notes_are_silent, is_never_reported, is_never_stopping}
 use Rattle.m_lint.specs.inner.Loud.{with_checks, with_output, with_notes, loud_of, coded_label, with_name, with_label, with_labels, is_label_unmarked, is_unmarked}
 use Rattle.m_lint.proofs.CodeLemmas.{code-same, label-itself}
 
@@ -157,14 +157,14 @@ any-notes labels this known (output ∷ outputs) (p ∷ ps) marks e =
     (any-notes labels this known outputs ps (with_output fact output marks) (e ∙ sym (output-length fact output marks))) (any-output labels this fact output marks e)
 
 -- a label is never told where no label equal to it is marked
-never-marked : (known : List Possible) (flat : Flat) (face : Face) (this : Label) → not (any_marked face.labels (loud_of known flat face) this) ≡ is_never_told known flat face this
+never-marked : (known : List Possible) (flat : Flat) (face : Face) (this : Label) → not (any_marked face.labels (loud_of known flat face) this) ≡ is_never_reported known flat face this
 never-marked known flat face this =
     let none = replicate (length face.labels) false in
     let so_many : length face.labels ≡ length none = sym (length-replicate (length face.labels) false) in
     let checks = with_checks known flat.checks none in
     let all = then-rest _ _ (any_marked face.labels none this) (checks_are_silent face.labels this known flat.checks) (notes_are_silent face.labels this known face.outputs flat.outputs)
     (any-notes face.labels this known face.outputs flat.outputs checks (so_many ∙ sym (checks-length known flat.checks none))) (any-checks face.labels this known flat.checks none so_many) in
-    ap not (all ∙ ap (λ b. b || not (is_never_told known flat face this)) (any-none face.labels (length face.labels) this)) ∙ twice (is_never_told known flat face this)
+    ap not (all ∙ ap (λ b. b || not (is_never_reported known flat face this)) (any-none face.labels (length face.labels) this)) ∙ twice (is_never_reported known flat face this)
   where
     twice : (b : Bool) → not (not b) ≡ b
     twice true = refl
@@ -224,13 +224,13 @@ pub unmarked-never : (known : List Possible) (base : Base) (flat : Flat) (face :
 unmarked-never known base flat face k first = by (slice_get base.checks k)
   where
     label : (n : ℕ) (found : Option Label) → slice_get base.labels n ≡ found → option_map_or (is_label_unmarked (loud_of known flat face) (with_labels face.labels (loud_of known flat face) []) n) found false
-        ≡ option_map_or (is_never_told known flat face) found false
+        ≡ option_map_or (is_never_reported known flat face) found false
     label n None e = refl
     label n (Some this) e =
         label-unmarked face.labels (loud_of known flat face) n this (first-get base.labels face.labels n this first e)
         ∙ never-marked known flat face this
 
     by : (found : Option (Tree × ℕ × Place)) → option_map_or (λ check. option_map_or (is_label_unmarked (loud_of known flat face) (with_labels face.labels (loud_of known flat face) []) check.1) (slice_get base.labels check.1) false) found false
-        ≡ option_map_or (is_never_told known flat face) (option_and_then (λ check. slice_get base.labels check.1) found) false
+        ≡ option_map_or (is_never_reported known flat face) (option_and_then (λ check. slice_get base.labels check.1) found) false
     by None = refl
     by (Some check) = label check.1 (slice_get base.labels check.1) refl

@@ -24,7 +24,7 @@ use Rattle.observables.specs.declared.face.FaceOutput.TheVariants.{Named, Noted}
 use Rattle.observables.specs.declared.inputs.Coded.{Coded}
 use Rattle.observables.specs.declared.inputs.InputType.{InputType}
 use Rattle.observables.specs.Inputs.{IsValueOf, AreValuesOf}
-use Rattle.observables.specs.Answers.{Told, values, stopped, label_number, cause_of, is_told, note_told, notes_told, told_of}
+use Rattle.observables.specs.Answers.{Observation, values, stopped, label_number, cause_of, is_reported, reported_note, reported_notes, observation}
 use Rattle.observables.specs.Outputs.{are_named, notes_of, notes_stand_first, verif_at, verif_of}
 use Rattle.flat_code.specs.declared.program.Node.{Node}
 use Rattle.flat_code.specs.declared.program.Node.TheVariants.{Input, Lit, Do}
@@ -40,8 +40,8 @@ use Rattle.micro_m.specs.Bases.{is_among, targets_of}
 use Rattle.m_lint.specs.declared.finding.Finding.{Finding}
 use Rattle.m_lint.specs.declared.finding.Finding.TheVariants.{NeverDefined, NeverStops, Unused}
 use Rattle.m_lint.specs.Readings.{is_read}
-use Rattle.m_lint.specs.Findings.{numbers_with, is_given, is_never_defined, is_same_label, has_label, fact_at, is_quiet, is_silent, is_silent_by, checks_are_silent, notes_are_silent, is_never_told, label_of_check, is_never_stopping, is_input_node, is_unused, findings_of, IsWithinCounts, AreWithinCounts}
-use Rattle.m_lint.specs.Truths.{Tells, IsNeverDefined, IsNeverStopping, AreEqualBut, IsUnused, IsTrueFinding}
+use Rattle.m_lint.specs.Findings.{numbers_with, is_given, is_never_defined, is_same_label, has_label, fact_at, is_quiet, is_silent, is_silent_by, checks_are_silent, notes_are_silent, is_never_reported, label_of_check, is_never_stopping, is_input_node, is_unused, findings_of, IsWithinCounts, AreWithinCounts}
+use Rattle.m_lint.specs.Truths.{ReportsEnding, IsNeverDefined, IsNeverStopping, AreEqualBut, IsUnused, IsTrueFinding}
 use Rattle.m_lint.proofs.CodeLemmas.{label-itself}
 use Rattle.m_lint.proofs.ReadLemmas.{read-is, no-definition}
 
@@ -155,10 +155,10 @@ no-stop labels this known vs count (check ∷ checks) stop valid holds silent e 
 
 -- ---- silent notes aren't told
 
-told-zero : (f : Possible) (v : Value) → is_quiet f ≡ true → Holds f v → is_told v ≡ true → ⊥
-told-zero f Undef q h e = cc e
-told-zero f (Num z) q h e = both_ways (is_zero z) (not-true (is_zero z) e) (quiet-zero f z q h)
-told-zero f Over q h e = cc e
+reported-zero : (f : Possible) (v : Value) → is_quiet f ≡ true → Holds f v → is_reported v ≡ true → ⊥
+reported-zero f Undef q h e = cc e
+reported-zero f (Num z) q h e = both_ways (is_zero z) (not-true (is_zero z) e) (quiet-zero f z q h)
+reported-zero f Over q h e = cc e
 
 pub named-none : (outputs : List FaceOutput) → are_named outputs ≡ true → notes_of outputs ≡ []
 named-none [] e = refl
@@ -166,45 +166,45 @@ named-none (Named name ∷ outputs) e = named-none outputs e
 named-none (Noted number ∷ outputs) e = cc e
 
 -- a note that is told has its label
-told-label : (labels : List FaceLabel) (this : Label) (number : ℕ) (v : Value) → note_told labels number v ≡ Some this → (is_told v ≡ true) × (has_label labels this number ≡ true)
-told-label labels this number v e = by (is_told v) refl e
+reported-label : (labels : List FaceLabel) (this : Label) (number : ℕ) (v : Value) → reported_note labels number v ≡ Some this → (is_reported v ≡ true) × (has_label labels this number ≡ true)
+reported-label labels this number v e = by (is_reported v) refl e
   where
-    by : (b : Bool) → is_told v ≡ b → cond b (verif_at labels number) None ≡ Some this → (is_told v ≡ true) × (has_label labels this number ≡ true)
+    by : (b : Bool) → is_reported v ≡ b → cond b (verif_at labels number) None ≡ Some this → (is_reported v ≡ true) × (has_label labels this number ≡ true)
     by true is e = (is, ap (λ o. option_map_or (is_same_label this) o false) e ∙ label-itself this)
     by false is e = cc e
 
 no-note : (labels : List FaceLabel) (this : Label) (known : List Possible) (vs : List Value) (count : ℕ) (outputs : List FaceOutput) (ps : List ℕ) → notes_stand_first labels outputs ≡ true
-    → AllByRecursion (λ p. p < count) ps → HoldAll count known vs → notes_are_silent labels this known outputs ps ≡ true → Contains (notes_told labels (notes_of outputs) (map (value_at vs) ps)) this → ⊥
+    → AllByRecursion (λ p. p < count) ps → HoldAll count known vs → notes_are_silent labels this known outputs ps ≡ true → Contains (reported_notes labels (notes_of outputs) (map (value_at vs) ps)) this → ⊥
 no-note labels this known vs count [] ps first low holds silent has = omega (arith, has.1)
 no-note labels this known vs count (Named name ∷ outputs) ps first low holds silent has =
-    let empty : notes_told labels (notes_of outputs) (map (value_at vs) ps) ≡ [] = ap (λ ns. notes_told labels ns (map (value_at vs) ps)) (named-none outputs first) in
+    let empty : reported_notes labels (notes_of outputs) (map (value_at vs) ps) ≡ [] = ap (λ ns. reported_notes labels ns (map (value_at vs) ps)) (named-none outputs first) in
     omega (arith, has.1, ap length empty)
 no-note labels this known vs count (Noted number ∷ outputs) [] first low holds silent has = omega (arith, has.1)
 no-note labels this known vs count (Noted number ∷ outputs) (p ∷ ps) first low holds silent has =
     by (no-note labels this known vs count outputs ps (and_parts (is_some (verif_at labels number)) (notes_stand_first labels outputs) first).1 low.1 holds
     (and_parts (not (has_label labels this number) || is_quiet (fact_at known p)) (notes_are_silent labels this known outputs ps) silent).1)
-    (note_told labels number (value_at vs p)) refl has
+    (reported_note labels number (value_at vs p)) refl has
   where
     parts : ((not (has_label labels this number) || is_quiet (fact_at known p)) ≡ true) × (notes_are_silent labels this known outputs ps ≡ true)
     parts = and_parts (not (has_label labels this number) || is_quiet (fact_at known p)) (notes_are_silent labels this known outputs ps) silent
 
-    here : note_told labels number (value_at vs p) ≡ Some this → ⊥
+    here : reported_note labels number (value_at vs p) ≡ Some this → ⊥
     here e =
-        let k = told-label labels this number (value_at vs p) e in
-        elim (or_cases (not (has_label labels this number)) (is_quiet (fact_at known p)) parts.0) [ inl h ↦ both_ways (has_label labels this number) (not-true (has_label labels this number) h) k.1 | inr q ↦ told-zero (fact_at known p) (value_at vs p) q (holds p low.0) k.0 ]
+        let k = reported-label labels this number (value_at vs p) e in
+        elim (or_cases (not (has_label labels this number)) (is_quiet (fact_at known p)) parts.0) [ inl h ↦ both_ways (has_label labels this number) (not-true (has_label labels this number) h) k.1 | inr q ↦ reported-zero (fact_at known p) (value_at vs p) q (holds p low.0) k.0 ]
 
-    at : (Contains (notes_told labels (notes_of outputs) (map (value_at vs) ps)) this → ⊥) → (label : Label) → note_told labels number (value_at vs p) ≡ Some label → (k : ℕ) → k < suc (length (notes_told labels (notes_of outputs) (map (value_at vs) ps))) → get_or (label ∷ notes_told labels (notes_of outputs) (map (value_at vs) ps)) k this ≡ this → ⊥
+    at : (Contains (reported_notes labels (notes_of outputs) (map (value_at vs) ps)) this → ⊥) → (label : Label) → reported_note labels number (value_at vs p) ≡ Some label → (k : ℕ) → k < suc (length (reported_notes labels (notes_of outputs) (map (value_at vs) ps))) → get_or (label ∷ reported_notes labels (notes_of outputs) (map (value_at vs) ps)) k this ≡ this → ⊥
     at later label is zero lt e = here (is ∙ ap Some e)
     at later label is (suc k) lt e = later (k, omega (arith, lt), e)
 
-    by : (Contains (notes_told labels (notes_of outputs) (map (value_at vs) ps)) this → ⊥) → (found : Option Label) → note_told labels number (value_at vs p) ≡ found → Contains (cons_option found (notes_told labels (notes_of outputs) (map (value_at vs) ps))) this → ⊥
+    by : (Contains (reported_notes labels (notes_of outputs) (map (value_at vs) ps)) this → ⊥) → (found : Option Label) → reported_note labels number (value_at vs p) ≡ found → Contains (cons_option found (reported_notes labels (notes_of outputs) (map (value_at vs) ps))) this → ⊥
     by later None is has = later has
     by later (Some label) is has = at later label is has.0 has.1 has.2
 
 -- ---- checks that never stop
 
 -- what a stop tells is the label with its number
-cause-label : (stop : Stop) (l : FaceLabel) (this : Label) (labels : List FaceLabel) → slice_get labels (label_number stop) ≡ Some l → Tells (stopped (cause_of stop l)) this → has_label labels this (label_number stop) ≡ true
+cause-label : (stop : Stop) (l : FaceLabel) (this : Label) (labels : List FaceLabel) → slice_get labels (label_number stop) ≡ Some l → ReportsEnding (stopped (cause_of stop l)) this → has_label labels this (label_number stop) ≡ true
 cause-label stop (DriverLine line) this labels e (inl h) = cc h
 cause-label stop (DriverLine line) this labels e (inr h) = cc h
 cause-label (Failed n) (Verif label) this labels e (inl h) = let is : label ≡ this = cc in ap (λ o. option_map_or (is_same_label this) (option_and_then verif_of o) false) (e ∙ ap (λ (x : Label). Some (Verif x)) is) ∙ label-itself this
@@ -213,37 +213,37 @@ cause-label (OverStop n) (Verif label) this labels e (inl h) = cc h
 cause-label (OverStop n) (Verif label) this labels e (inr h) = let is : label ≡ this = cc in ap (λ o. option_map_or (is_same_label this) (option_and_then verif_of o) false) (e ∙ ap (λ (x : Label). Some (Verif x)) is) ∙ label-itself this
 
 -- what is told of a run in which the label is silent doesn't tell it
-pub never-told : (known : List Possible) (flat : Flat) (face : Face) (this : Label) (vs : List Value) (told : Told) → IsFlat flat → HoldAll (length flat.nodes) known vs → is_never_told known flat face this ≡ true
-    → told_of face.labels (notes_of face.outputs) (answer_by vs flat) ≡ Some told → Tells told this → ⊥
-never-told known flat face this vs told valid holds silent e tells = by (first_stop vs flat.checks) refl e
+pub never-reported : (known : List Possible) (flat : Flat) (face : Face) (this : Label) (vs : List Value) (reported : Observation) → IsFlat flat → HoldAll (length flat.nodes) known vs → is_never_reported known flat face this ≡ true
+    → observation face.labels (notes_of face.outputs) (answer_by vs flat) ≡ Some reported → ReportsEnding reported this → ⊥
+never-reported known flat face this vs reported valid holds silent e observe = by (first_stop vs flat.checks) refl e
   where
     parts : (checks_are_silent face.labels this known flat.checks ≡ true) × (notes_are_silent face.labels this known face.outputs flat.outputs ≡ true)
     parts = and_parts (checks_are_silent face.labels this known flat.checks) (notes_are_silent face.labels this known face.outputs flat.outputs) silent
 
-    label : (stop : Stop) (found : Option FaceLabel) → slice_get face.labels (label_number stop) ≡ found → has_label face.labels this (label_number stop) ≡ false → option_map (λ l. stopped (cause_of stop l)) found ≡ Some told → ⊥
+    label : (stop : Stop) (found : Option FaceLabel) → slice_get face.labels (label_number stop) ≡ found → has_label face.labels this (label_number stop) ≡ false → option_map (λ l. stopped (cause_of stop l)) found ≡ Some reported → ⊥
     label stop None is none e = cc e
-    label stop (Some l) is none e = let same : told ≡ stopped (cause_of stop l) = cc in both_ways (has_label face.labels this (label_number stop)) none (cause-label stop l this face.labels is (rw same at tells))
+    label stop (Some l) is none e = let same : reported ≡ stopped (cause_of stop l) = cc in both_ways (has_label face.labels this (label_number stop)) none (cause-label stop l this face.labels is (rw same at observe))
 
-    by : (found : Option Stop) → first_stop vs flat.checks ≡ found → told_of face.labels (notes_of face.outputs) (option_map_or Stopped found (Values (map (value_at vs) flat.outputs))) ≡ Some told → ⊥
+    by : (found : Option Stop) → first_stop vs flat.checks ≡ found → observation face.labels (notes_of face.outputs) (option_map_or Stopped found (Values (map (value_at vs) flat.outputs))) ≡ Some reported → ⊥
     by None is e =
-        let same : told ≡ values (notes_told face.labels (notes_of face.outputs) (map (value_at vs) flat.outputs)) (drop (length (notes_of face.outputs)) (map (value_at vs) flat.outputs)) = cc in
-        no-note face.labels this known vs (length flat.nodes) face.outputs flat.outputs face.notes valid.outputs holds parts.1 (rw same at tells)
+        let same : reported ≡ values (reported_notes face.labels (notes_of face.outputs) (map (value_at vs) flat.outputs)) (drop (length (notes_of face.outputs)) (map (value_at vs) flat.outputs)) = cc in
+        no-note face.labels this known vs (length flat.nodes) face.outputs flat.outputs face.notes valid.outputs holds parts.1 (rw same at observe)
     by (Some stop) is e =
         label stop (slice_get face.labels (label_number stop)) refl
         (no-stop face.labels this known vs (length flat.nodes) flat.checks stop valid.checks holds parts.0 is) e
 
-abbrev TellsAll : Flat → Face → (List Value → Told) → Type 0
-TellsAll flat face tells = (given : List Value) → AreValuesOf face.inputs given → told_of face.labels (notes_of face.outputs) (flat_run flat given) ≡ Some (tells given)
+abbrev ReportsAll : Flat → Face → (List Value → Observation) → Type 0
+ReportsAll flat face observe = (given : List Value) → AreValuesOf face.inputs given → observation face.labels (notes_of face.outputs) (flat_run flat given) ≡ Some (observe given)
 
 -- the label of a check that never stops is never told
-pub label-silent : (known : List Possible) (base : Base) (flat : Flat) (face : Face) (k : ℕ) (this : Label) → label_of_check base k ≡ Some this → is_never_stopping known base flat face k ≡ true → is_never_told known flat face this ≡ true
-label-silent known base flat face k this is e = sym (ap (λ o. option_map_or (is_never_told known flat face) o false) is) ∙ e
+pub label-silent : (known : List Possible) (base : Base) (flat : Flat) (face : Face) (k : ℕ) (this : Label) → label_of_check base k ≡ Some this → is_never_stopping known base flat face k ≡ true → is_never_reported known flat face this ≡ true
+label-silent known base flat face k this is e = sym (ap (λ o. option_map_or (is_never_reported known flat face) o false) is) ∙ e
 
-pub stopping-true : (base : Base) (flat : Flat) (face : Face) (tells : List Value → Told) (k : ℕ) → IsFlat flat → TellsAll flat face tells → is_never_stopping (entries_of facts flat.nodes) base flat face k ≡ true → IsNeverStopping base face.inputs tells k
-stopping-true base flat face tells k valid all e = λ this is given may told.
+pub stopping-true : (base : Base) (flat : Flat) (face : Face) (observe : List Value → Observation) (k : ℕ) → IsFlat flat → ReportsAll flat face observe → is_never_stopping (entries_of facts flat.nodes) base flat face k ≡ true → IsNeverStopping base face.inputs observe k
+stopping-true base flat face observe k valid all e = λ this is given may reported.
     let known = entries_of facts flat.nodes in
-    let silent : is_never_told known flat face this ≡ true = label-silent known base flat face k this is e in
-    never-told known flat face this (node_values given flat.nodes) (tells given) valid (λ p low. flat-holds flat given p valid (plain-values face.inputs given may) low) silent (all given may) told
+    let silent : is_never_reported known flat face this ≡ true = label-silent known base flat face k this is e in
+    never-reported known flat face this (node_values given flat.nodes) (observe given) valid (λ p low. flat-holds flat given p valid (plain-values face.inputs given may) low) silent (all given may) reported
 
 -- ---- inputs that aren't used
 
@@ -261,10 +261,10 @@ from-same n given other vs (node ∷ nodes) e h =
     let k = or_parts (is_input_node n node) (list_any (is_input_node n) nodes) e in
     ap (λ v. fold (more given) (vs ++ v ∷ []) nodes) (entry-same n given other vs node k.0 h) ∙ from-same n given other (more other vs node) nodes k.1 h
 
-pub unused-true : (flat : Flat) (face : Face) (tells : List Value → Told) (n : ℕ) → TellsAll flat face tells → is_unused flat n ≡ true → IsUnused face.inputs tells n
-unused-true flat face tells n all e = λ given other may can same.
+pub unused-true : (flat : Flat) (face : Face) (observe : List Value → Observation) (n : ℕ) → ReportsAll flat face observe → is_unused flat n ≡ true → IsUnused face.inputs observe n
+unused-true flat face observe n all e = λ given other may can same.
     let runs : flat_run flat given ≡ flat_run flat other = ap (λ vs. answer_by vs flat) (from-same n given other [] flat.nodes (not-true (list_any (is_input_node n) flat.nodes) e) same) in
-    let both : Some (tells given) ≡ Some (tells other) = sym (all given may) ∙ ap (told_of face.labels (notes_of face.outputs)) runs ∙ all other can in
+    let both : Some (observe given) ≡ Some (observe other) = sym (all given may) ∙ ap (observation face.labels (notes_of face.outputs)) runs ∙ all other can in
     cc both
 
 -- ---- all findings
@@ -287,15 +287,15 @@ all-append P (x ∷ xs) ys h k = (h.0, all-append P xs ys h.1 k)
 three : (P : Finding → Type 0) (xs ys zs : List Finding) → AllByRecursion P xs → AllByRecursion P ys → AllByRecursion P zs → AllByRecursion P (xs ++ ys ++ zs)
 three P xs ys zs h k l = all-append P (xs ++ ys) zs (all-append P xs ys h k) l
 
-pub all_true : (declared : Declared) (base : Base) (flat : Flat) (face : Face) (tells : List Value → Told) → IsFlat flat → IsFaceOf face flat
-    → ((given : List Value) → AreValuesOf face.inputs given → told_of face.labels (notes_of face.outputs) (flat_run flat given) ≡ Some (tells given))
-    → AllByRecursion (IsTrueFinding declared base face.inputs tells) (findings_of declared base flat face)
-all_true declared base flat face tells valid shown all =
-    three (IsTrueFinding declared base face.inputs tells)
+pub all_true : (declared : Declared) (base : Base) (flat : Flat) (face : Face) (observe : List Value → Observation) → IsFlat flat → IsFaceOf face flat
+    → ((given : List Value) → AreValuesOf face.inputs given → observation face.labels (notes_of face.outputs) (flat_run flat given) ≡ Some (observe given))
+    → AllByRecursion (IsTrueFinding declared base face.inputs observe) (findings_of declared base flat face)
+all_true declared base flat face observe valid shown all =
+    three (IsTrueFinding declared base face.inputs observe)
     (map NeverDefined (numbers_with (is_never_defined declared base) base.cells)) (map NeverStops (numbers_with (is_never_stopping (entries_of facts flat.nodes) base flat face) (length base.checks))) (map Unused (numbers_with (is_unused flat) flat.inputs))
-    (numbers-all (IsTrueFinding declared base face.inputs tells) NeverDefined (is_never_defined declared base) base.cells (λ k low e. defined-true declared base k e))
-    (numbers-all (IsTrueFinding declared base face.inputs tells) NeverStops (is_never_stopping (entries_of facts flat.nodes) base flat face) (length base.checks) (λ k low e. stopping-true base flat face tells k valid all e))
-    (numbers-all (IsTrueFinding declared base face.inputs tells) Unused (is_unused flat) flat.inputs (λ k low e. unused-true flat face tells k all e))
+    (numbers-all (IsTrueFinding declared base face.inputs observe) NeverDefined (is_never_defined declared base) base.cells (λ k low e. defined-true declared base k e))
+    (numbers-all (IsTrueFinding declared base face.inputs observe) NeverStops (is_never_stopping (entries_of facts flat.nodes) base flat face) (length base.checks) (λ k low e. stopping-true base flat face observe k valid all e))
+    (numbers-all (IsTrueFinding declared base face.inputs observe) Unused (is_unused flat) flat.inputs (λ k low e. unused-true flat face observe k all e))
 
 -- and their numbers are below the counts
 pub all_within : (declared : Declared) (base : Base) (flat : Flat) (face : Face) → AreWithinCounts base.cells (length base.checks) flat.inputs (findings_of declared base flat face)

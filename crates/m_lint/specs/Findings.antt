@@ -95,8 +95,8 @@ notes_are_silent labels label known (output ∷ outputs) (p ∷ ps) =
 notes_are_silent labels label known _ _ = true
 
 -- whether a label is never told, where the nodes have these facts: all checks and notes with a label equal to it are silent
-abbrev pub is_never_told : List Possible → Flat → Face → Label → Bool
-is_never_told known flat face label =
+abbrev pub is_never_reported : List Possible → Flat → Face → Label → Bool
+is_never_reported known flat face label =
     checks_are_silent face.labels label known flat.checks && notes_are_silent face.labels label known face.outputs flat.outputs
 
 -- the label of the check with this number
@@ -105,7 +105,7 @@ label_of_check base k = option_and_then (λ check. slice_get base.labels check.1
 
 -- a check of the base whose label is never told, where the nodes have these facts
 abbrev pub is_never_stopping : List Possible → Base → Flat → Face → ℕ → Bool
-is_never_stopping known base flat face k = option_map_or (is_never_told known flat face) (label_of_check base k) false
+is_never_stopping known base flat face k = option_map_or (is_never_reported known flat face) (label_of_check base k) false
 
 -- the checks of the base that never stop, in order, where the nodes have these facts
 abbrev pub never_stopping : List Possible → Base → Flat → Face → List ℕ

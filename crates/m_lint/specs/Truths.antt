@@ -5,7 +5,7 @@ use Rattle.m_fixed.specs.declared.amount.Value.TheVariants.{Undef}
 use Rattle.m_places.specs.declared.verification.Label.{Label}
 use Rattle.observables.specs.declared.inputs.Coded.{Coded}
 use Rattle.observables.specs.Inputs.{AreValuesOf}
-use Rattle.observables.specs.Answers.{Told, values, stopped, failed, over}
+use Rattle.observables.specs.Answers.{Observation, values, stopped, failed, over}
 use Rattle.m_symbols.specs.Declarations.{Declared}
 use Rattle.micro_m.specs.Trees.{Tree}
 use Rattle.micro_m.specs.declared.base.Base.{Base}
@@ -31,14 +31,14 @@ pub record IsNeverDefined (declared : Declared) (base : Base) (c : ℕ) : Type 0
 -- ---- a check that never stops
 
 -- what is told names the label: as what ended the run, or among the notes
-abbrev pub Tells : Told → Label → Type 0
-Tells (stopped cause) label = (cause ≡ failed label) ⊎ (cause ≡ over label)
-Tells (values notes vs) label = Contains notes label
+abbrev pub ReportsEnding : Observation → Label → Type 0
+ReportsEnding (stopped cause) label = (cause ≡ failed label) ⊎ (cause ≡ over label)
+ReportsEnding (values notes vs) label = Contains notes label
 
 -- Whatever values the inputs have, the check's label isn't told.
-abbrev pub IsNeverStopping : Base → List Coded → (List Value → Told) → ℕ → Type 0
-IsNeverStopping base inputs tells k =
-    (label : Label) → label_of_check base k ≡ Some label → (given : List Value) → AreValuesOf inputs given → Tells (tells given) label → ⊥
+abbrev pub IsNeverStopping : Base → List Coded → (List Value → Observation) → ℕ → Type 0
+IsNeverStopping base inputs observe k =
+    (label : Label) → label_of_check base k ≡ Some label → (given : List Value) → AreValuesOf inputs given → ReportsEnding (observe given) label → ⊥
 
 -- ---- an input that isn't used
 
@@ -47,14 +47,14 @@ abbrev pub AreEqualBut : ℕ → List Value → List Value → Type 0
 AreEqualBut n given other = (m : ℕ) → m ≢ n → slice_index_or given m Undef ≡ slice_index_or other m Undef
 
 -- Whatever values the inputs have, another value of this one changes nothing that is told.
-abbrev pub IsUnused : List Coded → (List Value → Told) → ℕ → Type 0
-IsUnused inputs tells n =
-    (given other : List Value) → AreValuesOf inputs given → AreValuesOf inputs other → AreEqualBut n given other → tells given ≡ tells other
+abbrev pub IsUnused : List Coded → (List Value → Observation) → ℕ → Type 0
+IsUnused inputs observe n =
+    (given other : List Value) → AreValuesOf inputs given → AreValuesOf inputs other → AreEqualBut n given other → observe given ≡ observe other
 
 -- ---- findings
 
 -- A finding is true of the rules that are declared and of what is told to households, whose inputs are these.
-abbrev pub IsTrueFinding : Declared → Base → List Coded → (List Value → Told) → Finding → Type 0
-IsTrueFinding declared base inputs tells (NeverDefined c) = IsNeverDefined declared base c
-IsTrueFinding declared base inputs tells (NeverStops k) = IsNeverStopping base inputs tells k
-IsTrueFinding declared base inputs tells (Unused n) = IsUnused inputs tells n
+abbrev pub IsTrueFinding : Declared → Base → List Coded → (List Value → Observation) → Finding → Type 0
+IsTrueFinding declared base inputs observe (NeverDefined c) = IsNeverDefined declared base c
+IsTrueFinding declared base inputs observe (NeverStops k) = IsNeverStopping base inputs observe k
+IsTrueFinding declared base inputs observe (Unused n) = IsUnused inputs observe n

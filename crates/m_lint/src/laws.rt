@@ -4,7 +4,7 @@ ghost use Rattle.std.specs.Prelude.{◌≡◌, ℕ, List, Some, true, ◌⊎◌}
 ghost use Rattle.std.specs.List.{AllByRecursion};
 ghost use Rattle.m_fixed.specs.declared.amount.Value.{Value};
 ghost use Rattle.observables.specs.declared.face.Face.{Face};
-ghost use Rattle.observables.specs.Answers.{Told, told_of};
+ghost use Rattle.observables.specs.Answers.{Observation, observation};
 ghost use Rattle.observables.specs.Inputs.{AreValuesOf};
 ghost use Rattle.observables.specs.Outputs.{notes_of};
 ghost use Rattle.flat_code.specs.declared.program.Flat.{Flat};
@@ -20,9 +20,9 @@ ghost use Rattle.m_lint.specs.Truths.{AreRead, IsTrueFinding};
 /// Each finding is true, whatever answers the program gives in the place of a source: where its run, read through its face, tells to
 /// each list of values of its inputs what `tells` does.
 pub fn findings_are_true()
-    ensures { (declared : Declared) (base : Base) (flat : Flat) (face : Face) (tells : List Value → Told) → IsFlat flat → IsFaceOf face flat
-        → ((given : List Value) → AreValuesOf face.inputs given → told_of face.labels (notes_of face.outputs) (flat_run flat given) ≡ Some (tells given))
-        → AllByRecursion (IsTrueFinding declared base face.inputs tells) (findings_of declared base flat face) }
+    ensures { (declared : Declared) (base : Base) (flat : Flat) (face : Face) (observe : List Value → Observation) → IsFlat flat → IsFaceOf face flat
+        → ((given : List Value) → AreValuesOf face.inputs given → observation face.labels (notes_of face.outputs) (flat_run flat given) ≡ Some (observe given))
+        → AllByRecursion (IsTrueFinding declared base face.inputs observe) (findings_of declared base flat face) }
 {}
 
 /// The test whether a cell is read says what it is to be read.

@@ -109,17 +109,17 @@ gathered_prefix (Some bytes) mid rest text was prefix = record {
 pub through_given : {S T E : Type 0} (written : S → Option (List ℕ)) (faults : S → ℕ) (old before mid new : S) (start first : Option (List ℕ)) (rest text : List ℕ) (result : Result T E)
     → before ≡ old → first ≡ written old → written old ≡ start → Extends start (written mid) → append_known (written mid) rest ≡ append_known first text → faults mid ≡ faults before
     → Gives written faults mid new result rest → Gives written faults old new result text
-through_given written faults old before mid new start first rest text (Ok value) made none told was all calm gives = record {
+through_given written faults old before mid new start first rest text (Ok value) made none known_files was all calm gives = record {
   all = gives.all ∙ all ∙ ap (λ known. append_known known text) none;
   failed = tt;
   prefix = tt;
   faultless = gives.faultless ∙ calm ∙ ap faults made;
   counted = subst (λ count. count ≤ faults new) (calm ∙ ap faults made) gives.counted;
 }
-through_given written faults old before mid new start first rest text (Err fault) made none told was all calm gives = record {
+through_given written faults old before mid new start first rest text (Err fault) made none known_files was all calm gives = record {
   all = tt;
   failed = subst (λ count. Rose count (faults new)) (calm ∙ ap faults made) gives.failed;
-  prefix = rest_prefix (written old) (written mid) (written new) rest text (subst (λ (known : Option (List ℕ)). Extends known (written mid)) (sym told) was)
+  prefix = rest_prefix (written old) (written mid) (written new) rest text (subst (λ (known : Option (List ℕ)). Extends known (written mid)) (sym known_files) was)
       (all ∙ ap (λ known. append_known known text) none) gives.prefix;
   faultless = tt;
   counted = subst (λ count. count ≤ faults new) (calm ∙ ap faults made) gives.counted;
@@ -128,17 +128,17 @@ through_given written faults old before mid new start first rest text (Err fault
 -- A write failed while the text was printed into a new buffer: a prefix of the text was given.
 pub through_broken : {S : Type 0} (written : S → Option (List ℕ)) (old mid : S) (start first : Option (List ℕ)) (rest text : List ℕ)
     → first ≡ written old → written old ≡ start → Extends start (written mid) → AppendsPrefix first (append_known (written mid) rest) text → AppendsPrefix (written old) (written mid) text
-through_broken written old mid start first rest text none told was prefix =
-    gathered_prefix (written old) (written mid) rest text (subst (λ (known : Option (List ℕ)). Extends known (written mid)) (sym told) was)
+through_broken written old mid start first rest text none known_files was prefix =
+    gathered_prefix (written old) (written mid) rest text (subst (λ (known : Option (List ℕ)). Extends known (written mid)) (sym known_files) was)
     (subst (λ (known : Option (List ℕ)). AppendsPrefix known (append_known (written mid) rest) text) none prefix)
 
 pub through_failed : {S T E : Type 0} (written : S → Option (List ℕ)) (faults : S → ℕ) (old before mid : S) (start first : Option (List ℕ)) (rest text : List ℕ) (result : Result T E) (fault : E)
     → result ≡ Err fault → before ≡ old → first ≡ written old → written old ≡ start → Extends start (written mid) → Rose (faults before) (faults mid)
     → AppendsPrefix first (append_known (written mid) rest) text → faults before ≤ faults mid → Gives written faults old mid result text
-through_failed written faults old before mid start first rest text result fault is made none told was rose prefix counted = rw is (record {
+through_failed written faults old before mid start first rest text result fault is made none known_files was rose prefix counted = rw is (record {
   all = tt;
   failed = subst (λ count. Rose count (faults mid)) (ap faults made) rose;
-  prefix = through_broken written old mid start first rest text none told was prefix;
+  prefix = through_broken written old mid start first rest text none known_files was prefix;
   faultless = tt;
   counted = subst (λ count. count ≤ faults mid) (ap faults made) counted;
 })
@@ -151,8 +151,8 @@ pub through_result : {S : Type 0} (written : S → Option (List ℕ)) (faults : 
     → OnErr printed (Rose (faults before) (faults mid)) → OnErr printed (AppendsPrefix first (append_known (written mid) rest) text) → faults before ≤ faults mid
     → OnOk printed (Gives written faults mid new result rest) → OnErr printed ((new ≡ mid) × (result ≡ printed))
     → Gives written faults old new result text
-through_result written faults old before mid new start first rest text (Ok value) result made none told was all calm rose prefix counted gives failed =
-    through_given written faults old before mid new start first rest text result made none told was all calm gives
-through_result written faults old before mid new start first rest text (Err fault) result made none told was all calm rose prefix counted gives failed =
+through_result written faults old before mid new start first rest text (Ok value) result made none known_files was all calm rose prefix counted gives failed =
+    through_given written faults old before mid new start first rest text result made none known_files was all calm gives
+through_result written faults old before mid new start first rest text (Err fault) result made none known_files was all calm rose prefix counted gives failed =
     subst (λ now. Gives written faults old now result text) (sym failed.0)
-    (through_failed written faults old before mid start first rest text result fault failed.1 made none told was rose prefix counted)
+    (through_failed written faults old before mid start first rest text result fault failed.1 made none known_files was rose prefix counted)

@@ -6,7 +6,7 @@ use Rattle.m_ports.specs.declared.files.FetchFault.TheVariants.{Failed, TooLong,
 
 -- where the files are told, there is one of this name, and its bytes are left to read
 abbrev pub Opens : Option (List ℕ → Option (List ℕ)) → List ℕ → Option (List ℕ) → Type 0
-Opens told name left = IfSome told (λ files. IsSomeAnd (files name) (λ content. left ≡ Some content))
+Opens known_files name left = IfSome known_files (λ files. IsSomeAnd (files name) (λ content. left ≡ Some content))
 
 -- The count of faults after a fetch with this answer: one more where a call of the opener failed, which the answer tells, and else the same.
 abbrev pub after_fetch : {T : Type 0} → Result T FetchFault → Option ℕ → Option ℕ

@@ -19,15 +19,15 @@ failed_count (attempt ∷ attempts) = (if attempt.failed then 1 else 0) + failed
 
 -- where the files are told, the name has these bytes
 abbrev pub Holds : Option (List ℕ → Option (List ℕ)) → List ℕ → List ℕ → Type 0
-Holds told name bytes = IfSome told (λ files. files name ≡ Some bytes)
+Holds known_files name bytes = IfSome known_files (λ files. files name ≡ Some bytes)
 
 -- where the files are told, the name has more bytes than this
 abbrev pub HoldsMoreThan : ℕ → Option (List ℕ → Option (List ℕ)) → List ℕ → Type 0
-HoldsMoreThan limit told name = IfSome told (λ files. IsSomeAnd (files name) (λ bytes. limit < length bytes))
+HoldsMoreThan limit known_files name = IfSome known_files (λ files. IsSomeAnd (files name) (λ bytes. limit < length bytes))
 
 -- the files are told, and none has the name
 abbrev pub IsMissing : Option (List ℕ → Option (List ℕ)) → List ℕ → Type 0
-IsMissing told name = IsSomeAnd told (λ files. files name ≡ None)
+IsMissing known_files name = IsSomeAnd known_files (λ files. files name ≡ None)
 
 -- the file could not be had: the fetch failed, or there was no memory for it
 abbrev pub IsRefused : {T : Type 0} → Result T FetchFault → Type 0

@@ -72,7 +72,7 @@ impl<W: Write> Writer for W {
 /// What opens files by their paths, and reads the one that is open.
 pub trait Opener {
     /// What each path holds, where it tells it. A missing path holds nothing.
-    ghost told: { Self → Option (List ℕ → Option (List ℕ)) };
+    ghost known_files: { Self → Option (List ℕ → Option (List ℕ)) };
 
     /// The bytes that are left of the open file, where it tells them.
     ghost remaining: { Self → Option (List ℕ) };
@@ -82,10 +82,10 @@ pub trait Opener {
 
     /// Opens the file of this path, in the place of the one that was open.
     fn open(&mut self, path: &str) -> io::Result<()>
-        ensures opened { OnOk result (Opens (told self.old) path.now (remaining self.new)) }
+        ensures opened { OnOk result (Opens (known_files self.old) path.now (remaining self.new)) }
         ensures failed { OnErr result (failures self.new ≡ after_failure (failures self.old)) }
         ensures faultless { OnOk result (failures self.new ≡ failures self.old) }
-        ensures same { told self.new ≡ told self.old };
+        ensures same { known_files self.new ≡ known_files self.old };
 
     /// Reads from the file that is open, as `Read::read`.
     fn read_open(&mut self, piece: &mut [u8]) -> io::Result<usize>
@@ -93,12 +93,12 @@ pub trait Opener {
         ensures bytes { ReadConsumes (remaining self.old) (remaining self.new) result piece.new }
         ensures failed { OnErr result (failures self.new ≡ after_failure (failures self.old)) }
         ensures faultless { OnOk result (failures self.new ≡ failures self.old) }
-        ensures same { told self.new ≡ told self.old };
+        ensures same { known_files self.new ≡ known_files self.old };
 
     /// Closes the file that is open.
     fn close(&mut self)
         ensures faultless { failures self.new ≡ failures self.old }
-        ensures same { told self.new ≡ told self.old };
+        ensures same { known_files self.new ≡ known_files self.old };
 }
 
 /// The files of the system, by their paths. It tells and counts nothing.
@@ -118,7 +118,7 @@ impl<'a, H: rt::Files> Disk<'a, H> {
 impl<'a, H: rt::Files> Opener for Disk<'a, H> {
     ghost use Rattle.std.specs.Prelude.{None};
 
-    ghost told = { λ _. None };
+    ghost known_files = { λ _. None };
 
     ghost remaining = { λ _. None };
 

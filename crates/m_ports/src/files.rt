@@ -48,7 +48,7 @@ pub struct Attempt {
 /// Files that are fetched by name.
 pub trait Files {
     /// What each name holds, where the object tells it. A missing name holds nothing.
-    ghost told: { Self → Option (List ℕ → Option (List ℕ)) };
+    ghost known_files: { Self → Option (List ℕ → Option (List ℕ)) };
 
     /// The fetches so far, in order. The object's count of faults is the number of those that failed.
     ghost attempts: { Self → List Attempt };
@@ -62,14 +62,14 @@ pub trait Files {
         // is refused for memory is none.
         ensures attempt { attempts self.new ≡ attempts self.old ++ attempt_of name.now result }
 
-        ensures whole { IfOk result (λ bytes. Holds (told self.old) name.now bytes.items) }
+        ensures whole { IfOk result (λ bytes. Holds (known_files self.old) name.now bytes.items) }
         ensures within { IfOk result (λ bytes. length bytes.items ≤ limit) }
 
-        ensures missing { IsMissing (told self.old) name.now → IsRefused result }
-        ensures too_long { IsErrOf result FetchFault.TooLong → HoldsMoreThan limit (told self.old) name.now }
+        ensures missing { IsMissing (known_files self.old) name.now → IsRefused result }
+        ensures too_long { IsErrOf result FetchFault.TooLong → HoldsMoreThan limit (known_files self.old) name.now }
         ensures took_more { IsErrOf result FetchFault.TooLong → RoseByMore limit (taken self.old) (taken self.new) }
 
-        ensures same { told self.new ≡ told self.old }
+        ensures same { known_files self.new ≡ known_files self.old }
 
         // What is given was taken: the count of taken bytes rose by the file's length at least.
         ensures counted_whole { IfOk result (λ bytes. RoseBy (length bytes.items) (taken self.old) (taken self.new)) }

@@ -80,7 +80,7 @@ pub fn read_whole<O: Opener>(
     ensures within { IfOk result (λ bytes. length bytes.items ≤ limit) }
     ensures too_long { IsErrOf result FetchFault.TooLong → IfSome (O.remaining opener.old) (λ content. limit < length content) }
     ensures failures { O.failures opener.new ≡ after_fetch result (O.failures opener.old) }
-    ensures same { O.told opener.new ≡ O.told opener.old }
+    ensures same { O.known_files opener.new ≡ O.known_files opener.old }
     ensures moved { RoseByMoved (O.remaining opener.old) (O.remaining opener.new) taken.old taken.new }
     ensures took_more { IsErrOf result FetchFault.TooLong → RoseByMore limit taken.old taken.new }
     ensures counted_whole { IfOk result (λ bytes. RoseBy (length bytes.items) taken.old taken.new) }
@@ -115,13 +115,13 @@ fn read_file<O: Opener>(
     limit: u64,
     taken: &mut u64,
 ) -> Result<Vec<u8>, FetchFault>
-    ensures whole { IfOk result (λ bytes. Holds (O.told opener.old) name.now bytes.items) }
+    ensures whole { IfOk result (λ bytes. Holds (O.known_files opener.old) name.now bytes.items) }
     ensures within { IfOk result (λ bytes. length bytes.items ≤ limit) }
-    ensures missing { IsMissing (O.told opener.old) name.now → IsRefused result }
-    ensures too_long { IsErrOf result FetchFault.TooLong → HoldsMoreThan limit (O.told opener.old) name.now }
+    ensures missing { IsMissing (O.known_files opener.old) name.now → IsRefused result }
+    ensures too_long { IsErrOf result FetchFault.TooLong → HoldsMoreThan limit (O.known_files opener.old) name.now }
     ensures failures { is_utf8 name.now ≡ true → O.failures opener.new ≡ after_fetch result (O.failures opener.old) }
     ensures not_text { is_utf8 name.now ≡ false → IsErrOf result FetchFault.Failed × (opener.new ≡ opener.old) }
-    ensures same { O.told opener.new ≡ O.told opener.old }
+    ensures same { O.known_files opener.new ≡ O.known_files opener.old }
     ensures took_more { IsErrOf result FetchFault.TooLong → RoseByMore limit taken.old taken.new }
     ensures counted_whole { IfOk result (λ bytes. RoseBy (length bytes.items) taken.old taken.new) }
     ensures counted { taken.old ≤ taken.new }
@@ -141,7 +141,7 @@ fn read_file<O: Opener>(
 }
 
 impl<O: Opener> Files for HostFiles<O> {
-    ghost told = { λ s. O.told s.opener };
+    ghost known_files = { λ s. O.known_files s.opener };
 
     ghost attempts = { λ s. s.attempts.items };
 
@@ -151,13 +151,13 @@ impl<O: Opener> Files for HostFiles<O> {
     /// isn't UTF-8 is refused, and nothing is opened.
     fn fetch(&mut self, alloc: Global, name: &Name, limit: u64) -> Result<Vec<u8>, FetchFault>
         ensures attempt { self.new.attempts.items ≡ self.old.attempts.items ++ attempt_of name.now result }
-        ensures whole { IfOk result (λ bytes. Holds (O.told self.old.opener) name.now bytes.items) }
+        ensures whole { IfOk result (λ bytes. Holds (O.known_files self.old.opener) name.now bytes.items) }
         ensures within { IfOk result (λ bytes. length bytes.items ≤ limit) }
-        ensures missing { IsMissing (O.told self.old.opener) name.now → IsRefused result }
-        ensures too_long { IsErrOf result FetchFault.TooLong → HoldsMoreThan limit (O.told self.old.opener) name.now }
+        ensures missing { IsMissing (O.known_files self.old.opener) name.now → IsRefused result }
+        ensures too_long { IsErrOf result FetchFault.TooLong → HoldsMoreThan limit (O.known_files self.old.opener) name.now }
         ensures failures { is_utf8 name.now ≡ true → O.failures self.new.opener ≡ after_fetch result (O.failures self.old.opener) }
         ensures not_text { is_utf8 name.now ≡ false → IsRefused result × (self.new.opener ≡ self.old.opener) }
-        ensures same { O.told self.new.opener ≡ O.told self.old.opener }
+        ensures same { O.known_files self.new.opener ≡ O.known_files self.old.opener }
         ensures took_more { IsErrOf result FetchFault.TooLong → RoseByMore limit self.old.taken self.new.taken }
         ensures counted_whole { IfOk result (λ bytes. RoseBy (length bytes.items) self.old.taken self.new.taken) }
         ensures counted { self.old.taken ≤ self.new.taken }

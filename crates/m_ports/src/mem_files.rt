@@ -91,7 +91,7 @@ impl Files for MemFiles {
     ghost use Rattle.m_ports.specs.Counts.{is_failing};
     ghost use Rattle.m_ports.specs.MemFiles.{fetched};
 
-    ghost told = { λ s. Some (content_of s.files.items) };
+    ghost known_files = { λ s. Some (content_of s.files.items) };
 
     ghost attempts = { λ s. s.attempts.items };
 

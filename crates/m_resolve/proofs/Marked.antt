@@ -4,7 +4,7 @@ use Rattle.m_places.specs.declared.place.Place.{Place}
 use Rattle.m_symbols.specs.Declarations.{Declared}
 use Rattle.micro_m.specs.Bases.{is_among}
 use Rattle.m_symbols.specs.Cells.{cell_name}
-use Rattle.m_resolve.specs.Terms.{if_said}
+use Rattle.m_resolve.specs.Terms.{if_resolved}
 use Rattle.m_resolve.specs.Bases.{new_target}
 use Rattle.m_resolve.specs.declared.fault.ResolveFault.{ResolveFault}
 use Rattle.m_resolve.specs.declared.fault.ResolveFault.TheVariants.{DefinedTwice}
@@ -18,13 +18,13 @@ was_new true e = absurd (cc)
 was_new false e = cc
 
 -- a cell that an earlier definition has
-pub twice : (d : Declared) (place : Place) (earlier : List ℕ) (cell : ℕ) (said : Result ℕ ResolveFault) → said ≡ Ok cell → false ≡ not (is_among cell earlier)
-    → if_said (new_target d place earlier) said ≡ Err (DefinedTwice (cell_name d cell) place)
-twice d place earlier cell said s m =
-    ap (if_said (new_target d place earlier)) s ∙ ap (λ b. cond b (Err (DefinedTwice (cell_name d cell) place)) (Ok cell)) (was_marked (is_among cell earlier) m)
+pub twice : (d : Declared) (place : Place) (earlier : List ℕ) (cell : ℕ) (stated : Result ℕ ResolveFault) → stated ≡ Ok cell → false ≡ not (is_among cell earlier)
+    → if_resolved (new_target d place earlier) stated ≡ Err (DefinedTwice (cell_name d cell) place)
+twice d place earlier cell stated s m =
+    ap (if_resolved (new_target d place earlier)) s ∙ ap (λ b. cond b (Err (DefinedTwice (cell_name d cell) place)) (Ok cell)) (was_marked (is_among cell earlier) m)
 
 -- a cell that none has
-pub first_time : (d : Declared) (place : Place) (earlier : List ℕ) (cell : ℕ) (said : Result ℕ ResolveFault) → said ≡ Ok cell → true ≡ not (is_among cell earlier)
-    → if_said (new_target d place earlier) said ≡ Ok cell
-first_time d place earlier cell said s m =
-    ap (if_said (new_target d place earlier)) s ∙ ap (λ b. cond b (Err (DefinedTwice (cell_name d cell) place)) (Ok cell)) (was_new (is_among cell earlier) m)
+pub first_time : (d : Declared) (place : Place) (earlier : List ℕ) (cell : ℕ) (stated : Result ℕ ResolveFault) → stated ≡ Ok cell → true ≡ not (is_among cell earlier)
+    → if_resolved (new_target d place earlier) stated ≡ Ok cell
+first_time d place earlier cell stated s m =
+    ap (if_resolved (new_target d place earlier)) s ∙ ap (λ b. cond b (Err (DefinedTwice (cell_name d cell) place)) (Ok cell)) (was_new (is_among cell earlier) m)

@@ -17,7 +17,7 @@ use Rattle.m_symbols.specs.Cells.{variable_named}
 use Rattle.m_symbols.specs.Placed.{IsPlaced}
 use Rattle.m_symbols.proofs.Placing.{placed_ends, fits, table_sized}
 use Rattle.m_ast.specs.declared.plain_rules.Definition.{Definition}
-use Rattle.m_resolve.specs.Bases.{target_in, target_of, target_said, computed_target, table_target}
+use Rattle.m_resolve.specs.Bases.{target_in, target_of, resolved_target, computed_target, table_target}
 use Rattle.m_resolve.specs.declared.fault.ResolveFault.{ResolveFault}
 use Rattle.m_resolve.specs.declared.fault.ResolveFault.TheVariants.{BadTarget, Memory}
 
@@ -52,8 +52,8 @@ in_variable name place first all cells slot (Computed size) e h = in_computed na
 in_variable name place first all cells slot (Input code) e h = tt
 in_variable name place first all cells slot (Constant amount) e h = tt
 
-if_target : (said : Result ℕ ResolveFault) (cell all : ℕ) → said ≡ Ok cell → IfOk said (λ c. c < all) → cell < all
-if_target said cell all e h = subst (λ r. IfOk r (λ c. c < all)) e h
+if_target : (stated : Result ℕ ResolveFault) (cell all : ℕ) → stated ≡ Ok cell → IfOk stated (λ c. c < all) → cell < all
+if_target stated cell all e h = subst (λ r. IfOk r (λ c. c < all)) e h
 
 pub target_known : (d : Declared) (name : List ℕ) (place : Place) (slot : Slot) (v : Variable) (result : Result ℕ ResolveFault) → IsPlaced d → variable_named d name ≡ Some v
     → Outcome Memory result (λ cell. target_in name place v.first_cell slot v.item.role ≡ Ok cell) (λ fault. target_in name place v.first_cell slot v.item.role ≡ Err fault)
@@ -66,8 +66,8 @@ target_known d name place slot v (Ok cell) p e o =
 target_known d name place slot v (Err fault) p e o = tt
 
 -- the cell of a definition's target is among those that are declared
-pub target_said_within : (d : Declared) (definition : Definition) (cell : ℕ) → IsPlaced d → target_said d definition ≡ Ok cell → cell < length (owners_from 0 d.variables)
-target_said_within d definition cell p e = by_variable (variable_named d definition.target) refl
+pub resolved_target_within : (d : Declared) (definition : Definition) (cell : ℕ) → IsPlaced d → resolved_target d definition ≡ Ok cell → cell < length (owners_from 0 d.variables)
+resolved_target_within d definition cell p e = by_variable (variable_named d definition.target) refl
   where
     by_variable : (o : Option Variable) → variable_named d definition.target ≡ o → cell < length (owners_from 0 d.variables)
     by_variable None n = let s = sym (ap (target_of definition) n) ∙ e in absurd (cc)

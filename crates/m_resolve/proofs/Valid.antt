@@ -28,17 +28,17 @@ use Rattle.m_ast.specs.Members.{is_single}
 use Rattle.m_ast.specs.declared.plain_rules.Plain.{Plain}
 use Rattle.m_ast.specs.declared.plain_rules.Definition.{Definition}
 use Rattle.m_ast.specs.declared.plain_rules.Condition.{Condition}
-use Rattle.m_resolve.specs.Terms.{if_said, cell_said, cell_of_variable, whole_cell, table_said, table_of_variable, table_cells, member_by, any_of, membership, term_said, terms_said, links_said, members_said}
-use Rattle.m_resolve.specs.Bases.{target_said, new_target, cells_of, definition_said, definitions_said, Checks, with_condition, conditions_said, label_said, error_named, constant_in, constants_of, base_with, resolved}
+use Rattle.m_resolve.specs.Terms.{if_resolved, resolved_cell, cell_of_variable, whole_cell, resolved_table, table_of_variable, table_cells, member_by, any_of, membership, resolved_term, resolved_terms, resolved_links, resolved_members}
+use Rattle.m_resolve.specs.Bases.{resolved_target, new_target, cells_of, resolved_definition, resolved_definitions, Checks, with_condition, resolved_conditions, resolved_label, error_named, constant_in, constants_of, base_with, resolved}
 use Rattle.m_resolve.specs.declared.fault.ResolveFault.{ResolveFault}
-use Rattle.m_resolve.proofs.TargetLemmas.{named_at, target_said_within}
+use Rattle.m_resolve.proofs.TargetLemmas.{named_at, resolved_target_within}
 
 -- ---- things that are said
 
 -- what came of a thing came of its value
-pub said_by : {A B : Type 0} (next : A → Result B ResolveFault) (r : Result A ResolveFault) (b : B) → if_said next r ≡ Ok b → (a : A) × (r ≡ Ok a) × (next a ≡ Ok b)
-said_by next (Ok a) b e = (a, refl, e)
-said_by next (Err fault) b e = absurd (cc)
+pub resolved_by : {A B : Type 0} (next : A → Result B ResolveFault) (r : Result A ResolveFault) (b : B) → if_resolved next r ≡ Ok b → (a : A) × (r ≡ Ok a) × (next a ≡ Ok b)
+resolved_by next (Ok a) b e = (a, refl, e)
+resolved_by next (Err fault) b e = absurd (cc)
 
 value_of_ok : {A : Type 0} (a b : A) → ◌≡◌ {A = Result A ResolveFault} (Ok a) (Ok b) → a ≡ b
 value_of_ok a b e = cc
@@ -61,7 +61,7 @@ whole_known : (name : List ℕ) (place : Place) (first cells all c : ℕ) (size 
 whole_known name place first cells all c None e h w = let s = value_of_ok first c w in omega (arith, e, h, s)
 whole_known name place first cells all c (Some size) e h w = absurd (cc)
 
-cell_known : (d : Declared) (name : List ℕ) (place : Place) (c : ℕ) → IsPlaced d → cell_said d name place ≡ Ok c → c < length (owners_from 0 d.variables)
+cell_known : (d : Declared) (name : List ℕ) (place : Place) (c : ℕ) → IsPlaced d → resolved_cell d name place ≡ Ok c → c < length (owners_from 0 d.variables)
 cell_known d name place c p e = option_cases (variable_named d name)
     (λ (none : variable_named d name ≡ None). let s = sym (ap (cell_of_variable name place) none) ∙ e in absurd (cc))
     (λ (v : Variable) (some : variable_named d name ≡ Some v).
@@ -73,7 +73,7 @@ table_ends : (name : List ℕ) (place : Place) (first cells all : ℕ) (t : ℕ 
 table_ends name place first cells all t None e h w = absurd (cc)
 table_ends name place first cells all t (Some size) e h w = let s = value_of_ok (first, size) t w in omega (arith, e, h, ap (λ (q : ℕ × ℕ). q.0) s, ap (λ (q : ℕ × ℕ). q.1) s)
 
-table_known : (d : Declared) (name : List ℕ) (place : Place) (t : ℕ × ℕ) → IsPlaced d → table_said d name place ≡ Ok t → t.0 + t.1 ≤ length (owners_from 0 d.variables)
+table_known : (d : Declared) (name : List ℕ) (place : Place) (t : ℕ × ℕ) → IsPlaced d → resolved_table d name place ≡ Ok t → t.0 + t.1 ≤ length (owners_from 0 d.variables)
 table_known d name place t p e = option_cases (variable_named d name)
     (λ (none : variable_named d name ≡ None). let s = sym (ap (table_of_variable name place) none) ∙ e in absurd (cc))
     (λ (v : Variable) (some : variable_named d name ≡ Some v).
@@ -108,50 +108,50 @@ membership_within n false members h = any_within n members h
 membership_within n true members h = (any_within n members h, tt)
 
 mutual
-  term_within : (d : Declared) (s : Syntax) (t : Tree) → IsPlaced d → term_said d s ≡ Ok t → IsWithin (length (owners_from 0 d.variables)) t
+  term_within : (d : Declared) (s : Syntax) (t : Tree) → IsPlaced d → resolved_term d s ≡ Ok t → IsWithin (length (owners_from 0 d.variables)) t
   term_within d (lit value) t p e = subst (IsWithin (length (owners_from 0 d.variables))) (value_of_ok (lit_tree value) t e) tt
   term_within d (named name place) t p e =
-      let k = said_by (λ c. Ok (cell_tree c)) (cell_said d name place) t e in
+      let k = resolved_by (λ c. Ok (cell_tree c)) (resolved_cell d name place) t e in
       subst (IsWithin (length (owners_from 0 d.variables))) (value_of_ok (cell_tree k.0) t k.2) (cell_known d name place k.0 p k.1)
   term_within d (the_x place) t p e = absurd (cc)
   term_within d (cell name index place) t p e =
-      let k = said_by (λ (table : ℕ × ℕ). if_said (λ i. Ok (pick table.0 table.1 i)) (term_said d index)) (table_said d name place) t e in
-      let m = said_by (λ i. Ok (pick k.0.0 k.0.1 i)) (term_said d index) t k.2 in
+      let k = resolved_by (λ (table : ℕ × ℕ). if_resolved (λ i. Ok (pick table.0 table.1 i)) (resolved_term d index)) (resolved_table d name place) t e in
+      let m = resolved_by (λ i. Ok (pick k.0.0 k.0.1 i)) (resolved_term d index) t k.2 in
       subst (IsWithin (length (owners_from 0 d.variables))) (value_of_ok (pick k.0.0 k.0.1 m.0) t m.2) (table_known d name place k.0 p k.1, term_within d index m.0 p m.1)
   term_within d (apply op all) t p e =
-      let k = said_by (λ arguments. Ok (apply_tree op (trees_of arguments))) (terms_said d [] all) t e in
+      let k = resolved_by (λ arguments. Ok (apply_tree op (trees_of arguments))) (resolved_terms d [] all) t e in
       subst (IsWithin (length (owners_from 0 d.variables))) (value_of_ok (apply_tree op (trees_of k.0)) t k.2) (trees_within _ k.0 (terms_within d [] all k.0 p tt k.1))
   term_within d (chain first links) t p e =
-      let k = said_by (λ f. if_said (λ steps. Ok (chain_tree f (steps_of steps))) (links_said d [] links)) (term_said d first) t e in
-      let m = said_by (λ steps. Ok (chain_tree k.0 (steps_of steps))) (links_said d [] links) t k.2 in
+      let k = resolved_by (λ f. if_resolved (λ steps. Ok (chain_tree f (steps_of steps))) (resolved_links d [] links)) (resolved_term d first) t e in
+      let m = resolved_by (λ steps. Ok (chain_tree k.0 (steps_of steps))) (resolved_links d [] links) t k.2 in
       subst (IsWithin (length (owners_from 0 d.variables))) (value_of_ok (chain_tree k.0 (steps_of m.0)) t m.2) (term_within d first k.0 p k.1, steps_within _ m.0 (links_within d [] links m.0 p tt m.1))
   term_within d (among negated x all) t p e =
-      let k = said_by (λ y. if_said (λ members. Ok (membership negated members)) (members_said d y [] all)) (term_said d x) t e in
-      let m = said_by (λ members. Ok (membership negated members)) (members_said d k.0 [] all) t k.2 in
+      let k = resolved_by (λ y. if_resolved (λ members. Ok (membership negated members)) (resolved_members d y [] all)) (resolved_term d x) t e in
+      let m = resolved_by (λ members. Ok (membership negated members)) (resolved_members d k.0 [] all) t k.2 in
       subst (IsWithin (length (owners_from 0 d.variables))) (value_of_ok (membership negated m.0) t m.2) (membership_within _ negated m.0 (members_within d k.0 [] all m.0 p (term_within d x k.0 p k.1) tt m.1))
   term_within d (loop header body) t p e = let s = value_of_ok _ t e in subst (IsWithin (length (owners_from 0 d.variables))) s tt
 
-  terms_within : (d : Declared) (before : List Tree) (all : Terms) (ts : List Tree) → IsPlaced d → AllByRecursion (IsWithin (length (owners_from 0 d.variables))) before → terms_said d before all ≡ Ok ts
+  terms_within : (d : Declared) (before : List Tree) (all : Terms) (ts : List Tree) → IsPlaced d → AllByRecursion (IsWithin (length (owners_from 0 d.variables))) before → resolved_terms d before all ≡ Ok ts
       → AllByRecursion (IsWithin (length (owners_from 0 d.variables))) ts
   terms_within d before no_terms ts p h e = subst (AllByRecursion (IsWithin (length (owners_from 0 d.variables)))) (value_of_ok before ts e) h
   terms_within d before (a_term a rest) ts p h e =
-      let k = said_by (λ t. terms_said d (before ++ t ∷ []) rest) (term_said d a) ts e in
+      let k = resolved_by (λ t. resolved_terms d (before ++ t ∷ []) rest) (resolved_term d a) ts e in
       terms_within d (before ++ k.0 ∷ []) rest ts p (all_push _ before k.0 h (term_within d a k.0 p k.1)) k.2
 
-  links_within : (d : Declared) (before : List Step) (all : Links) (ss : List Step) → IsPlaced d → AllByRecursion (StepIsWithin (length (owners_from 0 d.variables))) before → links_said d before all ≡ Ok ss
+  links_within : (d : Declared) (before : List Step) (all : Links) (ss : List Step) → IsPlaced d → AllByRecursion (StepIsWithin (length (owners_from 0 d.variables))) before → resolved_links d before all ≡ Ok ss
       → AllByRecursion (StepIsWithin (length (owners_from 0 d.variables))) ss
   links_within d before no_links ss p h e = subst (AllByRecursion (StepIsWithin (length (owners_from 0 d.variables)))) (value_of_ok before ss e) h
   links_within d before (a_link op a rest) ss p h e =
-      let k = said_by (λ t. links_said d (before ++ record { op = op; term = t } ∷ []) rest) (term_said d a) ss e in
+      let k = resolved_by (λ t. resolved_links d (before ++ record { op = op; term = t } ∷ []) rest) (resolved_term d a) ss e in
       links_within d (before ++ record { op = op; term = k.0 } ∷ []) rest ss p (all_push _ before (record { op = op; term = k.0 }) h (term_within d a k.0 p k.1)) k.2
 
   members_within : (d : Declared) (x : Tree) (before : List Step) (all : Members) (ss : List Step) → IsPlaced d → IsWithin (length (owners_from 0 d.variables)) x → AllByRecursion (StepIsWithin (length (owners_from 0 d.variables))) before
-      → members_said d x before all ≡ Ok ss → AllByRecursion (StepIsWithin (length (owners_from 0 d.variables))) ss
+      → resolved_members d x before all ≡ Ok ss → AllByRecursion (StepIsWithin (length (owners_from 0 d.variables))) ss
   members_within d x before no_members ss p i h e = subst (AllByRecursion (StepIsWithin (length (owners_from 0 d.variables)))) (value_of_ok before ss e) h
   members_within d x before (a_member low high rest) ss p i h e =
-      let k = said_by (λ m. members_said d x (before ++ record { op = Or; term = m } ∷ []) rest) (if_said (λ l. if_said (λ g. Ok (member_by (is_single low high) x l g)) (term_said d high)) (term_said d low)) ss e in
-      let a = said_by (λ l. if_said (λ g. Ok (member_by (is_single low high) x l g)) (term_said d high)) (term_said d low) k.0 k.1 in
-      let b = said_by (λ g. Ok (member_by (is_single low high) x a.0 g)) (term_said d high) k.0 a.2 in
+      let k = resolved_by (λ m. resolved_members d x (before ++ record { op = Or; term = m } ∷ []) rest) (if_resolved (λ l. if_resolved (λ g. Ok (member_by (is_single low high) x l g)) (resolved_term d high)) (resolved_term d low)) ss e in
+      let a = resolved_by (λ l. if_resolved (λ g. Ok (member_by (is_single low high) x l g)) (resolved_term d high)) (resolved_term d low) k.0 k.1 in
+      let b = resolved_by (λ g. Ok (member_by (is_single low high) x a.0 g)) (resolved_term d high) k.0 a.2 in
       let w = subst (IsWithin (length (owners_from 0 d.variables))) (value_of_ok (member_by (is_single low high) x a.0 b.0) k.0 b.2) (member_within _ (is_single low high) x a.0 b.0 i (term_within d low a.0 p a.1) (term_within d high b.0 p b.1)) in
       members_within d x (before ++ record { op = Or; term = k.0 } ∷ []) rest ss p i (all_push _ before (record { op = Or; term = k.0 }) h w) k.2
 
@@ -174,23 +174,23 @@ not_taken : (b : Bool) (c made : ℕ) (fault : ResolveFault) → cond b (Err fau
 not_taken true c made fault e = absurd (cc)
 not_taken false c made fault e = (refl, value_of_ok c made e)
 
-definition_within : (d : Declared) (before : List CellDefinition) (definition : Definition) (made : CellDefinition) → IsPlaced d → definition_said d before definition ≡ Ok made
+definition_within : (d : Declared) (before : List CellDefinition) (definition : Definition) (made : CellDefinition) → IsPlaced d → resolved_definition d before definition ≡ Ok made
     → DefinitionIsWithin (length (owners_from 0 d.variables)) made × (is_among made.0 (cells_of before) ≡ false)
 definition_within d before definition made p e =
-    let k = said_by (λ cell. if_said (λ tree. Ok (cell, tree, definition.place)) (term_said d definition.term)) (if_said (new_target d definition.place (cells_of before)) (target_said d definition)) made e in
-    let m = said_by (new_target d definition.place (cells_of before)) (target_said d definition) k.0 k.1 in
-    let t = said_by (λ tree. Ok (k.0, tree, definition.place)) (term_said d definition.term) made k.2 in
+    let k = resolved_by (λ cell. if_resolved (λ tree. Ok (cell, tree, definition.place)) (resolved_term d definition.term)) (if_resolved (new_target d definition.place (cells_of before)) (resolved_target d definition)) made e in
+    let m = resolved_by (new_target d definition.place (cells_of before)) (resolved_target d definition) k.0 k.1 in
+    let t = resolved_by (λ tree. Ok (k.0, tree, definition.place)) (resolved_term d definition.term) made k.2 in
     let n = not_taken (is_among m.0 (cells_of before)) m.0 k.0 _ m.2 in
-    let w = target_said_within d definition m.0 p m.1 in
+    let w = resolved_target_within d definition m.0 p m.1 in
     subst (λ (x : CellDefinition). DefinitionIsWithin (length (owners_from 0 d.variables)) x × (is_among x.0 (cells_of before) ≡ false)) (value_of_ok (k.0, t.0, definition.place) made t.2)
     ((subst (λ c. c < length (owners_from 0 d.variables)) n.1 w, term_within d definition.term t.0 p t.1), subst (λ c. is_among c (cells_of before) ≡ false) n.1 n.0)
 
 definitions_within : (d : Declared) (before : List CellDefinition) (all : List Definition) (made : List CellDefinition) → IsPlaced d → AllByRecursion (DefinitionIsWithin (length (owners_from 0 d.variables))) before
-    → AreDistinctCells (cells_of before) → definitions_said d before all ≡ Ok made → AllByRecursion (DefinitionIsWithin (length (owners_from 0 d.variables))) made × AreDistinctCells (cells_of made)
+    → AreDistinctCells (cells_of before) → resolved_definitions d before all ≡ Ok made → AllByRecursion (DefinitionIsWithin (length (owners_from 0 d.variables))) made × AreDistinctCells (cells_of made)
 definitions_within d before [] made p h u e =
     subst (λ (l : List CellDefinition). AllByRecursion (DefinitionIsWithin (length (owners_from 0 d.variables))) l × AreDistinctCells (cells_of l)) (value_of_ok before made e) (h, u)
 definitions_within d before (x ∷ all) made p h u e =
-    let k = said_by (λ said. definitions_said d (before ++ said ∷ []) all) (definition_said d before x) made e in
+    let k = resolved_by (λ stated. resolved_definitions d (before ++ stated ∷ []) all) (resolved_definition d before x) made e in
     let w = definition_within d before x k.0 p k.1 in
     definitions_within d (before ++ k.0 ∷ []) all made p (all_push _ before k.0 h w.0)
     (subst AreDistinctCells (sym (map_push (λ (y : CellDefinition). y.0) before k.0)) (AreDistinct-push (cells_of before) k.0.0 u w.1)) k.2
@@ -213,13 +213,13 @@ more_labels n k [] h = tt
 more_labels n k (c ∷ cs) h = ((h.0.0, omega (arith, h.0.1)), more_labels n k cs h.1)
 
 conditions_within : (d : Declared) (before : Checks) (all : List Condition) (made : Checks) → IsPlaced d → AllByRecursion (CheckIsWithin (length (owners_from 0 d.variables)) (length before.1)) before.0
-    → conditions_said d before all ≡ Ok made → AllByRecursion (CheckIsWithin (length (owners_from 0 d.variables)) (length made.1)) made.0
+    → resolved_conditions d before all ≡ Ok made → AllByRecursion (CheckIsWithin (length (owners_from 0 d.variables)) (length made.1)) made.0
 conditions_within d before [] made p h e =
     subst (λ (m : Checks). AllByRecursion (CheckIsWithin (length (owners_from 0 d.variables)) (length m.1)) m.0) (value_of_ok before made e) h
 conditions_within d before (x ∷ all) made p h e =
-    let k = said_by (λ said. conditions_said d said all) (with_condition d before x) made e in
-    let t = said_by (λ tree. if_said (λ label. Ok (before.0 ++ (tree, length before.1, x.place) ∷ [], before.1 ++ label ∷ [])) (label_said x (error_named d x.error))) (term_said d x.term) k.0 k.1 in
-    let l = said_by (λ label. Ok (before.0 ++ (t.0, length before.1, x.place) ∷ [], before.1 ++ label ∷ [])) (label_said x (error_named d x.error)) k.0 t.2 in
+    let k = resolved_by (λ stated. resolved_conditions d stated all) (with_condition d before x) made e in
+    let t = resolved_by (λ tree. if_resolved (λ label. Ok (before.0 ++ (tree, length before.1, x.place) ∷ [], before.1 ++ label ∷ [])) (resolved_label x (error_named d x.error))) (resolved_term d x.term) k.0 k.1 in
+    let l = resolved_by (λ label. Ok (before.0 ++ (t.0, length before.1, x.place) ∷ [], before.1 ++ label ∷ [])) (resolved_label x (error_named d x.error)) k.0 t.2 in
     let long : length (before.1 ++ l.0 ∷ []) ≡ length before.1 + 1 = length-append before.1 (l.0 ∷ []) in
     let w = subst (λ n. AllByRecursion (CheckIsWithin (length (owners_from 0 d.variables)) n) (before.0 ++ (t.0, length before.1, x.place) ∷ [])) (sym long)
     (all_push _ before.0 (t.0, length before.1, x.place) (more_labels _ (length before.1) before.0 h) (term_within d x.term t.0 p t.1, omega arith)) in
@@ -294,6 +294,6 @@ made_valid d ds checks p w k =
       constant_once = c.1;
     }
 
-pub said_valid : (d : Declared) (plain : Plain) (ds : List CellDefinition) (checks : Checks) → IsPlaced d → definitions_said d [] plain.definitions ≡ Ok ds → conditions_said d ([], []) plain.conditions ≡ Ok checks
+pub resolved_valid : (d : Declared) (plain : Plain) (ds : List CellDefinition) (checks : Checks) → IsPlaced d → resolved_definitions d [] plain.definitions ≡ Ok ds → resolved_conditions d ([], []) plain.conditions ≡ Ok checks
     → IsValidBase (base_with d ds checks)
-said_valid d plain ds checks p e f = made_valid d ds checks p (definitions_within d [] plain.definitions ds p tt tt e) (conditions_within d ([], []) plain.conditions checks p tt f)
+resolved_valid d plain ds checks p e f = made_valid d ds checks p (definitions_within d [] plain.definitions ds p tt tt e) (conditions_within d ([], []) plain.conditions checks p tt f)

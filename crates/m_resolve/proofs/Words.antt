@@ -6,8 +6,8 @@ use Rattle.std.proofs.lemmas.Option.{get_or_from_slice_get, slice_get-map, slice
 use Rattle.m_ast.specs.declared.item.ErrorItem.{ErrorItem}
 use Rattle.m_ast.specs.declared.plain_rules.Condition.{Condition}
 use Rattle.m_resolve.specs.declared.checks.ErrorWords.{ErrorWords}
-use Rattle.m_resolve.specs.Bases.{label_said}
-use Rattle.m_resolve.specs.inner.Words.{words_of, label_with, said_with}
+use Rattle.m_resolve.specs.Bases.{resolved_label}
+use Rattle.m_resolve.specs.inner.Words.{words_of, label_with, resolved_with}
 
 -- the words of the errors so far, and of one more
 pub words_more : (errors : List ErrorItem) (i : ℕ) (e : ErrorItem) (before now : List ErrorWords) → i < length errors → slice_get errors i ≡ Some e → before ≡ map words_of (take i errors) → now ≡ before ++ words_of e ∷ []
@@ -23,6 +23,6 @@ words_there errors all i words e h is =
     sym (slice_get-map words_of errors i) ∙ ap (λ l. slice_get l i) (sym e) ∙ slice_get_read all (length errors) i words (sym count) h is
 
 -- a condition is said by the words of its error alone
-pub said_by_words : (condition : Condition) (error : Option ErrorItem) → label_said condition error ≡ said_with condition (option_map words_of error)
-said_by_words condition None = refl
-said_by_words condition (Some e) = refl
+pub stated_by_words : (condition : Condition) (error : Option ErrorItem) → resolved_label condition error ≡ resolved_with condition (option_map words_of error)
+stated_by_words condition None = refl
+stated_by_words condition (Some e) = refl

@@ -21,7 +21,7 @@ use Rattle.m_ast.specs.declared.plain_rules.Definition.{Definition}
 use Rattle.m_ast.specs.declared.plain_rules.Condition.{Condition}
 use Rattle.m_resolve.specs.declared.fault.ResolveFault.{ResolveFault}
 use Rattle.m_resolve.specs.declared.fault.ResolveFault.TheVariants.{UnknownName, NotATable, IsATable, BadTarget, DefinedTwice, UnknownError}
-use Rattle.m_resolve.specs.Terms.{if_said, term_said}
+use Rattle.m_resolve.specs.Terms.{if_resolved, resolved_term}
 
 -- ---- targets
 
@@ -56,8 +56,8 @@ target_of definition None = Err (UnknownName definition.target definition.place)
 target_of definition (Some v) = target_in definition.target definition.place v.first_cell definition.slot v.item.role
 
 -- the cell that a definition is of, whatever is defined besides
-abbrev pub target_said : Declared → Definition → Result ℕ ResolveFault
-target_said declared definition = target_of definition (variable_named declared definition.target)
+abbrev pub resolved_target : Declared → Definition → Result ℕ ResolveFault
+resolved_target declared definition = target_of definition (variable_named declared definition.target)
 
 -- a cell that no earlier definition has
 abbrev pub new_target : Declared → Place → List ℕ → ℕ → Result ℕ ResolveFault
@@ -69,15 +69,15 @@ abbrev pub cells_of : List CellDefinition → List ℕ
 cells_of = map (λ d. d.0)
 
 -- what a definition is after earlier ones: its target's faults come first, and then its term's
-abbrev pub definition_said : Declared → List CellDefinition → Definition → Result CellDefinition ResolveFault
-definition_said declared before definition =
-    if_said (λ cell. if_said (λ tree. Ok (cell, tree, definition.place)) (term_said declared definition.term))
-    (if_said (new_target declared definition.place (cells_of before)) (target_said declared definition))
+abbrev pub resolved_definition : Declared → List CellDefinition → Definition → Result CellDefinition ResolveFault
+resolved_definition declared before definition =
+    if_resolved (λ cell. if_resolved (λ tree. Ok (cell, tree, definition.place)) (resolved_term declared definition.term))
+    (if_resolved (new_target declared definition.place (cells_of before)) (resolved_target declared definition))
 
 -- definitions one after the other, after those that are said already
-abbrev pub definitions_said : Declared → List CellDefinition → List Definition → Result (List CellDefinition) ResolveFault
-definitions_said declared before [] = Ok before
-definitions_said declared before (d ∷ ds) = if_said (λ said. definitions_said declared (before ++ said ∷ []) ds) (definition_said declared before d)
+abbrev pub resolved_definitions : Declared → List CellDefinition → List Definition → Result (List CellDefinition) ResolveFault
+resolved_definitions declared before [] = Ok before
+resolved_definitions declared before (d ∷ ds) = if_resolved (λ stated. resolved_definitions declared (before ++ stated ∷ []) ds) (resolved_definition declared before d)
 
 -- ---- checks
 
@@ -101,9 +101,9 @@ label_of verif e = record { verif = verif; error = e.name; kind = e.kind; text =
 abbrev pub error_named : Declared → List ℕ → Option ErrorItem
 error_named declared name = option_and_then (slice_get declared.errors) (index_of name (error_names_of declared.errors))
 
-abbrev pub label_said : Condition → Option ErrorItem → Result Label ResolveFault
-label_said condition None = Err (UnknownError condition.error condition.place)
-label_said condition (Some e) = Ok (label_of condition.verif e)
+abbrev pub resolved_label : Condition → Option ErrorItem → Result Label ResolveFault
+resolved_label condition None = Err (UnknownError condition.error condition.place)
+resolved_label condition (Some e) = Ok (label_of condition.verif e)
 
 -- checks and their labels: check k has label k
 abbrev pub Checks : Type 0
@@ -112,12 +112,12 @@ Checks = List Check × List Label
 -- what a condition is: its term's faults come first, and then an unknown error
 abbrev pub with_condition : Declared → Checks → Condition → Result Checks ResolveFault
 with_condition declared before condition =
-    if_said (λ tree. if_said (λ label. Ok (before.0 ++ (tree, length before.1, condition.place) ∷ [], before.1 ++ label ∷ [])) (label_said condition (error_named declared condition.error)))
-    (term_said declared condition.term)
+    if_resolved (λ tree. if_resolved (λ label. Ok (before.0 ++ (tree, length before.1, condition.place) ∷ [], before.1 ++ label ∷ [])) (resolved_label condition (error_named declared condition.error)))
+    (resolved_term declared condition.term)
 
-abbrev pub conditions_said : Declared → Checks → List Condition → Result Checks ResolveFault
-conditions_said declared before [] = Ok before
-conditions_said declared before (condition ∷ conditions) = if_said (λ said. conditions_said declared said conditions) (with_condition declared before condition)
+abbrev pub resolved_conditions : Declared → Checks → List Condition → Result Checks ResolveFault
+resolved_conditions declared before [] = Ok before
+resolved_conditions declared before (condition ∷ conditions) = if_resolved (λ stated. resolved_conditions declared stated conditions) (with_condition declared before condition)
 
 -- ---- the base
 
@@ -138,4 +138,4 @@ base_with declared definitions checks =
 -- The base of plain rules over the cells of what is declared, or their first fault: all definitions come first, in order, and then all conditions.
 abbrev pub resolved : Declared → Plain → Result Base ResolveFault
 resolved declared plain =
-    if_said (λ definitions. if_said (λ checks. Ok (base_with declared definitions checks)) (conditions_said declared ([], []) plain.conditions)) (definitions_said declared [] plain.definitions)
+    if_resolved (λ definitions. if_resolved (λ checks. Ok (base_with declared definitions checks)) (resolved_conditions declared ([], []) plain.conditions)) (resolved_definitions declared [] plain.definitions)

@@ -16,9 +16,9 @@ use Rattle.m_resolve.specs.declared.fault.ResolveFault.{ResolveFault}
 use Rattle.m_resolve.specs.declared.fault.ResolveFault.TheVariants.{UnknownName, NotATable, IsATable}
 
 -- what comes of a thing that may have a fault
-abbrev pub if_said : {A B : Type 0} → (A → Result B ResolveFault) → Result A ResolveFault → Result B ResolveFault
-if_said next (Ok thing) = next thing
-if_said next (Err fault) = Err fault
+abbrev pub if_resolved : {A B : Type 0} → (A → Result B ResolveFault) → Result A ResolveFault → Result B ResolveFault
+if_resolved next (Ok thing) = next thing
+if_resolved next (Err fault) = Err fault
 
 -- ---- names
 
@@ -32,8 +32,8 @@ cell_of_variable name place None = Err (UnknownName name place)
 cell_of_variable name place (Some v) = whole_cell name place v.first_cell (variable_size v.item)
 
 -- the cell of a name without an index
-abbrev pub cell_said : Declared → List ℕ → Place → Result ℕ ResolveFault
-cell_said declared name place = cell_of_variable name place (variable_named declared name)
+abbrev pub resolved_cell : Declared → List ℕ → Place → Result ℕ ResolveFault
+resolved_cell declared name place = cell_of_variable name place (variable_named declared name)
 
 -- the first cell of a table, and its size
 abbrev pub table_cells : List ℕ → Place → ℕ → Option ℕ → Result (ℕ × ℕ) ResolveFault
@@ -45,8 +45,8 @@ table_of_variable name place None = Err (UnknownName name place)
 table_of_variable name place (Some v) = table_cells name place v.first_cell (variable_size v.item)
 
 -- the table of a name with an index
-abbrev pub table_said : Declared → List ℕ → Place → Result (ℕ × ℕ) ResolveFault
-table_said declared name place = table_of_variable name place (variable_named declared name)
+abbrev pub resolved_table : Declared → List ℕ → Place → Result (ℕ × ℕ) ResolveFault
+resolved_table declared name place = table_of_variable name place (variable_named declared name)
 
 -- ---- memberships
 
@@ -74,32 +74,32 @@ x_name = codes "X"
 -- table `T` of the cells 1 to 3 is the cell 0, and after it `+` and the pick of 1 out of 3 cells from 1 on. `A dans (1, 3..5)` is
 -- `A = 1 ou (A >= 3 et A <= 5)`. No loop stands in a plain term; one would be undefined.
 abbrev mutual
-  pub term_said : Declared → Syntax → Result Tree ResolveFault
-  term_said declared (lit value) = Ok (lit_tree value)
-  term_said declared (named name place) = if_said (λ c. Ok (cell_tree c)) (cell_said declared name place)
-  term_said declared (the_x place) = Err (UnknownName x_name place)
-  term_said declared (cell name index place) = if_said (λ table. if_said (λ i. Ok (pick table.0 table.1 i)) (term_said declared index)) (table_said declared name place)
-  term_said declared (apply op all) = if_said (λ arguments. Ok (apply_tree op (trees_of arguments))) (terms_said declared [] all)
-  term_said declared (chain first links) = if_said (λ f. if_said (λ steps. Ok (chain_tree f (steps_of steps))) (links_said declared [] links)) (term_said declared first)
-  term_said declared (among negated x all) = if_said (λ t. if_said (λ members. Ok (membership negated members)) (members_said declared t [] all)) (term_said declared x)
-  term_said declared (loop header body) = Ok (lit_tree Undef)
+  pub resolved_term : Declared → Syntax → Result Tree ResolveFault
+  resolved_term declared (lit value) = Ok (lit_tree value)
+  resolved_term declared (named name place) = if_resolved (λ c. Ok (cell_tree c)) (resolved_cell declared name place)
+  resolved_term declared (the_x place) = Err (UnknownName x_name place)
+  resolved_term declared (cell name index place) = if_resolved (λ table. if_resolved (λ i. Ok (pick table.0 table.1 i)) (resolved_term declared index)) (resolved_table declared name place)
+  resolved_term declared (apply op all) = if_resolved (λ arguments. Ok (apply_tree op (trees_of arguments))) (resolved_terms declared [] all)
+  resolved_term declared (chain first links) = if_resolved (λ f. if_resolved (λ steps. Ok (chain_tree f (steps_of steps))) (resolved_links declared [] links)) (resolved_term declared first)
+  resolved_term declared (among negated x all) = if_resolved (λ t. if_resolved (λ members. Ok (membership negated members)) (resolved_members declared t [] all)) (resolved_term declared x)
+  resolved_term declared (loop header body) = Ok (lit_tree Undef)
 
   -- terms one after the other, after those that are said already
-  pub terms_said : Declared → List Tree → Terms → Result (List Tree) ResolveFault
-  terms_said declared before no_terms = Ok before
-  terms_said declared before (a_term a rest) = if_said (λ t. terms_said declared (before ++ t ∷ []) rest) (term_said declared a)
+  pub resolved_terms : Declared → List Tree → Terms → Result (List Tree) ResolveFault
+  resolved_terms declared before no_terms = Ok before
+  resolved_terms declared before (a_term a rest) = if_resolved (λ t. resolved_terms declared (before ++ t ∷ []) rest) (resolved_term declared a)
 
-  pub links_said : Declared → List Step → Links → Result (List Step) ResolveFault
-  links_said declared before no_links = Ok before
-  links_said declared before (a_link op a rest) = if_said (λ t. links_said declared (before ++ record { op = op; term = t } ∷ []) rest) (term_said declared a)
+  pub resolved_links : Declared → List Step → Links → Result (List Step) ResolveFault
+  resolved_links declared before no_links = Ok before
+  resolved_links declared before (a_link op a rest) = if_resolved (λ t. resolved_links declared (before ++ record { op = op; term = t } ∷ []) rest) (resolved_term declared a)
 
   -- members of a membership of this term, each with its `ou`
-  pub members_said : Declared → Tree → List Step → Members → Result (List Step) ResolveFault
-  members_said declared x before no_members = Ok before
-  members_said declared x before (a_member low high rest) =
-      if_said (λ m. members_said declared x (before ++ record { op = Or; term = m } ∷ []) rest)
-      (if_said (λ l. if_said (λ h. Ok (member_by (is_single low high) x l h)) (term_said declared high)) (term_said declared low))
+  pub resolved_members : Declared → Tree → List Step → Members → Result (List Step) ResolveFault
+  resolved_members declared x before no_members = Ok before
+  resolved_members declared x before (a_member low high rest) =
+      if_resolved (λ m. resolved_members declared x (before ++ record { op = Or; term = m } ∷ []) rest)
+      (if_resolved (λ l. if_resolved (λ h. Ok (member_by (is_single low high) x l h)) (resolved_term declared high)) (resolved_term declared low))
 
 -- what a member of a membership of this term is
-abbrev pub member_said : Declared → Tree → Syntax → Syntax → Result Tree ResolveFault
-member_said declared x low high = if_said (λ l. if_said (λ h. Ok (member_by (is_single low high) x l h)) (term_said declared high)) (term_said declared low)
+abbrev pub resolved_member : Declared → Tree → Syntax → Syntax → Result Tree ResolveFault
+resolved_member declared x low high = if_resolved (λ l. if_resolved (λ h. Ok (member_by (is_single low high) x l h)) (resolved_term declared high)) (resolved_term declared low)

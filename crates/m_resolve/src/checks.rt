@@ -4,8 +4,8 @@ ghost use Rattle.std.specs.Prelude.{◌≡◌, ◌++◌, ◌<◌, ◌≤◌, [],
 ghost use Rattle.std.specs.Option.{option_copied, option_map};
 ghost use Rattle.m_places.specs.Refusals.{Says};
 ghost use Rattle.m_places.specs.declared.limits.TheConstants.{PARTS};
-ghost use Rattle.m_resolve.specs.Bases.{conditions_said, label_said, error_named, error_text, behind_colon, printable};
-ghost use Rattle.m_resolve.specs.inner.Words.{words_of, label_with, said_with};
+ghost use Rattle.m_resolve.specs.Bases.{resolved_conditions, resolved_label, error_named, error_text, behind_colon, printable};
+ghost use Rattle.m_resolve.specs.inner.Words.{words_of, label_with, resolved_with};
 ghost use Rattle.m_resolve.specs.declared.fault.ResolveFault.TheVariants.{Memory};
 
 use crate::ResolveFault;
@@ -38,7 +38,7 @@ pub(crate) fn checks(
     symbols: &Symbols,
 ) -> Result<Checked, ResolveFault>
     requires { length all.now ≤ PARTS }
-    ensures { Says Memory result (λ made. (made.checks.items, made.labels.items)) (conditions_said symbols.now ([], []) all.now) }
+    ensures { Says Memory result (λ made. (made.checks.items, made.labels.items)) (resolved_conditions symbols.now ([], []) all.now) }
 {
     let errors = errors(alloc, symbols)?;
     checks_with(alloc, all, symbols, errors.as_slice())
@@ -76,7 +76,7 @@ fn checks_with(
 ) -> Result<Checked, ResolveFault>
     requires errors { errors.now ≡ map words_of symbols.now.errors }
     requires few { length all.now ≤ PARTS }
-    ensures { Says Memory result (λ made. (made.checks.items, made.labels.items)) (conditions_said symbols.now ([], []) all.now) }
+    ensures { Says Memory result (λ made. (made.checks.items, made.labels.items)) (resolved_conditions symbols.now ([], []) all.now) }
 {
     let mut checks = Vec::with_capacity(alloc, all.len())?;
     let mut labels = Vec::with_capacity(alloc, all.len())?;
@@ -98,19 +98,19 @@ fn label(
     errors: &[ErrorWords],
 ) -> Result<Label, ResolveFault>
     requires { errors.now ≡ map words_of symbols.now.errors }
-    ensures { Says Memory result (λ label. label) (label_said condition.now (error_named symbols.now condition.now.error)) }
+    ensures { Says Memory result (λ label. label) (resolved_label condition.now (error_named symbols.now condition.now.error)) }
 {
     let words = error_named(symbols, errors, &condition.error);
-    said_with(alloc, condition, words)
+    resolved_with(alloc, condition, words)
 }
 
 // What a check tells that fails, where its error has these words.
-fn said_with(
+fn resolved_with(
     alloc: Global,
     condition: &Condition,
     words: Option<&ErrorWords>,
 ) -> Result<Label, ResolveFault>
-    ensures { Says Memory result (λ label. label) (said_with condition.now (option_copied words.entry)) }
+    ensures { Says Memory result (λ label. label) (resolved_with condition.now (option_copied words.entry)) }
 {
     match words {
         None => Err(ResolveFault::UnknownError(condition.error.copy(alloc)?, condition.place)),

@@ -6,8 +6,8 @@ ghost use Rattle.m_places.specs.declared.place.Place.{Place};
 ghost use Rattle.m_symbols.specs.Declarations.{owners_from};
 ghost use Rattle.micro_m.specs.Bases.{Definition as CellDefinition, is_among};
 ghost use Rattle.m_symbols.specs.Placed.{IsPlaced};
-ghost use Rattle.m_resolve.specs.Terms.{if_said, term_said};
-ghost use Rattle.m_resolve.specs.Bases.{definitions_said, definition_said, target_said, new_target, cells_of};
+ghost use Rattle.m_resolve.specs.Terms.{if_resolved, resolved_term};
+ghost use Rattle.m_resolve.specs.Bases.{resolved_definitions, resolved_definition, resolved_target, new_target, cells_of};
 ghost use Rattle.m_resolve.specs.inner.Marks.{Marks};
 ghost use Rattle.m_resolve.specs.declared.fault.ResolveFault.TheVariants.{Memory};
 
@@ -27,7 +27,7 @@ pub(crate) fn definitions(
     symbols: &Symbols,
 ) -> Result<Vec<(u32, MTerm, Place)>, ResolveFault>
     requires { IsPlaced symbols.now }
-    ensures { Says Memory result (λ made. made.items) (definitions_said symbols.now [] all.now) }
+    ensures { Says Memory result (λ made. made.items) (resolved_definitions symbols.now [] all.now) }
 {
     let mut marked = vec![in alloc; false; symbols.cells() as usize]?;
     let mut made = Vec::with_capacity(alloc, all.len())?;
@@ -49,7 +49,7 @@ fn new_target(
     requires placed { IsPlaced symbols.now }
     requires count { length marked.old ≡ length (owners_from 0 symbols.now.variables) }
     ensures outcome { (earlier : List ℕ) → Marks marked.old earlier → Says Memory result (λ cell. cell)
-        (if_said (new_target symbols.now definition.now.place earlier) (target_said symbols.now definition.now)) }
+        (if_resolved (new_target symbols.now definition.now.place earlier) (resolved_target symbols.now definition.now)) }
     ensures marks { IfOk result (λ cell. (earlier : List ℕ) → Marks marked.old earlier → Marks marked.new (earlier ++ cell ∷ [])) }
     ensures counted { length marked.new ≡ length marked.old }
 {

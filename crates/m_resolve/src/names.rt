@@ -4,7 +4,7 @@ ghost use Rattle.std.specs.Prelude.{◌≡◌, Ok, Err};
 ghost use Rattle.std.specs.Option.{option_copied};
 ghost use Rattle.m_places.specs.Refusals.{Says};
 ghost use Rattle.m_symbols.specs.Cells.{variable_named};
-ghost use Rattle.m_resolve.specs.Terms.{cell_said, cell_of_variable, table_said, table_of_variable};
+ghost use Rattle.m_resolve.specs.Terms.{resolved_cell, cell_of_variable, resolved_table, table_of_variable};
 ghost use Rattle.m_resolve.specs.declared.fault.ResolveFault.TheVariants.{Memory};
 
 use crate::ResolveFault;
@@ -28,7 +28,7 @@ pub(crate) fn cell_of(
     name: &SharedName,
     place: Place,
 ) -> Result<u32, ResolveFault>
-    ensures { Says Memory result (λ cell. cell) (cell_said symbols.now name.now place) }
+    ensures { Says Memory result (λ cell. cell) (resolved_cell symbols.now name.now place) }
 {
     let Some(variable) = variable_named(symbols, name) else {
         return Err(ResolveFault::UnknownName(Name::new(alloc, name.bytes())?, place));
@@ -51,7 +51,7 @@ pub(crate) fn table_of(
     name: &SharedName,
     place: Place,
 ) -> Result<(u32, u32), ResolveFault>
-    ensures { Says Memory result (λ table. table) (table_said symbols.now name.now place) }
+    ensures { Says Memory result (λ table. table) (resolved_table symbols.now name.now place) }
 {
     let Some(variable) = variable_named(symbols, name) else {
         return Err(ResolveFault::UnknownName(Name::new(alloc, name.bytes())?, place));

@@ -5,7 +5,7 @@ ghost use Rattle.m_places.specs.Refusals.{Outcome, Says};
 ghost use Rattle.m_ast.specs.Items.{variable_size};
 ghost use Rattle.m_symbols.specs.Declarations.{owners_from};
 ghost use Rattle.m_symbols.specs.Placed.{IsPlaced};
-ghost use Rattle.m_resolve.specs.Bases.{target_said, target_in, table_target, unsettable_fault};
+ghost use Rattle.m_resolve.specs.Bases.{resolved_target, target_in, table_target, unsettable_fault};
 ghost use Rattle.m_resolve.specs.declared.fault.ResolveFault.TheVariants.{Memory};
 
 use crate::ResolveFault;
@@ -22,7 +22,7 @@ pub(crate) fn target(
     symbols: &Symbols,
 ) -> Result<u32, ResolveFault>
     requires { IsPlaced symbols.now }
-    ensures outcome { Says Memory result (λ cell. cell) (target_said symbols.now definition.now) }
+    ensures outcome { Says Memory result (λ cell. cell) (resolved_target symbols.now definition.now) }
     ensures known { IfOk result (λ cell. cell < length (owners_from 0 symbols.now.variables)) }
 {
     let Some(variable) = variable_named(symbols, &definition.target) else {

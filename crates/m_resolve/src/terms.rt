@@ -6,8 +6,8 @@ ghost use Rattle.micro_m.specs.Trees.{cell as cell_tree, pick, apply, chain, non
 ghost use Rattle.micro_m.specs.Views.{tree_of, trees_of, steps_of};
 ghost use Rattle.m_ast.specs.View.{terms_of};
 ghost use Rattle.m_ast.specs.PlainView.{links_of, members_of};
-ghost use Rattle.m_resolve.specs.Terms.{cell_said, table_said, term_said, terms_said, links_said};
-ghost use Rattle.m_resolve.specs.Terms.{members_said, member_said, member_by, membership, any_of, x_name, if_said};
+ghost use Rattle.m_resolve.specs.Terms.{resolved_cell, resolved_table, resolved_term, resolved_terms, resolved_links};
+ghost use Rattle.m_resolve.specs.Terms.{resolved_members, resolved_member, member_by, membership, any_of, x_name, if_resolved};
 ghost use Rattle.m_resolve.specs.declared.fault.ResolveFault.TheVariants.{Memory};
 
 use crate::ResolveFault;
@@ -29,7 +29,7 @@ pub(crate) fn term(
     term: &PTerm,
     symbols: &Symbols,
 ) -> Result<Box<MTerm>, ResolveFault>
-    ensures { Says Memory result (λ tree. tree.value) (term_said symbols.now term.now) }
+    ensures { Says Memory result (λ tree. tree.value) (resolved_term symbols.now term.now) }
 {
     match &term.node {
         PNode::Lit(value) => Ok(boxed(alloc, MNode::Lit(*value))?),
@@ -56,7 +56,7 @@ fn named(
     place: Place,
     symbols: &Symbols,
 ) -> Result<Box<MTerm>, ResolveFault>
-    ensures { Says Memory result (λ tree. tree.value) (if_said (λ c. Ok (cell_tree c)) (cell_said symbols.now name.now place)) }
+    ensures { Says Memory result (λ tree. tree.value) (if_resolved (λ c. Ok (cell_tree c)) (resolved_cell symbols.now name.now place)) }
 {
     let cell = cell_of(alloc, symbols, name, place)?;
     Ok(boxed(alloc, MNode::Cell(cell))?)
@@ -72,7 +72,7 @@ fn table_read(
     symbols: &Symbols,
 ) -> Result<Box<MTerm>, ResolveFault>
     ensures { Says Memory result (λ tree. tree.value)
-        (if_said (λ table. if_said (λ i. Ok (pick table.0 table.1 i)) (term_said symbols.now index.now)) (table_said symbols.now name.now place)) }
+        (if_resolved (λ table. if_resolved (λ i. Ok (pick table.0 table.1 i)) (resolved_term symbols.now index.now)) (resolved_table symbols.now name.now place)) }
 {
     let (first, size) = table_of(alloc, symbols, name, place)?;
     let index = term(alloc, index, symbols)?;
@@ -87,7 +87,7 @@ fn applied(
     arguments: &[PTerm],
     symbols: &Symbols,
 ) -> Result<Box<MTerm>, ResolveFault>
-    ensures { Says Memory result (λ tree. tree.value) (if_said (λ all. Ok (apply op (trees_of all))) (terms_said symbols.now [] (terms_of arguments.now))) }
+    ensures { Says Memory result (λ tree. tree.value) (if_resolved (λ all. Ok (apply op (trees_of all))) (resolved_terms symbols.now [] (terms_of arguments.now))) }
 {
     let arguments = terms(alloc, arguments, symbols)?;
     Ok(boxed(alloc, MNode::Apply(op, arguments))?)
@@ -96,7 +96,7 @@ fn applied(
 // Terms one after the other.
 #[cycle(term)]
 fn terms(alloc: Global, all: &[PTerm], symbols: &Symbols) -> Result<Vec<MTerm>, ResolveFault>
-    ensures { Says Memory result (λ trees. trees.items) (terms_said symbols.now [] (terms_of all.now)) }
+    ensures { Says Memory result (λ trees. trees.items) (resolved_terms symbols.now [] (terms_of all.now)) }
 {
     let mut trees = Vec::with_capacity(alloc, all.len())?;
     for one in all {
@@ -115,7 +115,7 @@ fn chained(
     symbols: &Symbols,
 ) -> Result<Box<MTerm>, ResolveFault>
     ensures { Says Memory result (λ tree. tree.value)
-        (if_said (λ f. if_said (λ steps. Ok (chain f (steps_of steps))) (links_said symbols.now [] (links_of links.now))) (term_said symbols.now first.now)) }
+        (if_resolved (λ f. if_resolved (λ steps. Ok (chain f (steps_of steps))) (resolved_links symbols.now [] (links_of links.now))) (resolved_term symbols.now first.now)) }
 {
     let first = term(alloc, first, symbols)?;
     let mut steps = Vec::with_capacity(alloc, links.len())?;
@@ -139,7 +139,7 @@ fn among(
     symbols: &Symbols,
 ) -> Result<Box<MTerm>, ResolveFault>
     ensures { Says Memory result (λ tree. tree.value)
-        (if_said (λ t. if_said (λ all. Ok (membership negated all)) (members_said symbols.now t [] (members_of members.now))) (term_said symbols.now x.now)) }
+        (if_resolved (λ t. if_resolved (λ all. Ok (membership negated all)) (resolved_members symbols.now t [] (members_of members.now))) (resolved_term symbols.now x.now)) }
 {
     let Some((first, others)) = members.split_first() else {
         let _tested = term(alloc, x, symbols)?;
@@ -159,7 +159,7 @@ fn member_steps(
     symbols: &Symbols,
 ) -> Result<Vec<Step>, ResolveFault>
     ensures { Says Memory result (λ steps. steps.items)
-        (if_said (λ t. members_said symbols.now t [] (members_of (first.now ∷ others.now))) (term_said symbols.now x.now)) }
+        (if_resolved (λ t. resolved_members symbols.now t [] (members_of (first.now ∷ others.now))) (resolved_term symbols.now x.now)) }
 {
     let mut steps = Vec::new(alloc);
     let earliest = member(alloc, x, first, symbols)?;
@@ -185,7 +185,7 @@ fn member(
     member: &PMember,
     symbols: &Symbols,
 ) -> Result<MTerm, ResolveFault>
-    ensures { Says Memory result (λ tree. tree) (if_said (λ t. member_said symbols.now t member.now.low member.now.high) (term_said symbols.now x.now)) }
+    ensures { Says Memory result (λ tree. tree) (if_resolved (λ t. resolved_member symbols.now t member.now.low member.now.high) (resolved_term symbols.now x.now)) }
 {
     let first = term(alloc, x, symbols)?;
     let low = term(alloc, &member.low, symbols)?;

@@ -14,7 +14,7 @@ use Rattle.m_ast.specs.Items.{variable_cells, variable_size, cells_in}
 use Rattle.m_symbols.specs.declared.variable.Variable.{Variable}
 use Rattle.m_symbols.specs.Declarations.{Declared, placed_from, owners_from}
 use Rattle.m_symbols.specs.Placed.{IsPlaced, items_of}
-use Rattle.m_symbols.specs.Cells.{cell_within, index_said, cell_by, returned_by}
+use Rattle.m_symbols.specs.Cells.{cell_within, parsed_index, cell_by, returned_by}
 
 -- a variable has its cells, and they end among all
 pub record Ends (v : Variable) (first all : ℕ) : Type 0 where
@@ -64,7 +64,7 @@ by_index : (index : Option (List ℕ)) (size : Option ℕ) (first cells all : �
 by_index None None first cells all e h = omega (arith, e, h)
 by_index None (Some size) first cells all e h = tt
 by_index (Some index) None first cells all e h = tt
-by_index (Some index) (Some size) first cells all e h = at_index first size all (index_said index) (omega (arith, e, h))
+by_index (Some index) (Some size) first cells all e h = at_index first size all (parsed_index index) (omega (arith, e, h))
 
 pub known_by : (declared : Declared) (i : ℕ) (v : Variable) (index : Option (List ℕ)) (cell : Option ℕ) → IsPlaced declared → slice_get declared.variables i ≡ Some v → cell ≡ cell_by index (variable_size v.item) v.first_cell
     → IfSome cell (λ c. c < length (owners_from 0 declared.variables))

@@ -55,8 +55,8 @@ abbrev pub plain_number : List ℕ → Option ℕ
 plain_number digits = if may_be_plain digits then whole_number digits else None
 
 -- the number of a table's cell after `[`: of `12]` it is 12, and `012]` and `]` have none
-abbrev pub index_said : List ℕ → Option ℕ
-index_said text = option_and_then plain_number (before_closing text)
+abbrev pub parsed_index : List ℕ → Option ℕ
+parsed_index text = option_and_then plain_number (before_closing text)
 
 -- the cell with this number of a table of this size
 abbrev pub cell_within : ℕ → ℕ → ℕ → Option ℕ
@@ -67,7 +67,7 @@ abbrev pub cell_by : Option (List ℕ) → Option ℕ → ℕ → Option ℕ
 cell_by None None first = Some first
 cell_by None (Some size) first = None
 cell_by (Some index) None first = None
-cell_by (Some index) (Some size) first = option_and_then (cell_within first size) (index_said index)
+cell_by (Some index) (Some size) first = option_and_then (cell_within first size) (parsed_index index)
 
 -- the cell of the variable of a name, without or with an index
 abbrev pub named_cell : Declared → List ℕ × Option (List ℕ) → Option ℕ

@@ -21,9 +21,9 @@ first_of (Some fault) other = Some fault
 first_of None other = other
 
 -- the place beside a name, in a list of names and places
-abbrev pub place_beside : List ℕ → List (List ℕ × Place) → Option Place
-place_beside name [] = None
-place_beside name (n ∷ earlier) = if bytes_eq name n.0 then Some n.1 else place_beside name earlier
+abbrev pub paired_place : List ℕ → List (List ℕ × Place) → Option Place
+paired_place name [] = None
+paired_place name (n ∷ earlier) = if bytes_eq name n.0 then Some n.1 else paired_place name earlier
 
 -- names of variables, codes of inputs, and names of errors, each with the place of its declaration
 abbrev pub placed_name : Declaration → List ℕ × Place
@@ -37,11 +37,11 @@ placed_error e = (e.name, e.place)
 
 -- a name that an earlier declaration has
 abbrev pub name_fault : Declared → VariableItem → Option DeclareFault
-name_fault earlier v = option_map (λ place. DeclaredTwice v.name place v.place) (place_beside v.name (map placed_name earlier.variables))
+name_fault earlier v = option_map (λ place. DeclaredTwice v.name place v.place) (paired_place v.name (map placed_name earlier.variables))
 
 abbrev pub taken_code : List Declaration → Place → Option (List ℕ) → Option DeclareFault
 taken_code earlier here None = None
-taken_code earlier here (Some code) = option_map (λ place. AliasTwice code place here) (place_beside code (filter_map placed_code earlier))
+taken_code earlier here (Some code) = option_map (λ place. AliasTwice code place here) (paired_place code (filter_map placed_code earlier))
 
 -- a code that an earlier input has
 abbrev pub code_fault : Declared → VariableItem → Option DeclareFault
@@ -65,7 +65,7 @@ variable_fault earlier v = first_of (name_fault earlier v) (first_of (code_fault
 
 -- the fault of an error after earlier declarations: variables and errors have separate names
 abbrev pub error_fault : Declared → ErrorItem → Option DeclareFault
-error_fault earlier e = option_map (λ place. DeclaredTwice e.name place e.place) (place_beside e.name (map placed_error earlier.errors))
+error_fault earlier e = option_map (λ place. DeclaredTwice e.name place e.place) (paired_place e.name (map placed_error earlier.errors))
 
 -- the fault of an item after earlier declarations
 abbrev pub fault_at : Declared → Item → Option DeclareFault

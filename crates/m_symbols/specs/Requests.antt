@@ -10,11 +10,11 @@ use Rattle.m_symbols.specs.declared.request_fault.RequestFault.TheVariants.{BadR
 
 -- What lines ask for, of which the first has this number, after the cells of the lines before them: the cell that each line names
 -- that isn't empty, or the number of the first line that names none.
-abbrev pub lines_said : Declared → ℕ → List ℕ → List (List ℕ) → Result (List ℕ) RequestFault
-lines_said declared number before [] = Ok before
-lines_said declared number before (line ∷ lines) =
-    if length line == 0 then lines_said declared (number + 1) before lines
-    else option_map_or (λ cell. lines_said declared (number + 1) (before ++ cell ∷ []) lines) (request_cell declared line) (Err (BadRequest number))
+abbrev pub parsed_lines : Declared → ℕ → List ℕ → List (List ℕ) → Result (List ℕ) RequestFault
+parsed_lines declared number before [] = Ok before
+parsed_lines declared number before (line ∷ lines) =
+    if length line == 0 then parsed_lines declared (number + 1) before lines
+    else option_map_or (λ cell. parsed_lines declared (number + 1) (before ++ cell ∷ []) lines) (request_cell declared line) (Err (BadRequest number))
 
 -- cells that are not too many to be asked for
 abbrev pub few : Result (List ℕ) RequestFault → Result (List ℕ) RequestFault
@@ -23,6 +23,6 @@ few (Err fault) = Err fault
 
 -- The cells that are asked for: those of the lines of a file, or without one all that the rules give back. The first bad line is told
 -- first, and then that there are too many.
-abbrev pub requests_said : Option (List ℕ) → Declared → Result (List ℕ) RequestFault
-requests_said None declared = few (Ok (returned_cells declared))
-requests_said (Some bytes) declared = few (lines_said declared 1 [] (lines_of bytes))
+abbrev pub parsed_requests : Option (List ℕ) → Declared → Result (List ℕ) RequestFault
+parsed_requests None declared = few (Ok (returned_cells declared))
+parsed_requests (Some bytes) declared = few (parsed_lines declared 1 [] (lines_of bytes))

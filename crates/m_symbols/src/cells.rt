@@ -6,7 +6,7 @@ ghost use Rattle.m_ast.specs.Items.{variable_size};
 ghost use Rattle.m_symbols.specs.Declarations.{owners_from};
 ghost use Rattle.m_symbols.specs.Placed.{IsPlaced};
 ghost use Rattle.m_symbols.specs.Cells.{request_cell, named_cell, cell_by, cell_within};
-ghost use Rattle.m_symbols.specs.Cells.{index_said, before_closing, plain_number, may_be_plain, returned_cells, returned_by};
+ghost use Rattle.m_symbols.specs.Cells.{parsed_index, before_closing, plain_number, may_be_plain, returned_cells, returned_by};
 
 use crate::{Symbols, Variable};
 use m_ast::Role;
@@ -51,7 +51,7 @@ fn cell_at_index(variable: &Variable, index: &[u8], all: u32) -> Option<u32>
     ensures { result ≡ cell_by (Some index.now) (variable_size variable.now.item) variable.now.first_cell }
 {
     match &variable.item.role {
-        Role::Computed(Some(size)) => cell_within(variable.first_cell, *size, index_said(index)?),
+        Role::Computed(Some(size)) => cell_within(variable.first_cell, *size, parsed_index(index)?),
         Role::Computed(None) => None,
         Role::Input(_) => None,
         Role::Constant(_) => None,
@@ -66,8 +66,8 @@ fn cell_within(first: u32, size: u32, k: u32) -> Option<u32>
 }
 
 // The number of a cell, as it stands after `[`.
-fn index_said(text: &[u8]) -> Option<u32>
-    ensures { result ≡ index_said text.now }
+fn parsed_index(text: &[u8]) -> Option<u32>
+    ensures { result ≡ parsed_index text.now }
 {
     match before_closing(text) {
         Some(digits) => plain_number(digits),

@@ -4,7 +4,7 @@ ghost use Rattle.std.specs.List.{filter_map, cons_option};
 ghost use Rattle.m_names.specs.Names.{has};
 ghost use Rattle.m_places.specs.Refusals.{Outcome};
 ghost use Rattle.m_symbols.specs.Declarations.{declared_by};
-ghost use Rattle.m_symbols.specs.Faults.{first_fault, fault_at, variable_fault, error_fault, place_beside, placed_name, placed_code, placed_error};
+ghost use Rattle.m_symbols.specs.Faults.{first_fault, fault_at, variable_fault, error_fault, paired_place, placed_name, placed_code, placed_error};
 ghost use Rattle.m_ast.specs.Items.{cells_in, size_in, code_in, is_input};
 ghost use Rattle.m_symbols.specs.inner.Tables.{declared_in, AreIndexed, HasRoom, with_variable, with_error, with_item};
 
@@ -129,7 +129,7 @@ fn find_variable_fault(
 // The place of the variable of this name.
 fn place_of_name(tables: &Tables, name: &[u8]) -> Option<Place>
     requires { AreIndexed tables.now }
-    ensures { result ≡ place_beside name.now (map placed_name tables.now.variables.items) }
+    ensures { result ≡ paired_place name.now (map placed_name tables.now.variables.items) }
 {
     let number = tables.names.find(name)?;
     Some(tables.variables[number].item.place)
@@ -138,7 +138,7 @@ fn place_of_name(tables: &Tables, name: &[u8]) -> Option<Place>
 // The place of the input of this code.
 fn place_of_code(tables: &Tables, code: &[u8]) -> Option<Place>
     requires { AreIndexed tables.now }
-    ensures { result ≡ place_beside code.now (filter_map placed_code tables.now.variables.items) }
+    ensures { result ≡ paired_place code.now (filter_map placed_code tables.now.variables.items) }
 {
     let number = tables.codes.find(code)?;
     let variable = tables.inputs[number];
@@ -148,7 +148,7 @@ fn place_of_code(tables: &Tables, code: &[u8]) -> Option<Place>
 // The place of the error of this name.
 fn place_of_error(tables: &Tables, name: &[u8]) -> Option<Place>
     requires { AreIndexed tables.now }
-    ensures { result ≡ place_beside name.now (map placed_error tables.now.errors.items) }
+    ensures { result ≡ paired_place name.now (map placed_error tables.now.errors.items) }
 {
     let number = tables.error_names.find(name)?;
     Some(tables.errors[number].place)

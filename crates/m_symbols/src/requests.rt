@@ -6,7 +6,7 @@ ghost use Rattle.m_places.specs.declared.limits.TheConstants.{FILE_BYTES};
 ghost use Rattle.m_text.specs.Lines.{lines_of};
 ghost use Rattle.m_symbols.specs.Declarations.{owners_from};
 ghost use Rattle.m_symbols.specs.Placed.{IsPlaced};
-ghost use Rattle.m_symbols.specs.Requests.{requests_said, lines_said, few};
+ghost use Rattle.m_symbols.specs.Requests.{parsed_requests, parsed_lines, few};
 ghost use Rattle.m_symbols.specs.declared.request_fault.RequestFault.TheVariants.{Memory};
 ghost use Rattle.m_places.specs.SourceLimits.{FileIsWithin};
 
@@ -29,7 +29,7 @@ pub fn read_requests(
 ) -> Result<Seq<u32>, RequestFault>
     requires placed { IsPlaced symbols.now }
     requires small { FileIsWithin requests.now }
-    ensures outcome { Says Memory result (λ cells. cells) (requests_said requests.now symbols.now) }
+    ensures outcome { Says Memory result (λ cells. cells) (parsed_requests requests.now symbols.now) }
     ensures known { IfOk result (All (λ c. c < length (owners_from 0 symbols.now.variables))) }
 {
     match requests {
@@ -42,8 +42,8 @@ pub fn read_requests(
 fn read_lines(alloc: Global, bytes: &[u8], symbols: &Symbols) -> Result<Seq<u32>, RequestFault>
     requires placed { IsPlaced symbols.now }
     requires small { length bytes.now ≤ FILE_BYTES }
-    ensures outcome { Outcome Memory result (λ cells. lines_said symbols.now 1 [] (lines_of bytes.now) ≡ Ok cells)
-        (λ fault. lines_said symbols.now 1 [] (lines_of bytes.now) ≡ Err fault) }
+    ensures outcome { Outcome Memory result (λ cells. parsed_lines symbols.now 1 [] (lines_of bytes.now) ≡ Ok cells)
+        (λ fault. parsed_lines symbols.now 1 [] (lines_of bytes.now) ≡ Err fault) }
     ensures known { IfOk result (All (λ c. c < length (owners_from 0 symbols.now.variables))) }
 {
     let mut cells = Vec::new(alloc);

@@ -17,7 +17,7 @@ use Rattle.m_lexer.specs.Chains.{First, first}
 use Rattle.m_terms.specs.Tokens.{is_sign, kind_is_sign}
 use Rattle.m_terms.specs.Headers.{SpellsHeader}
 use Rattle.m_terms.specs.Grammar.{SpellsInner}
-use Rattle.m_terms.specs.Terms.{SpellsTerm, follows, follows_of, BeginsBy, TermStands, HeaderStands, NoTermStands, NoHeaderStands}
+use Rattle.m_terms.specs.Terms.{SpellsTerm, follows, follows_of, BeginsBy, TermAt, HeaderAt, NoTermAt, NoHeaderAt}
 use Rattle.m_lexer.specs.inner.Chains.{choose}
 use Rattle.m_terms.specs.inner.Reading.{Fails, begins_by, header_at, expr_at, inner_at}
 use Rattle.m_lexer.proofs.ChainSound.{Each, absent, here}
@@ -42,11 +42,11 @@ found {P = P} {x = x} (here {x = y} p) e = let f : y ≡ x = cc in subst P f p
 pub to_the_end : (tokens : List Token) (from : ℕ) → take (length tokens - from) (drop from tokens) ≡ drop from tokens
 to_the_end tokens from = take_all (length tokens - from) (drop from tokens) (let e : length (drop from tokens) ≡ length tokens - from = length-drop from tokens in omega arith)
 
-record Stands (tokens rest : List Token) (from : ℕ) : Type 0 where
+record IsWithinCount (tokens rest : List Token) (from : ℕ) : Type 0 where
   onward : from < length tokens - length rest
   left : rest ≡ drop (length tokens - length rest) tokens
 
-stands : (tokens rest : List Token) (from : ℕ) → from ≤ length tokens → Behind rest (drop from tokens) → Stands tokens rest from
+stands : (tokens rest : List Token) (from : ℕ) → from ≤ length tokens → Behind rest (drop from tokens) → IsWithinCount tokens rest from
 stands tokens rest from h b =
     let shorter : length rest < length (drop from tokens) = behind_shorter b in
     let size : length (drop from tokens) ≡ length tokens - from = length-drop _ _ in
@@ -95,10 +95,10 @@ term_complete d b = expr_complete (SpellsInner BRACKET_DEPTH) (inner_passes BRAC
 term_found : (ts : List Token) {t : Syntax} {rest : List Token} → term_at ts ≡ Some (t, rest) → SpellsTerm t ts rest
 term_found ts e = found (expr_sound (SpellsInner BRACKET_DEPTH) (inner_at BRACKET_DEPTH) (inner_sound BRACKET_DEPTH) ts) e
 
-pub term_stands : (tokens : List Token) (from : ℕ) {t : Syntax} {rest : List Token} → from ≤ length tokens → term_at (drop from tokens) ≡ Some (t, rest) → begins_by follows rest ≡ true → TermStands tokens from t (length tokens - length rest)
-term_stands tokens from {t} {rest} h e b =
+pub term_is_marked : (tokens : List Token) (from : ℕ) {t : Syntax} {rest : List Token} → from ≤ length tokens → term_at (drop from tokens) ≡ Some (t, rest) → begins_by follows rest ≡ true → TermAt tokens from t (length tokens - length rest)
+term_is_marked tokens from {t} {rest} h e b =
     let spelled : SpellsTerm t (drop from tokens) rest = term_found (drop from tokens) e in
-    let s : Stands tokens rest from = stands tokens rest from h (expr_passes (SpellsInner BRACKET_DEPTH) (inner_passes BRACKET_DEPTH) _ _ _ spelled) in
+    let s : IsWithinCount tokens rest from = stands tokens rest from h (expr_passes (SpellsInner BRACKET_DEPTH) (inner_passes BRACKET_DEPTH) _ _ _ spelled) in
     let begins : BeginsBy follows rest × (0 < length rest) = begun follows rest b in
     record {
       onward = s.onward;
@@ -107,10 +107,10 @@ term_stands tokens from {t} {rest} h e b =
       closed = subst (λ m. BeginsBy follows m) s.left begins.0;
     }
 
-pub no_term_read : (tokens : List Token) (from : ℕ) → term_at (drop from tokens) ≡ None → NoTermStands tokens from
+pub no_term_read : (tokens : List Token) (from : ℕ) → term_at (drop from tokens) ≡ None → NoTermAt tokens from
 no_term_read tokens from e = λ t to s. let f = term_complete s.spelled s.closed in absurd (cc)
 
-pub no_term_ends : (tokens : List Token) (from : ℕ) {t : Syntax} {rest : List Token} → term_at (drop from tokens) ≡ Some (t, rest) → begins_by follows rest ≡ false → NoTermStands tokens from
+pub no_term_ends : (tokens : List Token) (from : ℕ) {t : Syntax} {rest : List Token} → term_at (drop from tokens) ≡ Some (t, rest) → begins_by follows rest ≡ false → NoTermAt tokens from
 no_term_ends tokens from {t} {rest} e b = λ u to s.
     let f : (t, rest) ≡ (u, drop to tokens) = same (sym e ∙ term_complete s.spelled s.closed) in
     let g : begins_by follows rest ≡ true = ap (λ (x : Syntax × List Token). begins_by follows x.1) f ∙ begins_true follows (drop to tokens) s.closed in
@@ -133,10 +133,10 @@ colon_loose _ b e = absurd (cc)
 first_loose : {b : Unit {0}} {ts rest : List Token} → First (is_sign Colon) b ts rest → Loose 1 ts
 first_loose (first {t = t} e) = colon_loose t.kind _ e
 
-pub header_stands : (tokens : List Token) (from : ℕ) {h : Header} {rest : List Token} → from ≤ length tokens → header_at (drop from tokens) ≡ Some (h, rest) → begins_by (is_sign Colon) rest ≡ true → HeaderStands tokens from h (length tokens - length rest)
-header_stands tokens from {h} {rest} l e b =
+pub header_found : (tokens : List Token) (from : ℕ) {h : Header} {rest : List Token} → from ≤ length tokens → header_at (drop from tokens) ≡ Some (h, rest) → begins_by (is_sign Colon) rest ≡ true → HeaderAt tokens from h (length tokens - length rest)
+header_found tokens from {h} {rest} l e b =
     let spelled : SpellsHeader h (drop from tokens) rest = found (header_sound (drop from tokens)) e in
-    let s : Stands tokens rest from = stands tokens rest from l (header_passes _ _ _ spelled) in
+    let s : IsWithinCount tokens rest from = stands tokens rest from l (header_passes _ _ _ spelled) in
     let begins : BeginsBy (is_sign Colon) rest × (0 < length rest) = begun (is_sign Colon) rest b in
     record {
       onward = s.onward;
@@ -145,10 +145,10 @@ header_stands tokens from {h} {rest} l e b =
       closed = subst (λ m. BeginsBy (is_sign Colon) m) s.left begins.0;
     }
 
-pub no_header_read : (tokens : List Token) (from : ℕ) → header_at (drop from tokens) ≡ None → NoHeaderStands tokens from
+pub no_header_read : (tokens : List Token) (from : ℕ) → header_at (drop from tokens) ≡ None → NoHeaderAt tokens from
 no_header_read tokens from e = λ h to s. let f = header_complete _ _ _ s.spelled (first_loose s.closed.1) in absurd (cc)
 
-pub no_header_ends : (tokens : List Token) (from : ℕ) {h : Header} {rest : List Token} → header_at (drop from tokens) ≡ Some (h, rest) → begins_by (is_sign Colon) rest ≡ false → NoHeaderStands tokens from
+pub no_header_ends : (tokens : List Token) (from : ℕ) {h : Header} {rest : List Token} → header_at (drop from tokens) ≡ Some (h, rest) → begins_by (is_sign Colon) rest ≡ false → NoHeaderAt tokens from
 no_header_ends tokens from {h} {rest} e b = λ k to s.
     let f : (h, rest) ≡ (k, drop to tokens) = same (sym e ∙ header_complete _ _ _ s.spelled (first_loose s.closed.1)) in
     let g : begins_by (is_sign Colon) rest ≡ true = ap (λ (x : Header × List Token). begins_by (is_sign Colon) x.1) f ∙ begins_true (is_sign Colon) (drop to tokens) s.closed in

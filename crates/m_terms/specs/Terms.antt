@@ -37,22 +37,22 @@ BeginsBy table ts = (rest : List Token) × First table tt ts rest
 
 -- The tokens from one position to a later one spell the term, and a token that may follow a term stands there: in the tokens
 -- of `A + 1 ;` the term `A + 1` stands from 0 to 3.
-pub record TermStands (tokens : List Token) (from : ℕ) (term : Syntax) (to : ℕ) : Type 0 where
+pub record TermAt (tokens : List Token) (from : ℕ) (term : Syntax) (to : ℕ) : Type 0 where
   pub onward : from < to
   pub within : to < length tokens
   pub spelled : SpellsTerm term (drop from tokens) (drop to tokens)
   pub closed : BeginsBy follows (drop to tokens)
 
 -- The tokens from one position to a later one spell the header, and `:` stands there.
-pub record HeaderStands (tokens : List Token) (from : ℕ) (header : Header) (to : ℕ) : Type 0 where
+pub record HeaderAt (tokens : List Token) (from : ℕ) (header : Header) (to : ℕ) : Type 0 where
   pub onward : from < to
   pub within : to < length tokens
   pub spelled : SpellsHeader header (drop from tokens) (drop to tokens)
   pub closed : BeginsBy (is_sign Colon) (drop to tokens)
 
 -- no term, and no header, stands from this position on
-abbrev pub NoTermStands : List Token → ℕ → Type 0
-NoTermStands tokens from = (term : Syntax) (to : ℕ) → TermStands tokens from term to → ⊥
+abbrev pub NoTermAt : List Token → ℕ → Type 0
+NoTermAt tokens from = (term : Syntax) (to : ℕ) → TermAt tokens from term to → ⊥
 
-abbrev pub NoHeaderStands : List Token → ℕ → Type 0
-NoHeaderStands tokens from = (header : Header) (to : ℕ) → HeaderStands tokens from header to → ⊥
+abbrev pub NoHeaderAt : List Token → ℕ → Type 0
+NoHeaderAt tokens from = (header : Header) (to : ℕ) → HeaderAt tokens from header to → ⊥

@@ -11,7 +11,7 @@ ghost use Rattle.m_terms.specs.Depth.{first_too_deep};
 ghost use Rattle.m_terms.specs.Grammar.{SpellsExpr, SpellsInner};
 ghost use Rattle.m_places.specs.declared.limits.TheConstants.{BRACKET_DEPTH};
 ghost use Rattle.m_terms.specs.Headers.{SpellsHeader};
-ghost use Rattle.m_terms.specs.Terms.{SpellsTerm, BeginsBy, follows, TermStands, HeaderStands, NoTermStands, NoHeaderStands};
+ghost use Rattle.m_terms.specs.Terms.{SpellsTerm, BeginsBy, follows, TermAt, HeaderAt, NoTermAt, NoHeaderAt};
 
 use crate::cursor::{Cursor, Mark};
 use crate::expression::expression;
@@ -29,7 +29,7 @@ use std::alloc::Global;
 /// and conditionals at most 256 deep stands there.
 pub fn read_term(alloc: Global, tokens: &[Token], from: usize) -> Result<(Term, usize), TermFault>
     requires { from ≤ length tokens.now }
-    ensures outcome { Outcome Memory result (λ read. TermStands tokens.now from read.0 read.1) (λ fault. NoTermStands tokens.now from) }
+    ensures outcome { Outcome Memory result (λ read. TermAt tokens.now from read.0 read.1) (λ fault. NoTermAt tokens.now from) }
 {
     let mut cursor = Cursor::new(&tokens[from..]);
     let term = expression(alloc, &mut cursor, BRACKET_DEPTH)?;
@@ -50,7 +50,7 @@ pub fn read_header(
     from: usize,
 ) -> Result<(Header, usize), TermFault>
     requires { from ≤ length tokens.now }
-    ensures outcome { Outcome Memory result (λ read. HeaderStands tokens.now from read.0 read.1) (λ fault. NoHeaderStands tokens.now from) }
+    ensures outcome { Outcome Memory result (λ read. HeaderAt tokens.now from read.0 read.1) (λ fault. NoHeaderAt tokens.now from) }
 {
     let mut cursor = Cursor::new(&tokens[from..]);
     let header = header(alloc, &mut cursor)?;

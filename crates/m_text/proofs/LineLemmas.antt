@@ -12,8 +12,8 @@ use Rattle.m_text.specs.Lines.{lines_of, exact_lines_of, onto_first, begins_with
 
 -- what std's reader of UTF-8 tells
 pub is_utf8-from_read : {T E : Type 0} (bytes : List ℕ) (read : Result T E) (P : T → Type 0) (Q : E → Type 0) → MatchResult read (λ text. P text × IsUtf8 bytes) (λ fault. (IsUtf8 bytes → ⊥) × Q fault) → is_ok read ≡ is_utf8 bytes
-is_utf8-from_read bytes (Ok text) P Q told = sym (is_utf8-from_IsUtf8 bytes told.1)
-is_utf8-from_read bytes (Err fault) P Q told = sym (false_from_ne_true (is_utf8 bytes) (λ passes. told.0 (IsUtf8-from_is_utf8 bytes passes)))
+is_utf8-from_read bytes (Ok text) P Q reported = sym (is_utf8-from_IsUtf8 bytes reported.1)
+is_utf8-from_read bytes (Err fault) P Q reported = sym (false_from_ne_true (is_utf8 bytes) (λ passes. reported.0 (IsUtf8-from_is_utf8 bytes passes)))
 
 -- where the first line feed stands
 abbrev pub feed_place : List ℕ → ℕ

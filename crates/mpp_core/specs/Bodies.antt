@@ -11,7 +11,7 @@ use Rattle.driver_core.specs.FormulaView.{formulas_of, steps_of}
 use Rattle.driver_core.specs.declared.term.CStep.{CStep}
 use Rattle.driver_core.specs.Actions.{Action, assign, clear, branch, partition as partition_action, call as call_action, solve}
 use Rattle.driver_core.specs.ActionView.{block_of}
-use Rattle.mpp_core.specs.Names.{if_said, cell_said, target_said, targets_said, each_once, kind_cells, rules_name, function_said}
+use Rattle.mpp_core.specs.Names.{if_resolved, resolved_cell, resolved_target, resolved_targets, each_once, kind_cells, rules_name, resolved_function}
 use Rattle.mpp_core.specs.declared.fault.CoreFault.{CoreFault}
 
 -- ---- terms
@@ -19,51 +19,51 @@ use Rattle.mpp_core.specs.declared.fault.CoreFault.{CoreFault}
 -- What a term on this line is over the cells of what is declared. `A + T[1]`, where `A` is the cell 0 and `T` a table from the cell 1
 -- on, is the cell 0, and after it `+` and the cell 2.
 abbrev mutual
-  pub term_said : Declared → ℕ → Term → Result Formula CoreFault
-  term_said declared line (lit value) = Ok (lit_formula value)
-  term_said declared line (named c) = if_said (λ cell. Ok (cell_formula cell)) (cell_said declared line c)
-  term_said declared line (apply op all) = if_said (λ arguments. Ok (apply_formula op (formulas_of arguments))) (terms_said declared line [] all)
-  term_said declared line (chain first links) =
-      if_said (λ f. if_said (λ steps. Ok (chain_formula f (steps_of steps))) (links_said declared line [] links)) (term_said declared line first)
-  term_said declared line (exists kind) = Ok (exists_formula (kind_cells declared kind))
+  pub resolved_term : Declared → ℕ → Term → Result Formula CoreFault
+  resolved_term declared line (lit value) = Ok (lit_formula value)
+  resolved_term declared line (named c) = if_resolved (λ cell. Ok (cell_formula cell)) (resolved_cell declared line c)
+  resolved_term declared line (apply op all) = if_resolved (λ arguments. Ok (apply_formula op (formulas_of arguments))) (resolved_terms declared line [] all)
+  resolved_term declared line (chain first links) =
+      if_resolved (λ f. if_resolved (λ steps. Ok (chain_formula f (steps_of steps))) (resolved_links declared line [] links)) (resolved_term declared line first)
+  resolved_term declared line (exists kind) = Ok (exists_formula (kind_cells declared kind))
 
   -- terms one after the other, after those that are said already
-  pub terms_said : Declared → ℕ → List Formula → Terms → Result (List Formula) CoreFault
-  terms_said declared line before no_terms = Ok before
-  terms_said declared line before (a_term a rest) = if_said (λ t. terms_said declared line (before ++ t ∷ []) rest) (term_said declared line a)
+  pub resolved_terms : Declared → ℕ → List Formula → Terms → Result (List Formula) CoreFault
+  resolved_terms declared line before no_terms = Ok before
+  resolved_terms declared line before (a_term a rest) = if_resolved (λ t. resolved_terms declared line (before ++ t ∷ []) rest) (resolved_term declared line a)
 
-  pub links_said : Declared → ℕ → List CStep → Links → Result (List CStep) CoreFault
-  links_said declared line before no_links = Ok before
-  links_said declared line before (a_link op a rest) = if_said (λ t. links_said declared line (before ++ record { op = op; term = t } ∷ []) rest) (term_said declared line a)
+  pub resolved_links : Declared → ℕ → List CStep → Links → Result (List CStep) CoreFault
+  resolved_links declared line before no_links = Ok before
+  resolved_links declared line before (a_link op a rest) = if_resolved (λ t. resolved_links declared line (before ++ record { op = op; term = t } ∷ []) rest) (resolved_term declared line a)
 
 -- ---- commands
 
 -- What a call is that gives back these cells: of the rules, or of one of the functions of these names. A cell that is named more than
 -- once comes back once, and counts as often as it is named.
-abbrev pub call_said : List (List ℕ) → ℕ → List ℕ → List ℕ → Result Action CoreFault
-call_said names line name received =
+abbrev pub resolved_call : List (List ℕ) → ℕ → List ℕ → List ℕ → Result Action CoreFault
+resolved_call names line name received =
     if bytes_eq name rules_name then Ok (solve line (length received) (each_once received))
-    else if_said (λ f. Ok (call_action line (length received) (each_once received) f)) (function_said names line name)
+    else if_resolved (λ f. Ok (call_action line (length received) (each_once received) f)) (resolved_function names line name)
 
 -- What a command is, where these are the names of the functions: in `A = B` the target `A` comes before `B`, and in `A, B <- f()` come
 -- the targets and then the function.
 abbrev mutual
-  pub act_said : Declared → List (List ℕ) → Act → Result Action CoreFault
-  act_said declared names (set line c term) = if_said (λ cell. if_said (λ t. Ok (assign line cell t)) (term_said declared line term)) (target_said declared line c)
-  act_said declared names (del line c) = if_said (λ cell. Ok (clear line cell)) (target_said declared line c)
-  act_said declared names (when line condition first second) =
-      if_said (λ t. if_said (λ a. if_said (λ b. Ok (branch line t (block_of a) (block_of b))) (acts_said declared names [] second)) (acts_said declared names [] first)) (term_said declared line condition)
-  act_said declared names (partition line kind block) = if_said (λ a. Ok (partition_action line (kind_cells declared kind) (block_of a))) (acts_said declared names [] block)
-  act_said declared names (call line cs name) = if_said (call_said names line name) (targets_said declared line [] cs)
+  pub resolved_act : Declared → List (List ℕ) → Act → Result Action CoreFault
+  resolved_act declared names (set line c term) = if_resolved (λ cell. if_resolved (λ t. Ok (assign line cell t)) (resolved_term declared line term)) (resolved_target declared line c)
+  resolved_act declared names (del line c) = if_resolved (λ cell. Ok (clear line cell)) (resolved_target declared line c)
+  resolved_act declared names (when line condition first second) =
+      if_resolved (λ t. if_resolved (λ a. if_resolved (λ b. Ok (branch line t (block_of a) (block_of b))) (resolved_acts declared names [] second)) (resolved_acts declared names [] first)) (resolved_term declared line condition)
+  resolved_act declared names (partition line kind block) = if_resolved (λ a. Ok (partition_action line (kind_cells declared kind) (block_of a))) (resolved_acts declared names [] block)
+  resolved_act declared names (call line cs name) = if_resolved (resolved_call names line name) (resolved_targets declared line [] cs)
 
   -- commands one after the other, after those that are said already
-  pub acts_said : Declared → List (List ℕ) → List Action → Acts → Result (List Action) CoreFault
-  acts_said declared names before no_acts = Ok before
-  acts_said declared names before (an_act a rest) = if_said (λ action. acts_said declared names (before ++ action ∷ []) rest) (act_said declared names a)
+  pub resolved_acts : Declared → List (List ℕ) → List Action → Acts → Result (List Action) CoreFault
+  resolved_acts declared names before no_acts = Ok before
+  resolved_acts declared names before (an_act a rest) = if_resolved (λ action. resolved_acts declared names (before ++ action ∷ []) rest) (resolved_act declared names a)
 
 -- ---- functions
 
 -- the bodies of functions one after the other, after those that are said already
-abbrev pub bodies_said : Declared → List (List ℕ) → List (List Action) → List Function → Result (List (List Action)) CoreFault
-bodies_said declared names before [] = Ok before
-bodies_said declared names before (f ∷ fs) = if_said (λ body. bodies_said declared names (before ++ body ∷ []) fs) (acts_said declared names [] (acts_of f.body))
+abbrev pub resolved_bodies : Declared → List (List ℕ) → List (List Action) → List Function → Result (List (List Action)) CoreFault
+resolved_bodies declared names before [] = Ok before
+resolved_bodies declared names before (f ∷ fs) = if_resolved (λ body. resolved_bodies declared names (before ++ body ∷ []) fs) (resolved_acts declared names [] (acts_of f.body))

@@ -10,8 +10,8 @@ use Rattle.mpp_parser.specs.declared.command.Driver.{Driver}
 use Rattle.driver_core.specs.declared.program.Core.{Core}
 use Rattle.driver_core.specs.Actions.{Action, solve}
 use Rattle.driver_core.specs.Valid.{IsRing, HasNoRing}
-use Rattle.mpp_core.specs.Names.{if_said, name_in, names_said, main_said}
-use Rattle.mpp_core.specs.Bodies.{bodies_said}
+use Rattle.mpp_core.specs.Names.{if_resolved, name_in, resolved_names, resolved_main}
+use Rattle.mpp_core.specs.Bodies.{resolved_bodies}
 use Rattle.mpp_core.specs.declared.fault.CoreFault.{CoreFault}
 use Rattle.mpp_core.specs.declared.fault.CoreFault.TheVariants.{DriverRecursion}
 
@@ -21,9 +21,9 @@ use Rattle.mpp_core.specs.declared.fault.CoreFault.TheVariants.{DriverRecursion}
 -- first, then that there is no `main`, and then the first name from the top and from left to right.
 abbrev pub core_of : Driver → Declared → Result Core CoreFault
 core_of driver declared =
-    if_said
-    (λ names. if_said (λ main. if_said (λ bodies. Ok (record { cells = length (owners_from 0 declared.variables); names = map name_in driver.functions; bodies = bodies; main = main })) (bodies_said declared names [] driver.functions)) (main_said names))
-    (names_said [] driver.functions)
+    if_resolved
+    (λ names. if_resolved (λ main. if_resolved (λ bodies. Ok (record { cells = length (owners_from 0 declared.variables); names = map name_in driver.functions; bodies = bodies; main = main })) (resolved_bodies declared names [] driver.functions)) (resolved_main names))
+    (resolved_names [] driver.functions)
 
 -- No name of the driver has a fault, this is the driver over cells, and no function reaches itself by calls.
 pub record IsCore (driver : Driver) (declared : Declared) (core : Core) : Type 0 where

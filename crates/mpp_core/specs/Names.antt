@@ -16,9 +16,9 @@ use Rattle.mpp_core.specs.declared.fault.CoreFault.{CoreFault}
 use Rattle.mpp_core.specs.declared.fault.CoreFault.TheVariants.{FunctionTwice, NoMain, UnknownInDriver, BadTargetInDriver}
 
 -- what comes of a thing that may have a fault
-abbrev pub if_said : {A B : Type 0} → (A → Result B CoreFault) → Result A CoreFault → Result B CoreFault
-if_said next (Ok thing) = next thing
-if_said next (Err fault) = Err fault
+abbrev pub if_resolved : {A B : Type 0} → (A → Result B CoreFault) → Result A CoreFault → Result B CoreFault
+if_resolved next (Ok thing) = next thing
+if_resolved next (Err fault) = Err fault
 
 -- ---- cells
 
@@ -40,8 +40,8 @@ cell_of_variable line c (Some v) = cell_at c.name line v.first_cell c.index (var
 
 -- The cell that a name on this line names: where `T` is a table of 3 cells from the cell 5 on, `T[1]` is the cell 6, and `T` and `T[3]`
 -- name none.
-abbrev pub cell_said : Declared → ℕ → CellName → Result ℕ CoreFault
-cell_said declared line c = cell_of_variable line c (variable_named declared c.name)
+abbrev pub resolved_cell : Declared → ℕ → CellName → Result ℕ CoreFault
+resolved_cell declared line c = cell_of_variable line c (variable_named declared c.name)
 
 -- a constant is no target, and with an index it is no name at all
 abbrev pub constant_target : List ℕ → ℕ → Option ℕ → Result ℕ CoreFault
@@ -54,13 +54,13 @@ target_of_variable line c (Some v) =
     if is_constant v.item.role then constant_target c.name line c.index else cell_at c.name line v.first_cell c.index (variable_size v.item)
 
 -- the cell that a name on this line names, which is assigned, deleted or received: of any variable but a constant
-abbrev pub target_said : Declared → ℕ → CellName → Result ℕ CoreFault
-target_said declared line c = target_of_variable line c (variable_named declared c.name)
+abbrev pub resolved_target : Declared → ℕ → CellName → Result ℕ CoreFault
+resolved_target declared line c = target_of_variable line c (variable_named declared c.name)
 
 -- targets from left to right, after those that are said already
-abbrev pub targets_said : Declared → ℕ → List ℕ → List CellName → Result (List ℕ) CoreFault
-targets_said declared line before [] = Ok before
-targets_said declared line before (c ∷ cs) = if_said (λ cell. targets_said declared line (before ++ cell ∷ []) cs) (target_said declared line c)
+abbrev pub resolved_targets : Declared → ℕ → List ℕ → List CellName → Result (List ℕ) CoreFault
+resolved_targets declared line before [] = Ok before
+resolved_targets declared line before (c ∷ cs) = if_resolved (λ cell. resolved_targets declared line (before ++ cell ∷ []) cs) (resolved_target declared line c)
 
 -- a cell at its place among ascending cells, unless it stands there already
 abbrev pub with_cell : ℕ → List ℕ → List ℕ
@@ -97,18 +97,18 @@ abbrev pub name_in : Function → List ℕ
 name_in f = f.name
 
 -- these names, and after them that of a further function, which none of them is and which doesn't call the rules
-abbrev pub name_said : List (List ℕ) → Function → Result (List (List ℕ)) CoreFault
-name_said before f = if bytes_eq f.name rules_name || has f.name before then Err (FunctionTwice f.name f.line) else Ok (before ++ f.name ∷ [])
+abbrev pub resolved_name : List (List ℕ) → Function → Result (List (List ℕ)) CoreFault
+resolved_name before f = if bytes_eq f.name rules_name || has f.name before then Err (FunctionTwice f.name f.line) else Ok (before ++ f.name ∷ [])
 
 -- the names of functions in order, after these
-abbrev pub names_said : List (List ℕ) → List Function → Result (List (List ℕ)) CoreFault
-names_said before [] = Ok before
-names_said before (f ∷ fs) = if_said (λ names. names_said names fs) (name_said before f)
+abbrev pub resolved_names : List (List ℕ) → List Function → Result (List (List ℕ)) CoreFault
+resolved_names before [] = Ok before
+resolved_names before (f ∷ fs) = if_resolved (λ names. resolved_names names fs) (resolved_name before f)
 
 -- the number of `main` among the functions of these names
-abbrev pub main_said : List (List ℕ) → Result ℕ CoreFault
-main_said names = option_map_or (λ f. Ok f) (index_of (codes "main") names) (Err NoMain)
+abbrev pub resolved_main : List (List ℕ) → Result ℕ CoreFault
+resolved_main names = option_map_or (λ f. Ok f) (index_of (codes "main") names) (Err NoMain)
 
 -- the number of the function that a name on this line names
-abbrev pub function_said : List (List ℕ) → ℕ → List ℕ → Result ℕ CoreFault
-function_said names line name = option_map_or (λ f. Ok f) (index_of name names) (Err (UnknownInDriver name line))
+abbrev pub resolved_function : List (List ℕ) → ℕ → List ℕ → Result ℕ CoreFault
+resolved_function names line name = option_map_or (λ f. Ok f) (index_of name names) (Err (UnknownInDriver name line))

@@ -6,8 +6,8 @@ ghost use Rattle.m_symbols.specs.Placed.{IsPlaced};
 ghost use Rattle.mpp_parser.specs.CommandView.{block_of as acts_of};
 ghost use Rattle.driver_core.specs.Actions.{assign, clear, branch, partition};
 ghost use Rattle.driver_core.specs.ActionView.{action_of, block_of};
-ghost use Rattle.mpp_core.specs.Names.{if_said, target_said, targets_said, kind_cells, function_said, rules_name};
-ghost use Rattle.mpp_core.specs.Bodies.{term_said, act_said, acts_said, call_said};
+ghost use Rattle.mpp_core.specs.Names.{if_resolved, resolved_target, resolved_targets, kind_cells, resolved_function, rules_name};
+ghost use Rattle.mpp_core.specs.Bodies.{resolved_term, resolved_act, resolved_acts, resolved_call};
 ghost use Rattle.mpp_core.specs.declared.fault.CoreFault.TheVariants.{Memory};
 
 use crate::CoreFault;
@@ -29,7 +29,7 @@ fn command(
     scope: &Scope<'_>,
 ) -> Result<CCommand, CoreFault>
     requires { IsPlaced scope.now × (length names.now < 2 ^ 32) }
-    ensures { Says Memory result (λ c. c) (act_said scope.now names.now command.now) }
+    ensures { Says Memory result (λ c. c) (resolved_act scope.now names.now command.now) }
 {
     match &command.node {
         CommandNode::Set(line, cell, value) => assigned(alloc, *line, cell, value, scope),
@@ -57,7 +57,7 @@ fn assigned(
 ) -> Result<CCommand, CoreFault>
     requires { IsPlaced scope.now }
     ensures { Says Memory result (λ c. c)
-        (if_said (λ cell. if_said (λ t. Ok (assign line cell t)) (term_said scope.now line value.now)) (target_said scope.now line cell.now)) }
+        (if_resolved (λ cell. if_resolved (λ t. Ok (assign line cell t)) (resolved_term scope.now line value.now)) (resolved_target scope.now line cell.now)) }
 {
     let cell = target_of(alloc, scope.symbols(), line, cell)?;
     let value = term(alloc, value, line, scope)?;
@@ -72,7 +72,7 @@ fn cleared(
     scope: &Scope<'_>,
 ) -> Result<CCommand, CoreFault>
     requires { IsPlaced scope.now }
-    ensures { Says Memory result (λ c. c) (if_said (λ cell. Ok (clear line cell)) (target_said scope.now line cell.now)) }
+    ensures { Says Memory result (λ c. c) (if_resolved (λ cell. Ok (clear line cell)) (resolved_target scope.now line cell.now)) }
 {
     let cell = target_of(alloc, scope.symbols(), line, cell)?;
     Ok(CCommand::new(CCommandNode::Del(line, cell)))
@@ -91,9 +91,9 @@ fn branched(
 ) -> Result<CCommand, CoreFault>
     requires { IsPlaced scope.now × (length names.now < 2 ^ 32) }
     ensures { Says Memory result (λ c. c)
-        (if_said (λ t. if_said (λ a. if_said (λ b. Ok (branch line t (block_of a) (block_of b)))
-        (acts_said scope.now names.now [] (acts_of second.now)))
-        (acts_said scope.now names.now [] (acts_of first.now))) (term_said scope.now line condition.now)) }
+        (if_resolved (λ t. if_resolved (λ a. if_resolved (λ b. Ok (branch line t (block_of a) (block_of b)))
+        (resolved_acts scope.now names.now [] (acts_of second.now)))
+        (resolved_acts scope.now names.now [] (acts_of first.now))) (resolved_term scope.now line condition.now)) }
 {
     let condition = term(alloc, condition, line, scope)?;
     let first = commands(alloc, first, names, scope)?;
@@ -113,7 +113,7 @@ fn partitioned(
 ) -> Result<CCommand, CoreFault>
     requires { IsPlaced scope.now × (length names.now < 2 ^ 32) }
     ensures { Says Memory result (λ c. c)
-        (if_said (λ a. Ok (partition line (kind_cells scope.now kind.now) (block_of a))) (acts_said scope.now names.now [] (acts_of block.now))) }
+        (if_resolved (λ a. Ok (partition line (kind_cells scope.now kind.now) (block_of a))) (resolved_acts scope.now names.now [] (acts_of block.now))) }
 {
     let cells = scope.kind_cells(alloc, kind)?;
     let block = commands(alloc, block, names, scope)?;
@@ -129,7 +129,7 @@ fn called(
     names: &Names,
 ) -> Result<CCommand, CoreFault>
     requires { length names.now < 2 ^ 32 }
-    ensures { Says Memory result (λ c. c) (call_said names.now line name.now received.items) }
+    ensures { Says Memory result (λ c. c) (resolved_call names.now line name.now received.items) }
 {
     let count = received.len() as u64;
     let cells = each_once(received);
@@ -151,12 +151,12 @@ pub(crate) fn commands(
     scope: &Scope<'_>,
 ) -> Result<Vec<CCommand>, CoreFault>
     requires { IsPlaced scope.now × (length names.now < 2 ^ 32) }
-    ensures { Says Memory result (λ said. said.items) (acts_said scope.now names.now [] (acts_of all.now)) }
+    ensures { Says Memory result (λ stated. stated.items) (resolved_acts scope.now names.now [] (acts_of all.now)) }
 {
-    let mut said = Vec::with_capacity(alloc, all.len())?;
+    let mut stated = Vec::with_capacity(alloc, all.len())?;
     for one in all {
         let c = command(alloc, one, names, scope)?;
-        said.push(c)?;
+        stated.push(c)?;
     }
-    Ok(said)
+    Ok(stated)
 }

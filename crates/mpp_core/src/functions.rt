@@ -3,8 +3,8 @@
 ghost use Rattle.std.specs.Prelude.{◌≡◌, ◌≢◌, ◌<◌, ◌^◌, Ok, Err, [], IfOk, length, map};
 ghost use Rattle.m_places.specs.Refusals.{Says};
 ghost use Rattle.m_symbols.specs.Placed.{IsPlaced};
-ghost use Rattle.mpp_core.specs.Names.{name_said, names_said, main_said, name_in};
-ghost use Rattle.mpp_core.specs.Bodies.{bodies_said};
+ghost use Rattle.mpp_core.specs.Names.{resolved_name, resolved_names, resolved_main, name_in};
+ghost use Rattle.mpp_core.specs.Bodies.{resolved_bodies};
 ghost use Rattle.mpp_core.specs.declared.fault.CoreFault.TheVariants.{Memory, FunctionTwice};
 
 use crate::CoreFault;
@@ -18,7 +18,7 @@ use std::alloc::{AllocError, Global};
 
 /// The names of functions in order, of which none stands twice and none calls the rules.
 pub(crate) fn function_names(alloc: Global, functions: &[Function]) -> Result<Names, CoreFault>
-    ensures { Says Memory result (λ names. names) (names_said [] functions.now) }
+    ensures { Says Memory result (λ names. names) (resolved_names [] functions.now) }
 {
     let mut names = Names::under(alloc, key_of(functions));
     for function in functions {
@@ -38,7 +38,7 @@ fn key_of(functions: &[Function]) -> Key {
 
 // Adds the name of one more function.
 fn add_name(alloc: Global, function: &Function, names: &mut Names) -> Result<(), CoreFault>
-    ensures { Says Memory result (λ _. names.new) (name_said names.old function.now) }
+    ensures { Says Memory result (λ _. names.new) (resolved_name names.old function.now) }
 {
     if function.name.bytes() == b"call_m".as_slice() {
         return Err(twice(alloc, function));
@@ -62,7 +62,7 @@ fn twice(alloc: Global, function: &Function) -> CoreFault
 /// The number of `main` among the functions of these names.
 pub(crate) fn main_of(names: &Names) -> Result<u32, CoreFault>
     requires { length names.now < 2 ^ 32 }
-    ensures { Says Memory result (λ main. main) (main_said names.now) }
+    ensures { Says Memory result (λ main. main) (resolved_main names.now) }
 {
     match names.number(b"main") {
         Some(main) => Ok(main),
@@ -91,7 +91,7 @@ pub(crate) fn bodies(
 ) -> Result<Seq<Seq<CCommand>>, CoreFault>
     requires placed { IsPlaced scope.now }
     requires few { length names.now < 2 ^ 32 }
-    ensures { Says Memory result (λ bodies. bodies) (bodies_said scope.now names.now [] functions.now) }
+    ensures { Says Memory result (λ bodies. bodies) (resolved_bodies scope.now names.now [] functions.now) }
 {
     let mut bodies = Vec::with_capacity(alloc, functions.len())?;
     for function in functions {

@@ -6,7 +6,7 @@ ghost use Rattle.m_places.specs.Refusals.{Says};
 ghost use Rattle.m_ast.specs.Items.{variable_size};
 ghost use Rattle.m_symbols.specs.Cells.{variable_named};
 ghost use Rattle.m_symbols.specs.Placed.{IsPlaced};
-ghost use Rattle.mpp_core.specs.Names.{cell_said, cell_at, target_said, constant_target, targets_said, each_once};
+ghost use Rattle.mpp_core.specs.Names.{resolved_cell, cell_at, resolved_target, constant_target, resolved_targets, each_once};
 ghost use Rattle.mpp_core.specs.declared.fault.CoreFault.TheVariants.{Memory, UnknownInDriver};
 
 use crate::CoreFault;
@@ -42,7 +42,7 @@ pub(crate) fn cell_of(
     name: &CellName,
 ) -> Result<u32, CoreFault>
     requires { IsPlaced symbols.now }
-    ensures { Says Memory result (λ cell. cell) (cell_said symbols.now line name.now) }
+    ensures { Says Memory result (λ cell. cell) (resolved_cell symbols.now line name.now) }
 {
     let Some(variable) = variable_named(symbols, &name.name) else {
         return Err(unknown(alloc, &name.name, line));
@@ -87,7 +87,7 @@ pub(crate) fn target_of(
     name: &CellName,
 ) -> Result<u32, CoreFault>
     requires { IsPlaced symbols.now }
-    ensures { Says Memory result (λ cell. cell) (target_said symbols.now line name.now) }
+    ensures { Says Memory result (λ cell. cell) (resolved_target symbols.now line name.now) }
 {
     let Some(variable) = variable_named(symbols, &name.name) else {
         return Err(unknown(alloc, &name.name, line));
@@ -119,7 +119,7 @@ pub(crate) fn targets_of(
     names: &[CellName],
 ) -> Result<Vec<u32>, CoreFault>
     requires { IsPlaced symbols.now }
-    ensures { Says Memory result (λ cells. cells.items) (targets_said symbols.now line [] names.now) }
+    ensures { Says Memory result (λ cells. cells.items) (resolved_targets symbols.now line [] names.now) }
 {
     let mut cells = Vec::with_capacity(alloc, names.len())?;
     for name in names {

@@ -6,7 +6,7 @@ ghost use Rattle.m_symbols.specs.Declarations.{owners_from};
 ghost use Rattle.m_symbols.specs.Placed.{IsPlaced};
 ghost use Rattle.driver_core.specs.Valid.{IsValidCore};
 ghost use Rattle.mpp_core.specs.Cores.{IsCore, IsCoreFault, core_of};
-ghost use Rattle.mpp_core.specs.Names.{names_said};
+ghost use Rattle.mpp_core.specs.Names.{resolved_names};
 ghost use Rattle.mpp_core.specs.declared.fault.CoreFault.TheVariants.{Memory};
 
 use crate::CoreFault;
@@ -43,7 +43,7 @@ fn resolve_names(
     names: &Names,
 ) -> Result<Core, CoreFault>
     requires placed { IsPlaced symbols.now }
-    requires names { names_said [] driver.now.functions ≡ Ok names.now }
+    requires names { resolved_names [] driver.now.functions ≡ Ok names.now }
     requires few { length names.now < 2 ^ 32 }
     ensures outcome { Says Memory result (λ core. core) (core_of driver.now symbols.now) }
     ensures cells { IfOk result (λ core. core.cells ≡ length (owners_from 0 symbols.now.variables)) }

@@ -6,8 +6,8 @@ ghost use Rattle.m_symbols.specs.Placed.{IsPlaced};
 ghost use Rattle.mpp_parser.specs.TermView.{terms_of, links_of};
 ghost use Rattle.driver_core.specs.Formulas.{cell as cell_formula, apply, chain};
 ghost use Rattle.driver_core.specs.FormulaView.{formula_of, formulas_of, steps_of};
-ghost use Rattle.mpp_core.specs.Names.{if_said, cell_said};
-ghost use Rattle.mpp_core.specs.Bodies.{term_said, terms_said, links_said};
+ghost use Rattle.mpp_core.specs.Names.{if_resolved, resolved_cell};
+ghost use Rattle.mpp_core.specs.Bodies.{resolved_term, resolved_terms, resolved_links};
 ghost use Rattle.mpp_core.specs.declared.fault.CoreFault.TheVariants.{Memory};
 
 use crate::CoreFault;
@@ -27,7 +27,7 @@ pub(crate) fn term(
     scope: &Scope<'_>,
 ) -> Result<Box<CTerm>, CoreFault>
     requires { IsPlaced scope.now }
-    ensures { Says Memory result (λ t. t.value) (term_said scope.now line term.now) }
+    ensures { Says Memory result (λ t. t.value) (resolved_term scope.now line term.now) }
 {
     match &term.node {
         DNode::Lit(value) => Ok(boxed(alloc, CNode::Lit(*value))?),
@@ -56,7 +56,7 @@ fn named(
     scope: &Scope<'_>,
 ) -> Result<Box<CTerm>, CoreFault>
     requires { IsPlaced scope.now }
-    ensures { Says Memory result (λ t. t.value) (if_said (λ c. Ok (cell_formula c)) (cell_said scope.now line name.now)) }
+    ensures { Says Memory result (λ t. t.value) (if_resolved (λ c. Ok (cell_formula c)) (resolved_cell scope.now line name.now)) }
 {
     let cell = cell_of(alloc, scope.symbols(), line, name)?;
     Ok(boxed(alloc, CNode::Cell(cell))?)
@@ -72,7 +72,7 @@ fn applied(
     scope: &Scope<'_>,
 ) -> Result<Box<CTerm>, CoreFault>
     requires { IsPlaced scope.now }
-    ensures { Says Memory result (λ t. t.value) (if_said (λ all. Ok (apply op (formulas_of all))) (terms_said scope.now line [] (terms_of arguments.now))) }
+    ensures { Says Memory result (λ t. t.value) (if_resolved (λ all. Ok (apply op (formulas_of all))) (resolved_terms scope.now line [] (terms_of arguments.now))) }
 {
     let arguments = terms(alloc, arguments, line, scope)?;
     Ok(boxed(alloc, CNode::Apply(op, arguments))?)
@@ -87,14 +87,14 @@ fn terms(
     scope: &Scope<'_>,
 ) -> Result<Vec<CTerm>, CoreFault>
     requires { IsPlaced scope.now }
-    ensures { Says Memory result (λ said. said.items) (terms_said scope.now line [] (terms_of all.now)) }
+    ensures { Says Memory result (λ stated. stated.items) (resolved_terms scope.now line [] (terms_of all.now)) }
 {
-    let mut said = Vec::with_capacity(alloc, all.len())?;
+    let mut stated = Vec::with_capacity(alloc, all.len())?;
     for one in all {
         let t = term(alloc, one, line, scope)?;
-        said.push(Box::into_inner(t))?;
+        stated.push(Box::into_inner(t))?;
     }
-    Ok(said)
+    Ok(stated)
 }
 
 // A left fold.
@@ -108,8 +108,8 @@ fn chained(
 ) -> Result<Box<CTerm>, CoreFault>
     requires { IsPlaced scope.now }
     ensures { Says Memory result (λ t. t.value)
-        (if_said (λ f. if_said (λ steps. Ok (chain f (steps_of steps))) (links_said scope.now line [] (links_of links.now)))
-        (term_said scope.now line first.now)) }
+        (if_resolved (λ f. if_resolved (λ steps. Ok (chain f (steps_of steps))) (resolved_links scope.now line [] (links_of links.now)))
+        (resolved_term scope.now line first.now)) }
 {
     let first = term(alloc, first, line, scope)?;
     let mut steps = Vec::with_capacity(alloc, links.len())?;

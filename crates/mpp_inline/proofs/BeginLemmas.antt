@@ -37,22 +37,22 @@ use Rattle.observables.specs.declared.inputs.InputType.{InputType}
 use Rattle.observables.specs.declared.inputs.InputType.TheVariants.{Any, Whole, Truth}
 use Rattle.observables.specs.Inputs.{IsValueOf, AreValuesOf}
 use Rattle.observables.specs.Outputs.{verif_of, verif_at}
-use Rattle.observables.specs.Answers.{Cause, stopped, label_number, cause_of, is_told, notes_told, told_of}
+use Rattle.observables.specs.Answers.{Cause, stopped, label_number, cause_of, is_reported, reported_notes, observation}
 use Rattle.flat_code.specs.Runs.{IsCheck, AreNodes, node_values, is_one, stop_of as stop_at, check_stop, first_stop}
-use Rattle.driver_core.specs.Answers.{first_value, next_input, start_from, told_by}
-use Rattle.driver_core.specs.Inputs.{type_said, input_said, inputs_said}
+use Rattle.driver_core.specs.Answers.{first_value, next_input, start_from, observation_by}
+use Rattle.driver_core.specs.Inputs.{type_declared, input_declared, inputs_declared}
 use Rattle.driver_core.specs.Meaning.{Env, RunState, goes, then_do, unless_stopped}
 use Rattle.mpp_inline.specs.declared.builder.Builder.{Builder}
 use Rattle.mpp_inline.specs.inner.Growth.{count, at, stop_of, stop_read, so_far, notes_read, IsVerif, denoted, outcome_of, run, IsCheckWithin, IsNoteWithin, IsUsable, typed_value, begun_value, begun_from, Sane, Known, HasLiterals, Begun, Grows, Gives, IsAnInput}
 use Rattle.driver_core.specs.Weights.{weight_of}
 use Rattle.mpp_inline.specs.inner.Sizes.{load}
-use Rattle.mpp_inline.specs.inner.Told.{ended, ended_so, nodes_of, numbers_of, Answers}
+use Rattle.mpp_inline.specs.inner.Observation.{ended, ended_so, nodes_of, numbers_of, Answers}
 use Rattle.mpp_inline.specs.Inlined.{IsInlined, HasTruths, IsTruthInput, IsDriverLine}
 use Rattle.mpp_inline.specs.inner.Work.{under, Step}
 use Rattle.mpp_inline.proofs.OutcomeLemmas.{append-none}
 use Rattle.mpp_inline.proofs.ListLemmas.{all-append, all-more}
 use Rattle.mpp_inline.proofs.GrowthLemmas.{past-line, grows-none, grows-then, known-on, denoted-on, known-get, denoted-get}
-use Rattle.mpp_inline.proofs.TruthLemmas.{literals, literal-reads, literal-own, kinds-long, kinds-said, every, whole-truths}
+use Rattle.mpp_inline.proofs.TruthLemmas.{literals, literal-reads, literal-own, kinds-long, kinds-stated, every, whole-truths}
 
 -- ---- the first nodes
 
@@ -81,7 +81,7 @@ has-literals labels b e f g none =
         others = λ l h. past-line b.labels.items l (omega (arith, h, ap length g, length-map labels Verif));
       };
       one = λ inputs. value inputs 2;
-      told = λ inputs. λ i. record {
+      reported = λ inputs. λ i. record {
         stop = stop_read b.labels.items (first_stop (node_values inputs b.nodes.items) (f i));
         notes = notes_read b.labels.items (at b inputs) (none i);
       };
@@ -168,28 +168,28 @@ value-typed Truth OverValue h = absurd h
 abbrev MayBe : Coded → Value → Type 0
 MayBe input value = IsValueOf input.kind value
 
-zip-next : (input : Coded) (said : List Coded) (inputs : List Value) (n : ℕ) → AllZip MayBe (input ∷ said) (drop n inputs) → IsValueOf input.kind (get_or inputs n Undef) × AllZip MayBe said (drop (suc n) inputs)
-zip-next input said [] zero h = absurd h
-zip-next input said [] (suc n) h = absurd h
-zip-next input said (x ∷ inputs) zero h = h
-zip-next input said (x ∷ inputs) (suc n) h = zip-next input said inputs n h
+zip-next : (input : Coded) (stated : List Coded) (inputs : List Value) (n : ℕ) → AllZip MayBe (input ∷ stated) (drop n inputs) → IsValueOf input.kind (get_or inputs n Undef) × AllZip MayBe stated (drop (suc n) inputs)
+zip-next input stated [] zero h = absurd h
+zip-next input stated [] (suc n) h = absurd h
+zip-next input stated (x ∷ inputs) zero h = h
+zip-next input stated (x ∷ inputs) (suc n) h = zip-next input stated inputs n h
 
-by-role : (inputs : List Value) (n : ℕ) (role : Role) (word : Option (List ℕ)) (said : List Coded) → AllZip MayBe (cons_option (option_map (λ code. record { code = code; kind = type_said word }) (code_in role)) said) (drop n inputs) →
-    (cond (is_input role) (typed_value (type_said word) (get_or inputs n Undef)) (first_value inputs n role) ≡ first_value inputs n role) × AllZip MayBe said (drop (next_input n role) inputs)
-by-role inputs n (InputRole code) word said h =
-    let next = zip-next (record { code = code; kind = type_said word }) said inputs n h in
-    (value-typed (type_said word) (get_or inputs n Undef) next.0, subst (λ m. AllZip MayBe said (drop m inputs)) (sym (add-one n)) next.1)
-by-role inputs n (ComputedRole size) word said h = (refl, h)
-by-role inputs n (Constant amount) word said h = (refl, h)
+by-role : (inputs : List Value) (n : ℕ) (role : Role) (word : Option (List ℕ)) (stated : List Coded) → AllZip MayBe (cons_option (option_map (λ code. record { code = code; kind = type_declared word }) (code_in role)) stated) (drop n inputs) →
+    (cond (is_input role) (typed_value (type_declared word) (get_or inputs n Undef)) (first_value inputs n role) ≡ first_value inputs n role) × AllZip MayBe stated (drop (next_input n role) inputs)
+by-role inputs n (InputRole code) word stated h =
+    let next = zip-next (record { code = code; kind = type_declared word }) stated inputs n h in
+    (value-typed (type_declared word) (get_or inputs n Undef) next.0, subst (λ m. AllZip MayBe stated (drop m inputs)) (sym (add-one n)) next.1)
+by-role inputs n (ComputedRole size) word stated h = (refl, h)
+by-role inputs n (Constant amount) word stated h = (refl, h)
 
-begun-from : (inputs : List Value) (n : ℕ) (vs : List Variable) → AllZip MayBe (filter_map input_said vs) (drop n inputs) → begun_from inputs n vs ≡ start_from inputs n vs
+begun-from : (inputs : List Value) (n : ℕ) (vs : List Variable) → AllZip MayBe (filter_map input_declared vs) (drop n inputs) → begun_from inputs n vs ≡ start_from inputs n vs
 begun-from inputs n [] h = refl
 begun-from inputs n (v ∷ vs) h =
-    let s = by-role inputs n v.item.role v.item.value_word (filter_map input_said vs) h in
+    let s = by-role inputs n v.item.role v.item.value_word (filter_map input_declared vs) h in
     λ i. replicate v.cells (s.0 i) ++ begun-from inputs (next_input n v.item.role) vs s.1 i
 
 -- the first nodes are worth what the cells begin with, for values that the inputs may have
-pub begun-same : (declared : Declared) (inputs : List Value) → AreValuesOf (inputs_said declared) inputs → begun_from inputs 0 declared.variables ≡ start_from inputs 0 declared.variables
+pub begun-same : (declared : Declared) (inputs : List Value) → AreValuesOf (inputs_declared declared) inputs → begun_from inputs 0 declared.variables ≡ start_from inputs 0 declared.variables
 begun-same declared inputs h = begun-from inputs 0 declared.variables h
 
 -- ---- the inputs
@@ -235,7 +235,7 @@ start-long inputs n m (v ∷ vs) =
 
 -- ---- the end
 
-ended-run : (o : Option Cause) (ns : List Label) (e : Env) (requests : List ℕ) → ended o ns (map (environment e) requests) ≡ told_by requests (unless_stopped o (goes ns e))
+ended-run : (o : Option Cause) (ns : List Label) (e : Env) (requests : List ℕ) → ended o ns (map (environment e) requests) ≡ observation_by requests (unless_stopped o (goes ns e))
 ended-run None ns e requests = refl
 ended-run (Some s) ns e requests = refl
 
@@ -243,7 +243,7 @@ map-map : (f : ℕ → Value) (g : ℕ → ℕ) (h : ℕ → Value) → ((x : �
 map-map f g h e [] = refl
 map-map f g h e (x ∷ xs) = λ i. e x i ∷ map-map f g h e xs i
 
-pub last-answer : (b : Builder) (env requests : List ℕ) (inputs : List Value) → Sane b → ended_so (so_far b inputs) (map (at b inputs) (map (λ x. get_or env x 0) requests)) ≡ told_by requests (run b inputs env)
+pub last-answer : (b : Builder) (env requests : List ℕ) (inputs : List Value) → Sane b → ended_so (so_far b inputs) (map (at b inputs) (map (λ x. get_or env x 0) requests)) ≡ observation_by requests (run b inputs env)
 last-answer b env requests inputs s =
     ap (ended_so (so_far b inputs)) (map-map (at b inputs) (λ x. get_or env x 0) (environment (denoted b inputs env)) (λ x. sym (denoted-get inputs env x s)) requests)
     ∙ ended-run (stop_of b inputs) (so_far b inputs).notes (denoted b inputs env) requests
@@ -256,7 +256,7 @@ pub whole-run : {a b c : Builder} {env env' : List ℕ} {next : Env → RunState
 whole-run {a} {b} {c} {env} {env'} {next} {labels} {start} inputs l g s =
     let one : at b inputs 2 ≡ Num (pos 1000000) = g.grows.base.keeps inputs 2 (l.sane.literal 2 (omega arith)) ∙ l.one inputs in
     s.moved inputs (inr one) ∙ ap (λ v. under v (run b inputs env) next) one
-    ∙ (λ i. then_do (outcome_of ((g.grows.told inputs ∙ l.told inputs) i) (g.value inputs i)) next)
+    ∙ (λ i. then_do (outcome_of ((g.grows.reported inputs ∙ l.reported inputs) i) (g.value inputs i)) next)
 
 -- the labels of the rules stand first
 pub first-faces : (ds : List Label) (ls : List FaceLabel) → length ds ≤ length ls → ((i : ℕ) (d : Label) → i < length ds → get_or ls i (DriverLine 0) ≡ Verif (get_or ds i d)) → take (length ds) ls ≡ map Verif ds
@@ -287,17 +287,17 @@ check-at vs c = elim (is_one (get_or vs c.guard Undef)) as (λ b. IsAt c.label (
   | false ↦ tt
 ]
 
-told-one : (labels : List FaceLabel) (notes : List ℕ) (l : ℕ) (o p : Option Stop) (outs : List Value) → IsAt l o → l < length labels →
-    told_of labels notes (option_map_or Stopped p (Values outs)) ≡ Some (ended (stop_read labels p) (notes_told labels notes outs) (drop (length notes) outs)) →
-    told_of labels notes (option_map_or Stopped (option_or o p) (Values outs)) ≡ Some (ended (stop_read labels (option_or o p)) (notes_told labels notes outs) (drop (length notes) outs))
-told-one labels notes l None p outs a h rest = rest
-told-one labels notes l (Some stop) p outs a h rest = ap (option_map (λ label. stopped (cause_of stop label))) (slice_get-get_or labels (label_number stop) (DriverLine 0) (omega (arith, a, h)))
+reported-one : (labels : List FaceLabel) (notes : List ℕ) (l : ℕ) (o p : Option Stop) (outs : List Value) → IsAt l o → l < length labels →
+    observation labels notes (option_map_or Stopped p (Values outs)) ≡ Some (ended (stop_read labels p) (reported_notes labels notes outs) (drop (length notes) outs)) →
+    observation labels notes (option_map_or Stopped (option_or o p) (Values outs)) ≡ Some (ended (stop_read labels (option_or o p)) (reported_notes labels notes outs) (drop (length notes) outs))
+reported-one labels notes l None p outs a h rest = rest
+reported-one labels notes l (Some stop) p outs a h rest = ap (option_map (λ label. stopped (cause_of stop label))) (slice_get-get_or labels (label_number stop) (DriverLine 0) (omega (arith, a, h)))
 
 -- what a program tells, read through its labels
-told-flat : (n : ℕ) (labels : List FaceLabel) (notes : List ℕ) (vs : List Value) (checks : List Check) (outs : List Value) → AllByRecursion (λ c. IsCheckWithin n (length labels) c) checks →
-    told_of labels notes (option_map_or Stopped (first_stop vs checks) (Values outs)) ≡ Some (ended (stop_read labels (first_stop vs checks)) (notes_told labels notes outs) (drop (length notes) outs))
-told-flat n labels notes vs [] outs all = refl
-told-flat n labels notes vs (c ∷ cs) outs all = told-one labels notes c.label (check_stop vs c) (first_stop vs cs) outs (check-at vs c) all.0.label (told-flat n labels notes vs cs outs all.1)
+reported-flat : (n : ℕ) (labels : List FaceLabel) (notes : List ℕ) (vs : List Value) (checks : List Check) (outs : List Value) → AllByRecursion (λ c. IsCheckWithin n (length labels) c) checks →
+    observation labels notes (option_map_or Stopped (first_stop vs checks) (Values outs)) ≡ Some (ended (stop_read labels (first_stop vs checks)) (reported_notes labels notes outs) (drop (length notes) outs))
+reported-flat n labels notes vs [] outs all = refl
+reported-flat n labels notes vs (c ∷ cs) outs all = reported-one labels notes c.label (check_stop vs c) (first_stop vs cs) outs (check-at vs c) all.0.label (reported-flat n labels notes vs cs outs all.1)
 
 -- the notes among its outputs
 verif-at : (labels : List FaceLabel) (n : ℕ) → verif_at labels n ≡ verif_of (get_or labels n (DriverLine 0))
@@ -306,13 +306,13 @@ verif-at [] (suc n) = refl
 verif-at (l ∷ labels) zero = refl
 verif-at (l ∷ labels) (suc n) = verif-at labels n
 
-notes-out : (labels : List FaceLabel) (f : ℕ → Value) (ps : List (ℕ × ℕ)) (asked : List ℕ) → notes_told labels (numbers_of ps) (map f (nodes_of ps ++ asked)) ≡ notes_read labels f ps
-notes-out labels f [] asked = refl
-notes-out labels f (p ∷ ps) asked = λ i. cons_option (cond (is_told (f p.0)) (verif-at labels p.1 i) None) (notes-out labels f ps asked i)
+notes-out : (labels : List FaceLabel) (f : ℕ → Value) (ps : List (ℕ × ℕ)) (wanted : List ℕ) → reported_notes labels (numbers_of ps) (map f (nodes_of ps ++ wanted)) ≡ notes_read labels f ps
+notes-out labels f [] wanted = refl
+notes-out labels f (p ∷ ps) wanted = λ i. cons_option (cond (is_reported (f p.0)) (verif-at labels p.1 i) None) (notes-out labels f ps wanted i)
 
-asked-out : (f : ℕ → Value) (ps : List (ℕ × ℕ)) (asked : List ℕ) → drop (length (numbers_of ps)) (map f (nodes_of ps ++ asked)) ≡ map f asked
-asked-out f [] asked = refl
-asked-out f (p ∷ ps) asked = asked-out f ps asked
+wanted-out : (f : ℕ → Value) (ps : List (ℕ × ℕ)) (wanted : List ℕ) → drop (length (numbers_of ps)) (map f (nodes_of ps ++ wanted)) ≡ map f wanted
+wanted-out f [] wanted = refl
+wanted-out f (p ∷ ps) wanted = wanted-out f ps wanted
 
 notes-known : (n : ℕ) (labels : List FaceLabel) (ps : List (ℕ × ℕ)) → AllByRecursion (λ d. IsNoteWithin n labels d) ps → AllByRecursion (λ k. k < n) (nodes_of ps)
 notes-known n labels [] a = tt
@@ -334,7 +334,7 @@ notes-low n m labels (p ∷ ps) others a = (
 )
 
 -- the whole program
-inlined-plain : (core : Core) (base : Base) (declared : Declared) (requests : List ℕ) (b : Builder) (outputs : List ℕ) (inputs : ℕ) → inputs ≡ length (inputs_from 0 declared.variables) → base.cells ≤ CELLS → weight_of core base ≤ DRIVER_WEIGHT → load b ≤ 3 + length base.labels + 2 * base.cells + 6 * weight_of core base → (a : Answers core base declared requests b outputs) → IsInlined core base declared requests (record { inputs = inputs; nodes = b.nodes.items; checks = b.checks.items; outputs = nodes_of b.notes.items ++ a.asked }) b.labels.items (numbers_of b.notes.items)
+inlined-plain : (core : Core) (base : Base) (declared : Declared) (requests : List ℕ) (b : Builder) (outputs : List ℕ) (inputs : ℕ) → inputs ≡ length (inputs_from 0 declared.variables) → base.cells ≤ CELLS → weight_of core base ≤ DRIVER_WEIGHT → load b ≤ 3 + length base.labels + 2 * base.cells + 6 * weight_of core base → (a : Answers core base declared requests b outputs) → IsInlined core base declared requests (record { inputs = inputs; nodes = b.nodes.items; checks = b.checks.items; outputs = nodes_of b.notes.items ++ a.wanted }) b.labels.items (numbers_of b.notes.items)
 inlined-plain core base declared requests b outputs inputs many-in n c l a =
     let labels = b.labels.items in
     let ps = b.notes.items in
@@ -342,17 +342,17 @@ inlined-plain core base declared requests b outputs inputs many-in n c l a =
     let Within : Check → Type 0 = λ d. IsCheckWithin (count b) (length labels) d in
     record {
       answer = λ inputs typed.
-          told-flat (count b) labels (numbers_of ps) (node_values inputs b.nodes.items) b.checks.items (map (at b inputs) (nodes_of ps ++ a.asked)) a.sane.checks
-          ∙ (λ i. Some (ended (stop_of b inputs) (notes-out labels (at b inputs) ps a.asked i) (asked-out (at b inputs) ps a.asked i)))
+          reported-flat (count b) labels (numbers_of ps) (node_values inputs b.nodes.items) b.checks.items (map (at b inputs) (nodes_of ps ++ a.wanted)) a.sane.checks
+          ∙ (λ i. Some (ended (stop_of b inputs) (notes-out labels (at b inputs) ps a.wanted i) (wanted-out (at b inputs) ps a.wanted i)))
           ∙ ap Some (a.answer inputs typed);
       flat_program = record {
         nodes = subst (λ m. AreNodes m 0 b.nodes.items) (ap length a.inputs ∙ kinds-long 0 declared.variables ∙ sym many-in) a.sane.nodes;
         checks = all-more Within (IsCheck (count b)) (λ d h. (h.guard, h.condition)) b.checks.items a.sane.checks;
-        outputs = all-append (λ k. k < count b) (nodes_of ps) a.asked (notes-known (count b) labels ps a.sane.notes) (all-more (IsUsable b) (λ k. k < count b) (λ k h. h.there) a.asked a.asked_known);
+        outputs = all-append (λ k. k < count b) (nodes_of ps) a.wanted (notes-known (count b) labels ps a.sane.notes) (all-more (IsUsable b) (λ k. k < count b) (λ k h. h.there) a.wanted a.requested_known);
       };
-      truths = subst (λ ks. HasTruths ks (record { inputs = inputs; nodes = b.nodes.items; checks = b.checks.items; outputs = nodes_of ps ++ a.asked })) (a.inputs ∙ kinds-said declared.variables) (whole-truths b inputs a.asked a.sane a.asked_known);
+      truths = subst (λ ks. HasTruths ks (record { inputs = inputs; nodes = b.nodes.items; checks = b.checks.items; outputs = nodes_of ps ++ a.wanted })) (a.inputs ∙ kinds-stated declared.variables) (whole-truths b inputs a.wanted a.sane a.requested_known);
       inputs = many-in;
-      outputs = omega (arith, length-append (nodes_of ps) a.asked, length-map ps (λ (p : ℕ × ℕ). p.0), many, a.asked_long);
+      outputs = omega (arith, length-append (nodes_of ps) a.wanted, length-map ps (λ (p : ℕ × ℕ). p.0), many, a.requested_long);
       noted = notes-low (count b) (length base.labels) labels ps a.labelled.others a.sane.notes;
       first_labels = first-faces base.labels labels a.labelled.within a.labelled.same;
       further_labels = further-faces (length base.labels) labels a.labelled.others;
@@ -369,6 +369,6 @@ inlined core base declared requests b outputs inputs ns cs os ls ks notes en ec 
     subst (λ xs. IsInlined core base declared requests (record { inputs = inputs; nodes = xs; checks = cs; outputs = os }) ls ks) (sym en)
     (subst (λ xs. IsInlined core base declared requests (record { inputs = inputs; nodes = b.nodes.items; checks = xs; outputs = os }) ls ks) (sym ec)
     (subst (λ xs. IsInlined core base declared requests (record { inputs = inputs; nodes = b.nodes.items; checks = b.checks.items; outputs = xs }) ls ks) (sym (eo ∙ a.outputs_are))
-    (subst (λ xs. IsInlined core base declared requests (record { inputs = inputs; nodes = b.nodes.items; checks = b.checks.items; outputs = nodes_of b.notes.items ++ a.asked }) xs ks) (sym el)
-    (subst (λ xs. IsInlined core base declared requests (record { inputs = inputs; nodes = b.nodes.items; checks = b.checks.items; outputs = nodes_of b.notes.items ++ a.asked }) b.labels.items xs) (sym (ek ∙ is))
+    (subst (λ xs. IsInlined core base declared requests (record { inputs = inputs; nodes = b.nodes.items; checks = b.checks.items; outputs = nodes_of b.notes.items ++ a.wanted }) xs ks) (sym el)
+    (subst (λ xs. IsInlined core base declared requests (record { inputs = inputs; nodes = b.nodes.items; checks = b.checks.items; outputs = nodes_of b.notes.items ++ a.wanted }) b.labels.items xs) (sym (ek ∙ is))
     (inlined-plain core base declared requests b outputs inputs many n c l a)))))

@@ -18,14 +18,14 @@ use Rattle.flat_code.specs.Entries.{node_at}
 use Rattle.flat_code.specs.Runs.{IsNode, AreNodes, entry_of, values_for, node_values, first_stop}
 use Rattle.flat_code.specs.Tidy.{Reads}
 use Rattle.mpp_inline.specs.declared.builder.Builder.{Builder}
-use Rattle.mpp_inline.specs.inner.Growth.{count, faces, face, node_of, at, stop_of, stop_read, note_read, notes_read, so_far, told_more, denoted, outcome_of, run, IsVerif, IsCheckWithin, IsNoteWithin, IsUsable, MayStand, Sane, Known, Pushed, Checked, CheckedRule, CheckedLine, NotedAt, HasFaces, Longer, Grows, Gives, TermStep}
+use Rattle.mpp_inline.specs.inner.Growth.{count, faces, face, node_of, at, stop_of, stop_read, note_read, notes_read, so_far, observed_more, denoted, outcome_of, run, IsVerif, IsCheckWithin, IsNoteWithin, IsUsable, MayStand, Sane, Known, Pushed, Checked, CheckedRule, CheckedLine, NotedAt, HasFaces, Longer, Grows, Gives, TermStep}
 use Rattle.m_fixed.specs.declared.operator.Op.TheVariants.{And}
 use Rattle.mpp_inline.specs.Inlined.{IsDriverLine, IsTruthInput}
 use Rattle.mpp_inline.specs.inner.Sizes.{load}
 use Rattle.mpp_inline.proofs.ListLemmas.{all-get, all-set, all-more, all-append, map-same}
 use Rattle.mpp_inline.proofs.RunLemmas.{value-kept, value-new, stop-kept, stop-push, read-or, face_fired, read-fired, read-kept, notes-kept, notes-push, notes-within}
 use Rattle.mpp_inline.proofs.OutcomeLemmas.{append-none, or-none}
-use Rattle.mpp_inline.proofs.UsableLemmas.{usable-kept, usable-on, checks-kept, notes-fenced, reads-older, reads-node, Stands, may-stand, last-or, read-as-before}
+use Rattle.mpp_inline.proofs.UsableLemmas.{usable-kept, usable-on, checks-kept, notes-fenced, reads-older, reads-node, IsWithinCount, may-stand, last-or, read-as-before}
 
 -- ---- labels
 
@@ -63,10 +63,10 @@ longer-then {a} {b} {c} p q = record {
 }
 
 pub grows-none : {b : Builder} → Sane b → Grows b b
-grows-none s = record { base = longer-none s; told = λ inputs. refl }
+grows-none s = record { base = longer-none s; reported = λ inputs. refl }
 
 pub grows-then : {a b c : Builder} → Grows a b → Grows b c → Grows a c
-grows-then p q = record { base = longer-then p.base q.base; told = λ inputs. q.told inputs ∙ p.told inputs }
+grows-then p q = record { base = longer-then p.base q.base; reported = λ inputs. q.reported inputs ∙ p.reported inputs }
 
 pub known-on : {b c : Builder} {env : List ℕ} → Longer b c → Known b env → Known c env
 known-on {b} {c} {env} l k = record { all = all-more (IsUsable b) (IsUsable c) (λ n h. usable-on l h) env k.all }
@@ -75,7 +75,7 @@ pub denoted-on : {b c : Builder} {env : List ℕ} (inputs : List Value) → Long
 denoted-on {b} {c} {env} inputs l k = map-same (IsUsable b) (at c inputs) (at b inputs) (l.keeps inputs) env k.all
 
 pub run-on : {b c : Builder} {env : List ℕ} (inputs : List Value) → Grows b c → Known b env → run c inputs env ≡ run b inputs env
-run-on inputs g k = λ i. outcome_of (g.told inputs i) (denoted-on inputs g.base k i)
+run-on inputs g k = λ i. outcome_of (g.reported inputs i) (denoted-on inputs g.base k i)
 
 pub known-get : {b : Builder} {env : List ℕ} (x : ℕ) → Sane b → Known b env → IsUsable b (get_or env x 0)
 known-get {b} {env} x s k = all-get (IsUsable b) env x 0 (s.literal 0 (omega arith)) k.all
@@ -121,7 +121,7 @@ pushed-keeps {b} {c} {n} p inputs j h =
     ap (λ ns. get_or (node_values inputs ns) j Undef) p.nodes ∙ value-kept inputs b.nodes.items n j h
 
 -- a new node reads what it may
-pushed-nodes : {b c : Builder} {n : Node} {k : ℕ} → Pushed b c n k → Stands b n → Sane b → (q x : ℕ) → q < count c → Reads (node_of c q) x → IsTruthInput c.inputs (node_of c x) → node_of c q ≡ Do And x x x
+pushed-nodes : {b c : Builder} {n : Node} {k : ℕ} → Pushed b c n k → IsWithinCount b n → Sane b → (q x : ℕ) → q < count c → Reads (node_of c q) x → IsTruthInput c.inputs (node_of c x) → node_of c q ≡ Do And x x x
 pushed-nodes {b} {c} {n} p w s q x h = ⊎_elim
     (λ (lt : q < count b).
     λ r. read-as-before b.inputs c.inputs (node_of b q) (node_of c q) (node_of b x) (node_of c x) x p.inputs (pushed-older p q lt)
@@ -134,7 +134,7 @@ pushed-nodes {b} {c} {n} p w s q x h = ⊎_elim
     (w.read x) r)
     (last-or (count b) q (omega (arith, h, pushed-count p)))
 
-pub stood-grows : {b c : Builder} {n : Node} {k : ℕ} → Pushed b c n k → Stands b n → Sane b → Grows b c
+pub stood-grows : {b c : Builder} {n : Node} {k : ℕ} → Pushed b c n k → IsWithinCount b n → Sane b → Grows b c
 stood-grows {b} {c} {n} p w s =
     let more : count c ≡ count b + 1 = pushed-count p in
     let on : (j : ℕ) → IsUsable b j → IsUsable c j = λ j h. usable-kept p.inputs (omega (arith, more)) (pushed-older p) h in
@@ -169,7 +169,7 @@ stood-grows {b} {c} {n} p w s =
         keeps_face = old;
         new_faces = λ j h. subst (λ ls. IsDriverLine (get_or ls j (DriverLine 0))) (sym p.labels) (past-line b.labels.items j h);
       };
-      told = λ inputs.
+      reported = λ inputs.
           let stop : stop_of c inputs ≡ stop_of b inputs =
           (λ i. stop_read (p.labels i) (first_stop (node_values inputs c.nodes.items) (p.checks i)))
           ∙ ap (stop_read b.labels.items) (stop-kept (node_values inputs b.nodes.items) (node_values inputs c.nodes.items) (count b) l b.checks.items (pushed-keeps p inputs) s.checks) in
@@ -270,8 +270,8 @@ checked-stop {b} {c} {g} {k} {l} {only} {f} p q s inputs =
     ((read-fired c.labels.items (at b inputs g) only l (at b inputs k)
     ∙ ap (λ h. face_fired (at b inputs g) only h (at b inputs k)) q.is) i))
 
-pub checked-told : {b c : Builder} {g k l : ℕ} {only : Bool} {f : FaceLabel} → Checked b c g k only l → Faced b c l f → Sane b → (inputs : List Value) → so_far c inputs ≡ told_more (so_far b inputs) (face_fired (at b inputs g) only f (at b inputs k)) []
-checked-told {b} {c} {g} {k} {l} {only} {f} p q s inputs =
+pub checked-reported : {b c : Builder} {g k l : ℕ} {only : Bool} {f : FaceLabel} → Checked b c g k only l → Faced b c l f → Sane b → (inputs : List Value) → so_far c inputs ≡ observed_more (so_far b inputs) (face_fired (at b inputs g) only f (at b inputs k)) []
+checked-reported {b} {c} {g} {k} {l} {only} {f} p q s inputs =
     let stop = checked-stop p q s inputs in
     let notes : notes_read c.labels.items (at c inputs) c.notes.items ≡ notes_read b.labels.items (at b inputs) b.notes.items ++ [] =
     ap (notes_read c.labels.items (at c inputs)) p.notes
@@ -323,8 +323,8 @@ noted-longer {b} {c} {k} {l} p hk hl v s =
       new_faces = λ j h. subst (λ ls. IsDriverLine (get_or ls j (DriverLine 0))) (sym p.labels) (past-line b.labels.items j h);
     }
 
-pub noted-told : {b c : Builder} {k l : ℕ} → NotedAt b c k l → (inputs : List Value) → so_far c inputs ≡ told_more (so_far b inputs) None (cons_option (note_read (face b l) (at b inputs k)) [])
-noted-told {b} {c} {k} {l} p inputs =
+pub noted-reported : {b c : Builder} {k l : ℕ} → NotedAt b c k l → (inputs : List Value) → so_far c inputs ≡ observed_more (so_far b inputs) None (cons_option (note_read (face b l) (at b inputs k)) [])
+noted-reported {b} {c} {k} {l} p inputs =
     let stop : stop_of c inputs ≡ option_or (stop_of b inputs) None =
     (λ i. stop_read (p.labels i) (first_stop (node_values inputs (p.nodes i)) (p.checks i))) ∙ sym (or-none _) in
     let notes : notes_read c.labels.items (at c inputs) c.notes.items ≡ notes_read b.labels.items (at b inputs) b.notes.items ++ cons_option (note_read (face b l) (at b inputs k)) [] =

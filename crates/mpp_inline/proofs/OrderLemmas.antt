@@ -65,16 +65,16 @@ none-mapped : (f : Label → Cause) (o : Option Label) → (o ≡ None → ⊥) 
 none-mapped f None n p = n refl
 none-mapped f (Some l) n p = some-none p
 
-failed-told : (labels : List Label) (number : ℕ) (d : Label) (b : Bool) (failure : Failure) → number < length labels → cond b (Some (Failed number)) None ≡ Some failure → failure_cause labels failure ≡ None → ⊥
-failed-told labels number d false failure h f e = none-some f
-failed-told labels number d true failure h f e =
+failed-reported : (labels : List Label) (number : ℕ) (d : Label) (b : Bool) (failure : Failure) → number < length labels → cond b (Some (Failed number)) None ≡ Some failure → failure_cause labels failure ≡ None → ⊥
+failed-reported labels number d false failure h f e = none-some f
+failed-reported labels number d true failure h f e =
     let same : Failed number ≡ failure = cc in
     none-mapped failed (slice_get labels number) (label-there labels number d h) (subst (λ x. failure_cause labels x ≡ None) (sym same) e)
 
-told : (labels : List Label) (number : ℕ) (d : Label) (kind : ErrorKind) (v : Value) (failure : Failure) → number < length labels → failure_of v kind number ≡ Some failure → failure_cause labels failure ≡ None → ⊥
-told labels number d kind Undef failure h f e = none-some f
-told labels number d kind (Num z) failure h f e = failed-told labels number d (not (is_zero z) && is_stopping kind) failure h f e
-told labels number d kind Over failure h f e =
+reported : (labels : List Label) (number : ℕ) (d : Label) (kind : ErrorKind) (v : Value) (failure : Failure) → number < length labels → failure_of v kind number ≡ Some failure → failure_cause labels failure ≡ None → ⊥
+reported labels number d kind Undef failure h f e = none-some f
+reported labels number d kind (Num z) failure h f e = failed-reported labels number d (not (is_zero z) && is_stopping kind) failure h f e
+reported labels number d kind Over failure h f e =
     let same : OverCheck number ≡ failure = cc in
     none-mapped over (slice_get labels number) (label-there labels number d h) (subst (λ x. failure_cause labels x ≡ None) (sym same) e)
 
@@ -91,7 +91,7 @@ checked-all labels (c ∷ cs) e all =
     let kind = kind_at labels c.1 in
     next-failure labels (failure_of v kind c.1) (failure_among labels (environment e) cs) (note_of labels v c.1) (notes_among labels (environment e) cs) e (checked labels cs)
     (checked-all labels cs e (λ k d l. all (suc k) d (omega (arith, l))))
-    (λ failure f. told labels c.1 no-label kind v failure low f)
+    (λ failure f. reported labels c.1 no-label kind v failure low f)
 
 received-behind : (o : Option Cause) (ns : List Label) (xs : List ℕ) (values e : Env) → then_do (unless_stopped o (goes ns values)) (λ v. goes [] (with_values xs (environment v) e)) ≡ unless_stopped o (goes ns (with_values xs (environment values) e))
 received-behind None ns xs values e = goes-last (goes ns (with_values xs (environment values) e))

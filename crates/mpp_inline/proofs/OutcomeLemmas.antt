@@ -4,7 +4,7 @@ use Rattle.std.specs.Option.{option_or}
 use Rattle.m_places.specs.declared.verification.Label.{Label}
 use Rattle.observables.specs.Answers.{Cause}
 use Rattle.driver_core.specs.Meaning.{Env, RunState, goes, stops, noted, behind, then_do, unless_stopped}
-use Rattle.mpp_inline.specs.inner.Growth.{SoFar, told_more, outcome_of}
+use Rattle.mpp_inline.specs.inner.Growth.{SoFar, observed_more, outcome_of}
 
 pub append-none : {A : Type 0} (xs : List A) → xs ++ [] ≡ xs
 append-none [] = refl
@@ -70,11 +70,11 @@ found-by None ns e None more next h = sym (behind-goes ns more e) ∙ ap (behind
 found-by None ns e (Some cause) more next h = sym (behind-stops ns cause) ∙ ap (behind ns) h
 found-by (Some first) ns e cause more next h = refl
 
-pub found-run : (s : SoFar) (e : Env) (cause : Option Cause) (more : List Label) (next : Env → RunState) → unless_stopped cause (goes more e) ≡ next e → outcome_of (told_more s cause more) e ≡ then_do (outcome_of s e) next
+pub found-run : (s : SoFar) (e : Env) (cause : Option Cause) (more : List Label) (next : Env → RunState) → unless_stopped cause (goes more e) ≡ next e → outcome_of (observed_more s cause more) e ≡ then_do (outcome_of s e) next
 found-run s e cause more next h = found-by s.stop s.notes e cause more next h
 
-pub more-none : (s : SoFar) → told_more s None [] ≡ s
+pub more-none : (s : SoFar) → observed_more s None [] ≡ s
 more-none s = λ i. record { stop = or-none s.stop i; notes = append-none s.notes i }
 
-pub more-more : (s : SoFar) (cause : Option Cause) (notes : List Label) → told_more (told_more s cause []) None notes ≡ told_more s cause notes
+pub more-more : (s : SoFar) (cause : Option Cause) (notes : List Label) → observed_more (observed_more s cause []) None notes ≡ observed_more s cause notes
 more-more s cause notes = λ i. record { stop = or-none (option_or s.stop cause) i; notes = append-none s.notes i ++ notes }

@@ -16,7 +16,7 @@ use Rattle.driver_core.specs.Actions.{Action, assign, clear, branch, partition, 
 use Rattle.driver_core.specs.ActionView.{block_of}
 use Rattle.driver_core.specs.Valid.{body_among}
 use Rattle.driver_core.specs.Weights.{names_changed, names_changed_in, action_weight, block_weight, body_weight, base_weight, weight_of}
-use Rattle.driver_core.specs.Answers.{answer_of, start_of, told_by}
+use Rattle.driver_core.specs.Answers.{answer_of, start_of, observation_by}
 use Rattle.driver_core.specs.Meaning.{Env, RunState, goes, then_do, with_values, without, formula_value, chosen_block, failure_cause, unless_stopped, rules_run, run_of, action_run, block_run, called}
 use Rattle.mpp_inline.specs.Inlined.{IsInlined}
 use Rattle.mpp_inline.specs.inner.Ruleless.{IsRuleless, left, left_behind, body_left, left_in, core_left}
@@ -158,7 +158,7 @@ inlined-left core made base declared requests flat labels notes r is h = record 
   answer = λ inputs typed.
       h.answer inputs typed
       ∙ ap Some (ap (λ (k : Core). answer_of k base declared requests inputs) is
-      ∙ ap (told_by requests) (run-left core base (start_of declared inputs) r));
+      ∙ ap (observation_by requests) (run-left core base (start_of declared inputs) r));
   flat_program = h.flat_program;
   truths = h.truths;
   inputs = h.inputs;

@@ -21,12 +21,12 @@ use Rattle.observables.specs.Answers.{Cause, failed, over}
 use Rattle.driver_core.specs.Meaning.{Env, RunState, goes, then_do, chosen_block, with_values, failure_cause, unless_stopped}
 use Rattle.mpp_inline.specs.declared.builder.Builder.{Builder}
 use Rattle.mpp_inline.specs.inner.Cells.{picked, written, received}
-use Rattle.mpp_inline.specs.inner.Growth.{faces, face, at, IsUsable, SoFar, so_far, told_more, note_read, IsVerif, denoted, outcome_of, run, Sane, Known, Placed, Ready, CheckedRule, CheckedLine, NotedAt, Pushed, Checked, Longer, Grows, TermStep, Computed, Stage, Opened, over_judged, judged, Held, Merged, entries}
+use Rattle.mpp_inline.specs.inner.Growth.{faces, face, at, IsUsable, SoFar, so_far, observed_more, note_read, IsVerif, denoted, outcome_of, run, Sane, Known, Placed, Ready, CheckedRule, CheckedLine, NotedAt, Pushed, Checked, Longer, Grows, TermStep, Computed, Stage, Opened, over_judged, judged, Held, Merged, entries}
 use Rattle.mpp_inline.proofs.OutcomeLemmas.{goes-last, then-then, set-goes, wrap, both-steps, found-run, more-none, more-more}
 use Rattle.mpp_inline.proofs.ListLemmas.{all-picked, all-written, written-map, received-map, with-received}
 use Rattle.mpp_inline.proofs.RunLemmas.{face_judged, face_fired}
 use Rattle.mpp_inline.proofs.UsableLemmas.{usable-on}
-use Rattle.mpp_inline.proofs.GrowthLemmas.{longer-none, longer-then, grows-none, grows-then, known-on, denoted-on, run-on, known-get, known-set, pushed-within, pushed-value, pushed-grows, checked-longer, checked-told, noted-longer, noted-told, denoted-set, faces-on, Faced, faced-line, faced-rule}
+use Rattle.mpp_inline.proofs.GrowthLemmas.{longer-none, longer-then, grows-none, grows-then, known-on, denoted-on, run-on, known-get, known-set, pushed-within, pushed-value, pushed-grows, checked-longer, checked-reported, noted-longer, noted-reported, denoted-set, faces-on, Faced, faced-line, faced-rule}
 
 -- the two operators of guards
 pub choose-value : (a b c : Value) → op_value Choose a b c ≡ chosen a b c
@@ -68,9 +68,9 @@ stage-simple {b} {c} {env} {env'} {g} f r grows kn e = record {
   known = kn;
   taken = λ inputs h.
       goes-last (run c inputs env')
-      ∙ (λ i. outcome_of (grows.told inputs i) (e inputs i))
+      ∙ (λ i. outcome_of (grows.reported inputs i) (e inputs i))
       ∙ set-goes (so_far b inputs) (denoted b inputs env) f;
-  idle = λ inputs h. grows.told inputs;
+  idle = λ inputs h. grows.reported inputs;
 }
 
 pub set-stage : {b c : Builder} {env : List ℕ} {g k : ℕ} (t : Environment → Value) (x : ℕ) → (Sane b → Known b env → TermStep b c env t k) → Placed b env g → Stage b c g env (set env x k) (λ e. goes [] e) (λ e. goes [] (set e x (t (environment e))))
@@ -88,7 +88,7 @@ del-stage {b} {env} {g} x r =
 
 -- a stop and notes that a condition's value gives
 found-stage : {b d : Builder} {env : List ℕ} {g : ℕ} (t : Environment → Value) (j : Value → Env → RunState) (cause : Value → Option Cause) (more : Value → List Label) → ((v : Value) (x : Env) → unless_stopped (cause v) (goes (more v) x) ≡ j v x) → Longer b d → Placed b env g →
-    ((inputs : List Value) → at b inputs g ≡ Num (pos 1000000) → so_far d inputs ≡ told_more (so_far b inputs) (cause (t (environment (denoted b inputs env)))) (more (t (environment (denoted b inputs env))))) →
+    ((inputs : List Value) → at b inputs g ≡ Num (pos 1000000) → so_far d inputs ≡ observed_more (so_far b inputs) (cause (t (environment (denoted b inputs env)))) (more (t (environment (denoted b inputs env))))) →
     ((inputs : List Value) → at b inputs g ≡ Num (pos 0) → so_far d inputs ≡ so_far b inputs) →
     Stage b d g env env (λ e. goes [] e) (λ e. j (t (environment e)) e)
 found-stage {b} {d} {env} {g} t j cause more same long r taken idle = record {
@@ -104,10 +104,10 @@ found-stage {b} {d} {env} {g} t j cause more same long r taken idle = record {
 }
 
 -- a condition and its check
-check-told : {b c d : Builder} (env : List ℕ) {g k l : ℕ} {only : Bool} {f : FaceLabel} (t : Environment → Value) → TermStep b c env t k → Checked c d g k only l → Faced c d l f → IsUsable b g → (inputs : List Value) → so_far d inputs ≡ told_more (so_far b inputs) (face_fired (at b inputs g) only f (t (environment (denoted b inputs env)))) []
-check-told {b} {c} {d} env {g} {k} {l} {only} {f} t s p q h inputs =
-    checked-told p q s.grows.base.sane inputs
-    ∙ (λ i. told_more (s.grows.told inputs i) (face_fired (s.grows.base.keeps inputs g h i) only f (s.value inputs i)) [])
+check-reported : {b c d : Builder} (env : List ℕ) {g k l : ℕ} {only : Bool} {f : FaceLabel} (t : Environment → Value) → TermStep b c env t k → Checked c d g k only l → Faced c d l f → IsUsable b g → (inputs : List Value) → so_far d inputs ≡ observed_more (so_far b inputs) (face_fired (at b inputs g) only f (t (environment (denoted b inputs env)))) []
+check-reported {b} {c} {d} env {g} {k} {l} {only} {f} t s p q h inputs =
+    checked-reported p q s.grows.base.sane inputs
+    ∙ (λ i. observed_more (s.grows.reported inputs i) (face_fired (s.grows.base.keeps inputs g h i) only f (s.value inputs i)) [])
 
 check-longer : {b c d : Builder} (env : List ℕ) {g k l : ℕ} {only : Bool} {f : FaceLabel} (t : Environment → Value) → TermStep b c env t k → Checked c d g k only l → Faced c d l f → IsUsable b g → Longer b d
 check-longer {b} {c} {d} env {g} t s p q h =
@@ -116,12 +116,12 @@ check-longer {b} {c} {d} env {g} t s p q h =
 pub check-stage : {b c d : Builder} {env : List ℕ} {g k l : ℕ} {only : Bool} {f : FaceLabel} (t : Environment → Value) (j : Value → Env → RunState) → ((v : Value) (x : Env) → unless_stopped (face_judged only f v) (goes [] x) ≡ j v x) → (Sane b → Known b env → TermStep b c env t k) → Checked c d g k only l → Faced c d l f → Placed b env g → Stage b d g env env (λ e. goes [] e) (λ e. j (t (environment e)) e)
 check-stage {b} {c} {d} {env} {g} {k} {l} {only} {f} t j same step p q r =
     let s = step r.sane r.known in
-    let told = check-told env t s p q r.guard in
+    let reported = check-reported env t s p q r.guard in
     found-stage t j (face_judged only f) (λ v. []) same (check-longer env t s p q r.guard) r
-    (λ inputs h. told inputs ∙ ap (λ v. told_more (so_far b inputs) (face_fired v only f (t (environment (denoted b inputs env)))) []) h)
+    (λ inputs h. reported inputs ∙ ap (λ v. observed_more (so_far b inputs) (face_fired v only f (t (environment (denoted b inputs env)))) []) h)
     (λ inputs h.
-    told inputs
-    ∙ ap (λ v. told_more (so_far b inputs) (face_fired v only f (t (environment (denoted b inputs env)))) []) h
+    reported inputs
+    ∙ ap (λ v. observed_more (so_far b inputs) (face_fired v only f (t (environment (denoted b inputs env)))) []) h
     ∙ more-none (so_far b inputs))
 
 -- a verification that stops, and one that is noted, by its condition's value
@@ -198,13 +198,13 @@ noted-stage {labels} {b} {c} {d0} {d1} {d2} {e} {env} {g} {k} {i} {j} d label lt
     ((g1.base.keeps inputs g g_in ∙ l0.keeps inputs g r.placed.guard) x)
     ((pushed-value q1 inputs ∙ truth-value _ _ _ ∙ ap truth_of (ap (λ ns. get_or (node_values inputs ns) k Undef) p.base.nodes ∙ s.value inputs)) x)
     (g1.base.sane.zero inputs x)) in
-    let told : (inputs : List Value) → so_far e inputs ≡ told_more (told_more (so_far b inputs) (face_fired (at b inputs g) true (Verif own) (t (environment (denoted b inputs env)))) []) None (cons_option (note_read (Verif own) (chosen (at b inputs g) (truth_of (t (environment (denoted b inputs env)))) (Num (pos 0)))) []) = λ inputs.
-    noted-told n inputs
-    ∙ (λ x. told_more ((grows.told inputs ∙ check-told env t s p.base faced r.placed.guard inputs) x) None (cons_option (note_read (is x) (value inputs x)) [])) in
-    let under_guard : List Value → Value → SoFar = λ inputs v. told_more (told_more (so_far b inputs) (face_fired v true (Verif own) (t (environment (denoted b inputs env)))) []) None (cons_option (note_read (Verif own) (chosen v (truth_of (t (environment (denoted b inputs env)))) (Num (pos 0)))) []) in
+    let reported : (inputs : List Value) → so_far e inputs ≡ observed_more (observed_more (so_far b inputs) (face_fired (at b inputs g) true (Verif own) (t (environment (denoted b inputs env)))) []) None (cons_option (note_read (Verif own) (chosen (at b inputs g) (truth_of (t (environment (denoted b inputs env)))) (Num (pos 0)))) []) = λ inputs.
+    noted-reported n inputs
+    ∙ (λ x. observed_more ((grows.reported inputs ∙ check-reported env t s p.base faced r.placed.guard inputs) x) None (cons_option (note_read (is x) (value inputs x)) [])) in
+    let under_guard : List Value → Value → SoFar = λ inputs v. observed_more (observed_more (so_far b inputs) (face_fired v true (Verif own) (t (environment (denoted b inputs env)))) []) None (cons_option (note_read (Verif own) (chosen v (truth_of (t (environment (denoted b inputs env)))) (Num (pos 0)))) []) in
     found-stage t (judged labels d.1) (face_judged true (Verif own)) (note_by own) (noted-face labels d.1 own (slice_get-get_or labels d.1 label lt) kind) long r.placed
-    (λ inputs h. told inputs ∙ ap (under_guard inputs) h ∙ more-more (so_far b inputs) (face_judged true (Verif own) (t (environment (denoted b inputs env)))) (note_by own (t (environment (denoted b inputs env)))))
-    (λ inputs h. told inputs ∙ ap (under_guard inputs) h ∙ more-more (so_far b inputs) None [] ∙ more-none (so_far b inputs))
+    (λ inputs h. reported inputs ∙ ap (under_guard inputs) h ∙ more-more (so_far b inputs) (face_judged true (Verif own) (t (environment (denoted b inputs env)))) (note_by own (t (environment (denoted b inputs env)))))
+    (λ inputs h. reported inputs ∙ ap (under_guard inputs) h ∙ more-more (so_far b inputs) None [] ∙ more-none (so_far b inputs))
 
 -- definitions
 pub computed-first : {b : Builder} {env : List ℕ} (f : Env → Env) → Sane b → Known b env → Computed b b env env f f
@@ -232,9 +232,9 @@ wrapped {b} {c} {d} {env} {env1} {env2} {env3} {g} {does} before after r grows f
       ∙ ap (outcome_of (so_far d inputs)) (last inputs)
       ∙ set-goes (so_far d inputs) (denoted d inputs env2) (after e)
       ∙ ap (λ o. then_do o (λ f. goes [] (after e f)))
-      (sym (goes-last (run d inputs env2)) ∙ s.taken inputs there ∙ (λ i. then_do (outcome_of (grows.told inputs i) (first inputs i)) does))
+      (sym (goes-last (run d inputs env2)) ∙ s.taken inputs there ∙ (λ i. then_do (outcome_of (grows.reported inputs i) (first inputs i)) does))
       ∙ wrap (so_far b inputs) e before does after;
-  idle = λ inputs h. s.idle inputs (grows.base.keeps inputs g r.guard ∙ h) ∙ grows.told inputs;
+  idle = λ inputs h. s.idle inputs (grows.base.keeps inputs g r.guard ∙ h) ∙ grows.reported inputs;
 }
 
 -- cells of one environment received by another
@@ -331,7 +331,7 @@ open-branches {b} {c} {c1} {c2} {d} {env} {g} {line} {v} {k} {i} {j} {t} step p 
         base = long;
         known = known-on grows.base s0.known;
         taken = λ inputs h. ap (λ o. then_do o (λ e. goes [] e)) (run-on inputs grows s0.known) ∙ s0.taken inputs h;
-        idle = λ inputs h. grows.told inputs ∙ s0.idle inputs h;
+        idle = λ inputs h. grows.reported inputs ∙ s0.idle inputs h;
       };
       first_within = usable-on g3.base i_in;
       second_within = pushed-within q3 (λ t. t);

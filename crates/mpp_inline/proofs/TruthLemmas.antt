@@ -20,10 +20,10 @@ use Rattle.flat_code.specs.declared.program.Check.{Check}
 use Rattle.flat_code.specs.Entries.{node_at}
 use Rattle.flat_code.specs.Tidy.{Reads, ReadsCheck, check_at}
 use Rattle.driver_core.specs.Answers.{next_input}
-use Rattle.driver_core.specs.Inputs.{type_said, input_said}
+use Rattle.driver_core.specs.Inputs.{type_declared, input_declared}
 use Rattle.mpp_inline.specs.declared.builder.Builder.{Builder}
 use Rattle.mpp_inline.specs.Inlined.{IsTruthInput, HasTruths, kinds_of}
-use Rattle.mpp_inline.specs.inner.Told.{nodes_of}
+use Rattle.mpp_inline.specs.inner.Observation.{nodes_of}
 use Rattle.mpp_inline.specs.inner.Growth.{node_of, at, IsUsable, Sane, Pushed, Gives, HasInput, InputIsThere, kinds_from}
 use Rattle.mpp_inline.proofs.ListLemmas.{all-append}
 use Rattle.mpp_inline.proofs.UsableLemmas.{and-stands}
@@ -72,31 +72,31 @@ truth-gives {b} {c} {d} {next} {k} {j} p q low s =
 -- as many types as inputs
 pub kinds-long : (n : ℕ) (vs : List Variable) → length (kinds_from vs) ≡ length (inputs_from n vs)
 kinds-long n [] = refl
-kinds-long n (v ∷ vs) = elim (is_input v.item.role) as (λ b. length (cond b (type_said v.item.value_word ∷ kinds_from vs) (kinds_from vs)) ≡ length (cond b (n ∷ inputs_from (n + 1) vs) (inputs_from (n + 1) vs))) [
+kinds-long n (v ∷ vs) = elim (is_input v.item.role) as (λ b. length (cond b (type_declared v.item.value_word ∷ kinds_from vs) (kinds_from vs)) ≡ length (cond b (n ∷ inputs_from (n + 1) vs) (inputs_from (n + 1) vs))) [
   | true ↦ ap suc (kinds-long (n + 1) vs)
   | false ↦ kinds-long (n + 1) vs
 ]
 
-kinds-step : (role : Role) (word : Option (List ℕ)) (kinds : List InputType) (said : List Coded) → kinds ≡ kinds_of said → cond (is_input role) (type_said word ∷ kinds) kinds ≡ kinds_of (cons_option (option_map (λ code. record { code = code; kind = type_said word }) (code_in role)) said)
-kinds-step (InputRole code) word kinds said e = ap (λ ks. type_said word ∷ ks) e
-kinds-step (ComputedRole size) word kinds said e = e
-kinds-step (Constant amount) word kinds said e = e
+kinds-step : (role : Role) (word : Option (List ℕ)) (kinds : List InputType) (stated : List Coded) → kinds ≡ kinds_of stated → cond (is_input role) (type_declared word ∷ kinds) kinds ≡ kinds_of (cons_option (option_map (λ code. record { code = code; kind = type_declared word }) (code_in role)) stated)
+kinds-step (InputRole code) word kinds stated e = ap (λ ks. type_declared word ∷ ks) e
+kinds-step (ComputedRole size) word kinds stated e = e
+kinds-step (Constant amount) word kinds stated e = e
 
 -- they are those that are said
-pub kinds-said : (vs : List Variable) → kinds_from vs ≡ kinds_of (filter_map input_said vs)
-kinds-said [] = refl
-kinds-said (v ∷ vs) = kinds-step v.item.role v.item.value_word (kinds_from vs) (filter_map input_said vs) (kinds-said vs)
+pub kinds-stated : (vs : List Variable) → kinds_from vs ≡ kinds_of (filter_map input_declared vs)
+kinds-stated [] = refl
+kinds-stated (v ∷ vs) = kinds-step v.item.role v.item.value_word (kinds_from vs) (filter_map input_declared vs) (kinds-stated vs)
 
 append-append : (xs ys zs : List InputType) → (xs ++ ys) ++ zs ≡ xs ++ (ys ++ zs)
 append-append [] ys zs = refl
 append-append (x ∷ xs) ys zs = ap (λ l. x ∷ l) (append-append xs ys zs)
 
-pub kinds-next : (kinds : List InputType) (v : Variable) (rest : List Variable) → (kinds ++ cond (is_input v.item.role) (type_said v.item.value_word ∷ []) []) ++ kinds_from rest ≡ kinds ++ kinds_from (v ∷ rest)
+pub kinds-next : (kinds : List InputType) (v : Variable) (rest : List Variable) → (kinds ++ cond (is_input v.item.role) (type_declared v.item.value_word ∷ []) []) ++ kinds_from rest ≡ kinds ++ kinds_from (v ∷ rest)
 kinds-next kinds v rest =
-    append-append kinds (cond (is_input v.item.role) (type_said v.item.value_word ∷ []) []) (kinds_from rest)
+    append-append kinds (cond (is_input v.item.role) (type_declared v.item.value_word ∷ []) []) (kinds_from rest)
     ∙ ap (λ l. kinds ++ l) (by (is_input v.item.role))
   where
-    by : (b : Bool) → cond b (type_said v.item.value_word ∷ []) [] ++ kinds_from rest ≡ cond b (type_said v.item.value_word ∷ kinds_from rest) (kinds_from rest)
+    by : (b : Bool) → cond b (type_declared v.item.value_word ∷ []) [] ++ kinds_from rest ≡ cond b (type_declared v.item.value_word ∷ kinds_from rest) (kinds_from rest)
     by true = refl
     by false = refl
 
@@ -115,8 +115,8 @@ by-role kinds n kind (InputRole code) rest e = let h = drop-cons kinds n kind re
 by-role kinds n kind (ComputedRole size) rest e = (tt, e)
 by-role kinds n kind (Constant amount) rest e = (tt, e)
 
-pub typed-next : (kinds : List InputType) (n : ℕ) (v : Variable) (rest : List Variable) → drop n kinds ≡ kinds_from (v ∷ rest) → InputIsThere kinds n (type_said v.item.value_word) v.item.role × (drop (next_input n v.item.role) kinds ≡ kinds_from rest)
-typed-next kinds n v rest e = by-role kinds n (type_said v.item.value_word) v.item.role (kinds_from rest) e
+pub typed-next : (kinds : List InputType) (n : ℕ) (v : Variable) (rest : List Variable) → drop n kinds ≡ kinds_from (v ∷ rest) → InputIsThere kinds n (type_declared v.item.value_word) v.item.role × (drop (next_input n v.item.role) kinds ≡ kinds_from rest)
+typed-next kinds n v rest e = by-role kinds n (type_declared v.item.value_word) v.item.role (kinds_from rest) e
 
 -- ---- the end
 
@@ -147,12 +147,12 @@ check-own b checks all x r t =
     ⊎_elim (λ (e : x ≡ c.guard). not-own b x c.guard own.0 e t) (λ (e : x ≡ c.condition). not-own b x c.condition own.1 e t) r.2
 
 -- who reads the inputs of the type `Truth`, in a whole program
-pub whole-truths : (b : Builder) (inputs : ℕ) (asked : List ℕ) → Sane b → AllByRecursion (IsUsable b) asked → HasTruths b.inputs (record { inputs = inputs; nodes = b.nodes.items; checks = b.checks.items; outputs = nodes_of b.notes.items ++ asked })
-whole-truths b inputs asked s a = record {
+pub whole-truths : (b : Builder) (inputs : ℕ) (wanted : List ℕ) → Sane b → AllByRecursion (IsUsable b) wanted → HasTruths b.inputs (record { inputs = inputs; nodes = b.nodes.items; checks = b.checks.items; outputs = nodes_of b.notes.items ++ wanted })
+whole-truths b inputs wanted s a = record {
   read = s.fenced.nodes;
   rootless = λ x root t. ⊎_elim
-      (λ (r : (j : ℕ) × (j < length (nodes_of b.notes.items ++ asked)) × (x ≡ get_or (nodes_of b.notes.items ++ asked) j 0)).
-      output-own b (nodes_of b.notes.items ++ asked) (all-append (IsUsable b) (nodes_of b.notes.items) asked (notes-usable b b.notes.items s.fenced.notes) a) x r t)
+      (λ (r : (j : ℕ) × (j < length (nodes_of b.notes.items ++ wanted)) × (x ≡ get_or (nodes_of b.notes.items ++ wanted) j 0)).
+      output-own b (nodes_of b.notes.items ++ wanted) (all-append (IsUsable b) (nodes_of b.notes.items) wanted (notes-usable b b.notes.items s.fenced.notes) a) x r t)
       (λ (r : (j : ℕ) × (j < length b.checks.items) × ReadsCheck (check_at b.checks.items j) x). check-own b b.checks.items s.fenced.checks x r t)
       root;
 }

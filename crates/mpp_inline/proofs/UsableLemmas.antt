@@ -46,11 +46,11 @@ reads-older inputs m (n ∷ ns) (suc p) x a h r =
     omega (arith, low)
 
 -- a node that may come next: it reads usable nodes, or is the And of an input of the type `Truth`
-pub record Stands (b : Builder) (n : Node) : Type 0 where
+pub record IsWithinCount (b : Builder) (n : Node) : Type 0 where
   pub node : IsNode (length b.inputs) (count b) n
   pub read : (x : ℕ) → Reads n x → IsTruthInput b.inputs (node_of b x) → n ≡ Do And x x x
 
-pub may-stand : {b : Builder} (n : Node) → MayStand b n → Stands b n
+pub may-stand : {b : Builder} (n : Node) → MayStand b n → IsWithinCount b n
 may-stand (Input n) h = record { node = h; read = λ x r t. absurd r }
 may-stand (Lit v) h = record { node = tt; read = λ x r t. absurd r }
 may-stand {b} (Do op i j k) h = record {
@@ -64,7 +64,7 @@ may-stand {b} (Do op i j k) h = record {
 }
 
 -- the And of a node that is there
-pub and-stands : {b : Builder} (k : ℕ) → k < count b → Stands b (Do And k k k)
+pub and-stands : {b : Builder} (k : ℕ) → k < count b → IsWithinCount b (Do And k k k)
 and-stands k h = record { node = (h, h, h); read = λ x r t. ap (λ y. Do And y y y) (⊎_elim (λ (e : x ≡ k). sym e) (⊎_elim (λ (e : x ≡ k). sym e) (λ (e : x ≡ k). sym e)) r) }
 
 -- what a node reads is before it

@@ -51,10 +51,10 @@ step-written {b} {d} {f} {env} {env1} {env2} {g} {next} given r s is m =
       known = m.known;
       moved = λ inputs bit. ⊎_elim
           (λ (h : at b inputs g ≡ Num (pos 0)).
-          (λ i. outcome_of ((m.grows.told inputs ∙ s.idle inputs h) i) ((m.second inputs (there inputs ∙ h) ∙ denoted-on inputs s.base r.known) i))
+          (λ i. outcome_of ((m.grows.reported inputs ∙ s.idle inputs h) i) ((m.second inputs (there inputs ∙ h) ∙ denoted-on inputs s.base r.known) i))
           ∙ sym (ap (λ v. under v (run b inputs env) next) h))
           (λ (h : at b inputs g ≡ Num (pos 1000000)).
-          (λ i. outcome_of (m.grows.told inputs i) ((m.first inputs (there inputs ∙ h) ∙ sym (written-map (at d inputs) given env) ∙ ap (denoted d inputs) (sym is)) i))
+          (λ i. outcome_of (m.grows.reported inputs i) ((m.first inputs (there inputs ∙ h) ∙ sym (written-map (at d inputs) given env) ∙ ap (denoted d inputs) (sym is)) i))
           ∙ sym (goes-last (run d inputs env1)) ∙ s.taken inputs h
           ∙ sym (ap (λ v. under v (run b inputs env) next) h))
           bit;

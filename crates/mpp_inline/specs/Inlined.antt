@@ -8,7 +8,7 @@ use Rattle.micro_m.specs.declared.base.Base.{Base}
 use Rattle.observables.specs.declared.face.FaceLabel.{FaceLabel}
 use Rattle.observables.specs.declared.face.FaceLabel.TheVariants.{Verif, DriverLine}
 use Rattle.flat_code.specs.declared.program.Flat.{Flat}
-use Rattle.observables.specs.Answers.{told_of}
+use Rattle.observables.specs.Answers.{observation}
 use Rattle.observables.specs.declared.inputs.Coded.{Coded}
 use Rattle.observables.specs.declared.inputs.InputType.{InputType}
 use Rattle.observables.specs.declared.inputs.InputType.TheVariants.{Any, Truth}
@@ -21,7 +21,7 @@ use Rattle.flat_code.specs.Runs.{IsFlat, flat_run}
 use Rattle.flat_code.specs.Tidy.{Reads, IsRoot}
 use Rattle.driver_core.specs.declared.program.Core.{Core}
 use Rattle.driver_core.specs.Answers.{answer_of}
-use Rattle.driver_core.specs.Inputs.{inputs_said}
+use Rattle.driver_core.specs.Inputs.{inputs_declared}
 use Rattle.driver_core.specs.Weights.{weight_of}
 use Rattle.mpp_inline.specs.declared.fault.InlineFault.{InlineFault}
 use Rattle.mpp_inline.specs.declared.fault.InlineFault.TheVariants.{DriverTooLarge, Memory}
@@ -54,10 +54,10 @@ kinds_of inputs = map (λ input. input.kind) inputs
 -- The flat program of a driver with what its labels tell, and the numbers of the labels of its notes.
 pub record IsInlined (core : Core) (base : Base) (declared : Declared) (requests : List ℕ) (flat : Flat) (labels : List FaceLabel) (notes : List ℕ) : Type 0 where
   -- for every list of values that the inputs may have its answer, read through the labels and the notes, is the driver's
-  pub answer : (inputs : List Value) → AreValuesOf (inputs_said declared) inputs → told_of labels notes (flat_run flat inputs) ≡ Some (answer_of core base declared requests inputs)
+  pub answer : (inputs : List Value) → AreValuesOf (inputs_declared declared) inputs → observation labels notes (flat_run flat inputs) ≡ Some (answer_of core base declared requests inputs)
   pub flat_program : IsFlat flat
   -- the inputs of the type `Truth` are read by their Ands alone
-  pub truths : HasTruths (kinds_of (inputs_said declared)) flat
+  pub truths : HasTruths (kinds_of (inputs_declared declared)) flat
   -- it has the inputs that are declared, and an output for each note and then for each request; a note is of a label of the base
   pub inputs : flat.inputs ≡ length (inputs_from 0 declared.variables)
   pub outputs : length flat.outputs ≡ length notes + length requests

@@ -4,5 +4,5 @@ pub mod Cells
 pub mod Growth
 pub mod Work
 pub mod Sizes
-pub mod Told
+pub mod Observation
 pub mod Ruleless

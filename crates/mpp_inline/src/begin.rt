@@ -6,10 +6,10 @@ ghost use Rattle.observables.specs.declared.face.FaceLabel.TheVariants.{Verif};
 ghost use Rattle.m_ast.specs.Items.{cells_in, size_in, is_input};
 ghost use Rattle.m_symbols.specs.Declarations.{owners_from, placed_from};
 ghost use Rattle.driver_core.specs.Answers.{next_input};
-ghost use Rattle.driver_core.specs.Inputs.{type_said};
+ghost use Rattle.driver_core.specs.Inputs.{type_declared};
 ghost use Rattle.mpp_inline.specs.inner.Growth.{Sane, Gives, Begun, HasLiterals, HasInput, InputIsThere};
 ghost use Rattle.mpp_inline.specs.inner.Growth.{IsAnInput, typed_value, begun_value, begun_from, kinds_from};
-ghost use Rattle.mpp_inline.specs.inner.Told.{nodes_of, numbers_of};
+ghost use Rattle.mpp_inline.specs.inner.Observation.{nodes_of, numbers_of};
 ghost use Rattle.mpp_inline.specs.inner.Sizes.{load};
 
 use crate::builder::{Builder, UNDEF};
@@ -61,7 +61,7 @@ pub fn input_types(alloc: Global, symbols: &Symbols) -> Result<Seq<InputType>, A
 /// The type of a variable that is an input, after others.
 fn add_type(kinds: &mut Vec<InputType>, item: &VariableItem) -> Result<(), AllocError>
     ensures { OnOk result (kinds.new.items ≡ kinds.old.items
-        ++ (if is_input item.now.role then type_said item.now.value_word ∷ [] else [])) }
+        ++ (if is_input item.now.role then type_declared item.now.value_word ∷ [] else [])) }
 {
     match &item.role {
         Role::Input(_) => kinds.push(kind_of(item))?,
@@ -135,7 +135,7 @@ pub fn first_cells(
 /// What a variable begins with, where the next input has this number.
 fn first_node(b: &mut Builder, item: &VariableItem, next: u32) -> Result<u32, AllocError>
     requires { load b.old + 2 * cells_in (size_in item.now.role) < 2 ^ 32 }
-    ensures step { IfOk result (λ k. Sane b.old → InputIsThere b.old.inputs next (type_said item.now.value_word) item.now.role
+    ensures step { IfOk result (λ k. Sane b.old → InputIsThere b.old.inputs next (type_declared item.now.value_word) item.now.role
         → Gives b.old b.new (λ inputs. begun_value inputs next item.now) k) }
     ensures size { OnOk result (load b.new ≤ load b.old + 2 * cells_in (size_in item.now.role)) }
 {
@@ -164,7 +164,7 @@ fn input_node(b: &mut Builder, kind: InputType, next: u32) -> Result<u32, AllocE
 
 /// The type that a declaration says.
 fn kind_of(item: &VariableItem) -> InputType
-    ensures { result ≡ type_said item.now.value_word }
+    ensures { result ≡ type_declared item.now.value_word }
 {
     match &item.value_word {
         Some(word) => type_of(word.bytes()),

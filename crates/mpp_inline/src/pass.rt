@@ -13,7 +13,7 @@ ghost use Rattle.driver_core.specs.Weights.{weight_of};
 ghost use Rattle.mpp_inline.specs.Inlined.{IsInlined, HasWeight, IsTooLarge};
 ghost use Rattle.mpp_inline.specs.inner.Growth.{HasLiterals, kinds_from};
 ghost use Rattle.mpp_inline.specs.inner.Sizes.{load};
-ghost use Rattle.mpp_inline.specs.inner.Told.{Answers, numbers_of};
+ghost use Rattle.mpp_inline.specs.inner.Observation.{Answers, numbers_of};
 
 use crate::InlineFault;
 use crate::begin::{first_cells, first_nodes, input_types, numbers_of, outputs_of};

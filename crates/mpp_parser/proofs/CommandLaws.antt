@@ -20,7 +20,7 @@ use Rattle.mpp_parser.specs.CommandView.{block_of}
 use Rattle.mpp_parser.specs.Drivers.{Says, SpellsCommand, sets, deletes, calls, partitions, only, either}
 use Rattle.m_lexer.specs.inner.Chains.{choose}
 use Rattle.mpp_parser.specs.inner.Reading.{line_at}
-use Rattle.mpp_parser.specs.inner.Blocks.{is_else, else_at, otherwise_at, said_at, command_at}
+use Rattle.mpp_parser.specs.inner.Blocks.{is_else, else_at, otherwise_at, stated_at, command_at}
 use Rattle.m_lexer.proofs.ChainSound.{Each, absent, here, bind_each}
 use Rattle.mpp_parser.proofs.Sentences.{line_found, line_complete, one_line}
 use Rattle.mpp_parser.proofs.BlockLaws.{Front, stop, go_on, front_then, front_weaker, Begins, front_begins, Sound, Reaches, Greedy, Shrinks, Apart, read_is}
@@ -149,22 +149,22 @@ module _ (B : ℕ → List Act → List Line → List Line → Type 0) (b : ℕ 
       step _ absent = only h d
       step _ (here {x = rest} w) = blocks w (sound i rest)
 
-  said_sound : (i : ℕ) (l : Line) (s : Sentence) (ls : List Line) → Says i s l → Each (λ (x : Act × List Line). SpellsCommand B i x.0 (l ∷ ls) x.1) (said_at b i l.number s ls)
-  unfolding said_at
-  said_sound i l (sentences.Set c t) ls h = here (sets h)
-  said_sound i l (sentences.Del c) ls h = here (deletes h)
-  said_sound i l (sentences.Call cs f) ls h = here (calls h)
-  said_sound i l (sentences.Partition k) ls h = bind_each (sound i ls) (λ x d. here (partitions h d))
-  said_sound i l (sentences.If t) ls h = bind_each (sound i ls) (λ x d. here (otherwise_sound i l t x.0 ls x.1 h d))
-  said_sound i l _ ls h = absent
+  stated_sound : (i : ℕ) (l : Line) (s : Sentence) (ls : List Line) → Says i s l → Each (λ (x : Act × List Line). SpellsCommand B i x.0 (l ∷ ls) x.1) (stated_at b i l.number s ls)
+  unfolding stated_at
+  stated_sound i l (sentences.Set c t) ls h = here (sets h)
+  stated_sound i l (sentences.Del c) ls h = here (deletes h)
+  stated_sound i l (sentences.Call cs f) ls h = here (calls h)
+  stated_sound i l (sentences.Partition k) ls h = bind_each (sound i ls) (λ x d. here (partitions h d))
+  stated_sound i l (sentences.If t) ls h = bind_each (sound i ls) (λ x d. here (otherwise_sound i l t x.0 ls x.1 h d))
+  stated_sound i l _ ls h = absent
 
   pub command_sound : (i : ℕ) → Sound (SpellsCommand B i) (command_at b i)
   unfolding command_at
   command_sound i [] = absent
-  command_sound i (l ∷ ls) = tested (l.indent == i) _ (λ e. bind_each (line_each l) (λ s d. said_sound i l s ls (record { at = eqb-true l.indent i e; says = d })))
+  command_sound i (l ∷ ls) = tested (l.indent == i) _ (λ e. bind_each (line_each l) (λ s d. stated_sound i l s ls (record { at = eqb-true l.indent i e; says = d })))
 
   -- What is spelled is read as far.
-  at_line : (i : ℕ) (l : Line) (s : Sentence) (ls : List Line) → Says i s l → command_at b i (l ∷ ls) ≡ said_at b i l.number s ls
+  at_line : (i : ℕ) (l : Line) (s : Sentence) (ls : List Line) → Says i s l → command_at b i (l ∷ ls) ≡ stated_at b i l.number s ls
   unfolding command_at
   at_line i l s ls h = rw (eqb_same l.indent i h.at, line_complete s l.tokens h.says) refl
 
@@ -192,8 +192,8 @@ module _ (B : ℕ → List Act → List Line → List Line → Type 0) (b : ℕ 
       step _ absent f = refl
       step _ (here {x = rest} w) f = blocks (let e = ap length w.parts in omega arith) (sound i rest) f
 
-  only_reaches : (i n : ℕ) (t : Term) (acts : List Act) (ls r : List Line) → Reaches (b i ls) acts r → Reaches (said_at b i n (sentences.If t) ls) (when n t (block_of acts) no_acts) r
-  unfolding said_at
+  only_reaches : (i n : ℕ) (t : Term) (acts : List Act) (ls r : List Line) → Reaches (b i ls) acts r → Reaches (stated_at b i n (sentences.If t) ls) (when n t (block_of acts) no_acts) r
+  unfolding stated_at
   only_reaches i n t acts ls r g =
       let short = otherwise_shrinks i g.rest in
       record {
@@ -207,8 +207,8 @@ module _ (B : ℕ → List Act → List Line → List Line → Type 0) (b : ℕ 
             ((λ j. when n t (block_of (at.0 j)) (block_of (none j).0)), (ap (λ x. x.1) none ∙ at.1));
       }
 
-  either_reaches : (i n : ℕ) (t : Term) (acts bs : List Act) (ls : List Line) (m : Line) (ms r : List Line) → B i acts ls (m ∷ ms) → Says i sentences.Else m → B i bs ms r → Reaches (said_at b i n (sentences.If t) ls) (when n t (block_of acts) (block_of bs)) r
-  unfolding said_at otherwise_at
+  either_reaches : (i n : ℕ) (t : Term) (acts bs : List Act) (ls : List Line) (m : Line) (ms r : List Line) → B i acts ls (m ∷ ms) → Says i sentences.Else m → B i bs ms r → Reaches (stated_at b i n (sentences.If t) ls) (when n t (block_of acts) (block_of bs)) r
+  unfolding stated_at otherwise_at
   either_reaches i n t acts bs ls m ms r d h e = rw (g.reads, at.1, else_given i m ms h, f.reads) (record {
     tree = when n t (block_of g.tree) (block_of f.tree);
     rest = f.rest;
@@ -237,7 +237,7 @@ module _ (B : ℕ → List Act → List Line → List Line → Type 0) (b : ℕ 
       at = g.same (exact (cases_lt (length g.rest) (length (m ∷ ms))))
 
   pub command_greedy : (i : ℕ) → Greedy (SpellsCommand B i) (command_at b i)
-  unfolding said_at
+  unfolding stated_at
   command_greedy i _ _ _ (sets {l = l} {rest = r} h) = record { tree = _; rest = r; reads = at_line i l _ r h; far = omega arith; same = λ e. (refl, refl) }
   command_greedy i _ _ _ (deletes {l = l} {rest = r} h) = record { tree = _; rest = r; reads = at_line i l _ r h; far = omega arith; same = λ e. (refl, refl) }
   command_greedy i _ _ _ (calls {l = l} {rest = r} h) = record { tree = _; rest = r; reads = at_line i l _ r h; far = omega arith; same = λ e. (refl, refl) }

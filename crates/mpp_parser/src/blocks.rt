@@ -3,7 +3,7 @@ ghost use Rattle.std.specs.Prelude.{◌≡◌, ℕ, ◌<◌, ◌≤◌, ◌∷�
 ghost use Rattle.std.specs.Bool.{OnTrue};
 ghost use Rattle.mpp_lexer.specs.declared.piece.DriverPiece.{DriverPiece};
 ghost use Rattle.mpp_parser.specs.inner.Reading.{line_at};
-ghost use Rattle.mpp_parser.specs.inner.Blocks.{GivesOne, is_else, else_at, otherwise_at, said_at, command_at};
+ghost use Rattle.mpp_parser.specs.inner.Blocks.{GivesOne, is_else, else_at, otherwise_at, stated_at, command_at};
 ghost use Rattle.mpp_parser.specs.inner.Blocks.{commands_at, block_at, headed_at, function_at, functions_at};
 
 use crate::command::{Command, CommandNode, Function, command_made};
@@ -72,7 +72,7 @@ impl<'a> LineCursor<'a> {
         let Some((first, others)) = self.left.split_first() else {
             return false;
         };
-        if first.indent == indent && says_else(first.tokens.as_slice()) {
+        if first.indent == indent && is_else_line(first.tokens.as_slice()) {
             self.left = others;
             return true;
         }
@@ -82,7 +82,7 @@ impl<'a> LineCursor<'a> {
 
 // Whether a line says `else:`.
 #[tactic(auto, unfolding(crate::specs::inner::Blocks::is_else))]
-fn says_else(tokens: &[DriverPiece]) -> bool
+fn is_else_line(tokens: &[DriverPiece]) -> bool
     ensures { result ≡ is_else tokens.now }
 {
     match tokens {
@@ -145,7 +145,7 @@ fn read_command(
     let Some(sentence) = line_sentence(alloc, line.tokens.as_slice())? else {
         return Ok(None);
     };
-    let Some(command) = read_said(alloc, &mut ahead, indent, depth, line.number, sentence)? else {
+    let Some(command) = read_written(alloc, &mut ahead, indent, depth, line.number, sentence)? else {
         return Ok(None);
     };
     *lines = ahead;
@@ -154,8 +154,8 @@ fn read_command(
 
 // The command that a line begins which says so.
 #[cycle(blocks)]
-#[tactic(auto, unfolding(crate::specs::inner::Blocks::said_at))]
-fn read_said(
+#[tactic(auto, unfolding(crate::specs::inner::Blocks::stated_at))]
+fn read_written(
     alloc: Global,
     lines: &mut LineCursor<'_>,
     indent: u32,
@@ -163,7 +163,7 @@ fn read_said(
     number: u32,
     sentence: Sentence,
 ) -> Result<Option<Command>, AllocError>
-    ensures reads { GivesOne (λ c. c) result (said_at (block_at depth) indent number sentence lines.old) lines.new }
+    ensures reads { GivesOne (λ c. c) result (stated_at (block_at depth) indent number sentence lines.old) lines.new }
     ensures shorter { IfOk result (λ o. IfSome o (λ _. length lines.new ≤ length lines.old)) }
 {
     match sentence {

@@ -18,7 +18,7 @@ amount_of_size (pos n) h = record { low = omega (arith, ints); high = omega (ari
 amount_of_size (negsuc n) h = record { low = omega (arith, ints); high = omega (arith, ints) }
 
 -- what is read is an amount
-pub read_amount : (said : Option ℤ) (z : ℤ) → amount_read said ≡ Ok z → IsAmount z
+pub read_amount : (stated : Option ℤ) (z : ℤ) → amount_read stated ≡ Ok z → IsAmount z
 read_amount None z h = cc h
 read_amount (Some y) z h = by (leb (unsigned_abs y) most) refl h
   where

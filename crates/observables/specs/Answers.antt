@@ -22,9 +22,9 @@ pub data Cause : Type 0 where
 
 -- what is told to a household: the verifications that are noted and the values of what was asked for, each in order, or what
 -- ended the run
-pub data Told : Type 0 where
-  values : List Label → List Value → Told
-  stopped : Cause → Told
+pub data Observation : Type 0 where
+  values : List Label → List Value → Observation
+  stopped : Cause → Observation
 
 -- the label's number in a stop
 abbrev pub label_number : Stop → ℕ
@@ -39,23 +39,23 @@ cause_of (Failed number) (Verif label) = failed label
 cause_of (Over number) (Verif label) = over label
 
 -- whether a note with this value is told: it is a number other than 0
-abbrev pub is_told : Value → Bool
-is_told Undef = false
-is_told (Num z) = not (is_zero z)
-is_told OverValue = false
+abbrev pub is_reported : Value → Bool
+is_reported Undef = false
+is_reported (Num z) = not (is_zero z)
+is_reported OverValue = false
 
 -- the verification that a note with this value tells, by the number of its label, where it tells one
-abbrev pub note_told : List FaceLabel → ℕ → Value → Option Label
-note_told labels number value = if is_told value then verif_at labels number else None
+abbrev pub reported_note : List FaceLabel → ℕ → Value → Option Label
+reported_note labels number value = if is_reported value then verif_at labels number else None
 
 -- the verifications that notes with these values tell, in order
-abbrev pub notes_told : List FaceLabel → List ℕ → List Value → List Label
-notes_told labels [] vs = []
-notes_told labels (number ∷ numbers) [] = []
-notes_told labels (number ∷ numbers) (v ∷ vs) = cons_option (note_told labels number v) (notes_told labels numbers vs)
+abbrev pub reported_notes : List FaceLabel → List ℕ → List Value → List Label
+reported_notes labels [] vs = []
+reported_notes labels (number ∷ numbers) [] = []
+reported_notes labels (number ∷ numbers) (v ∷ vs) = cons_option (reported_note labels number v) (reported_notes labels numbers vs)
 
 -- An answer read through labels, where the first outputs are notes of labels with these numbers. There is none where it stops at a
 -- number that has no label.
-abbrev pub told_of : List FaceLabel → List ℕ → Answer → Option Told
-told_of labels notes (Values vs) = Some (values (notes_told labels notes vs) (drop (length notes) vs))
-told_of labels notes (Stopped stop) = option_map (λ label. stopped (cause_of stop label)) (slice_get labels (label_number stop))
+abbrev pub observation : List FaceLabel → List ℕ → Answer → Option Observation
+observation labels notes (Values vs) = Some (values (reported_notes labels notes vs) (drop (length notes) vs))
+observation labels notes (Stopped stop) = option_map (λ label. stopped (cause_of stop label)) (slice_get labels (label_number stop))

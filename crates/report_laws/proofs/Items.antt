@@ -63,16 +63,16 @@ amount_spelled : {z : ℤ} {ts rest : List Token} → SpellsAmount z ts rest →
 amount_spelled (positive d) a = first_amount d a
 amount_spelled (negative {z = z} s d) a = opposite_amount z (first_amount d (first_left s a))
 
-variable_says : {v : VariableItem} {ts rest : List Token} → SpellsVariable v ts rest → HaveAmount ts → IsOfAmount v.role
-variable_says (input d s k e j f g) a = tt
-variable_says (computed d s e j f g) a = tt
-variable_says (constant d s k f g h) a = amount_spelled g (first_left f (first_left k (first_left s (first_left d a))))
+variable_meaning : {v : VariableItem} {ts rest : List Token} → SpellsVariable v ts rest → HaveAmount ts → IsOfAmount v.role
+variable_meaning (input d s k e j f g) a = tt
+variable_meaning (computed d s e j f g) a = tt
+variable_meaning (constant d s k f g h) a = amount_spelled g (first_left f (first_left k (first_left s (first_left d a))))
 
-declaration_says : {i : Item} {ts rest : List Token} → SpellsDeclaration i ts rest → HaveAmount ts → ItemSays i
-declaration_says (a_variable d) a = variable_says d a
-declaration_says (an_error d) a = tt
-declaration_says (an_application k d s) a = tt
-declaration_says (a_chaining k d e s) a = tt
+declaration_meaning : {i : Item} {ts rest : List Token} → SpellsDeclaration i ts rest → HaveAmount ts → ItemSays i
+declaration_meaning (a_variable d) a = variable_meaning d a
+declaration_meaning (an_error d) a = tt
+declaration_meaning (an_application k d s) a = tt
+declaration_meaning (a_chaining k d e s) a = tt
 
 -- ---- rules
 
@@ -117,10 +117,10 @@ rule_keeps (rule d e (one f g)) a =
 -- ---- files
 
 item_keeps : Keeps ItemSays SpellsItem
-item_keeps _ _ _ (a_declaration d) a = (declaration_says d a, left_amounts (declaration_passes _ _ _ d) a)
+item_keeps _ _ _ (a_declaration d) a = (declaration_meaning d a, left_amounts (declaration_passes _ _ _ d) a)
 item_keeps _ _ _ (a_rule d) a = rule_keeps d a
 item_keeps _ _ _ (a_verification d) a = (tt, left_amounts (verification_passes _ _ _ d) a)
 
-pub files_say : {number : ℕ} {texts : List Text} {items : List Item} → SayAll number texts items → AllByRecursion ItemSays items
-files_say no_files = tt
-files_say (a_file s rest) = all_append ItemSays _ _ (many_keep SpellsItem ItemSays item_keeps s.spelled (lexed_amounts s.lexed)).0 (files_say rest)
+pub files_meaning : {number : ℕ} {texts : List Text} {items : List Item} → SayAll number texts items → AllByRecursion ItemSays items
+files_meaning no_files = tt
+files_meaning (a_file s rest) = all_append ItemSays _ _ (many_keep SpellsItem ItemSays item_keeps s.spelled (lexed_amounts s.lexed)).0 (files_meaning rest)

@@ -97,28 +97,28 @@ chain_keeps opens made R Good Fine keeps fine (further {b = b} {x = x} o d c) a 
 abbrev LinkSays : Link → Type 0
 LinkSays l = SaysAmounts l.term
 
-links_say : (os : List Link) → AllByRecursion LinkSays os → LinksSayAmounts (links_of os)
-links_say [] h = tt
-links_say (o ∷ os) h = (h.0, links_say os h.1)
+links_mean : (os : List Link) → AllByRecursion LinkSays os → LinksSayAmounts (links_of os)
+links_mean [] h = tt
+links_mean (o ∷ os) h = (h.0, links_mean os h.1)
 
-gathered_says : (t : Syntax) (os : List Link) → SaysAmounts t → AllByRecursion LinkSays os → SaysAmounts (gathered t os)
-gathered_says t [] h k = h
-gathered_says t (o ∷ os) h k = (h, links_say (o ∷ os) k)
+gathered_meaning : (t : Syntax) (os : List Link) → SaysAmounts t → AllByRecursion LinkSays os → SaysAmounts (gathered t os)
+gathered_meaning t [] h k = h
+gathered_meaning t (o ∷ os) h k = (h, links_mean (o ∷ os) k)
 
 gathered_keeps : (operator : Token → Option Op) (R : Syntax → List Token → List Token → Type 0) → Keeps SaysAmounts R → Keeps SaysAmounts (Gathered operator R)
 gathered_keeps operator R keeps _ _ _ (gather {t = t} {os = os} d c e) a =
     let k = keeps _ _ _ d a in
     let m = chain_keeps operator link R SaysAmounts LinkSays keeps (λ op x h. h) c k.1 in
-    (subst SaysAmounts (sym e) (gathered_says t os k.0 m.0), m.1)
+    (subst SaysAmounts (sym e) (gathered_meaning t os k.0 m.0), m.1)
 
 -- ---- members
 
 abbrev MemberSays : Member → Type 0
 MemberSays m = SaysAmounts m.low × SaysAmounts m.high
 
-members_say : (ms : List Member) → AllByRecursion MemberSays ms → MembersSayAmounts (members_of ms)
-members_say [] h = tt
-members_say (m ∷ ms) h = (h.0.0, h.0.1, members_say ms h.1)
+members_mean : (ms : List Member) → AllByRecursion MemberSays ms → MembersSayAmounts (members_of ms)
+members_mean [] h = tt
+members_mean (m ∷ ms) h = (h.0.0, h.0.1, members_mean ms h.1)
 
 signed_keeps : Keeps SaysAmounts SpellsSigned
 signed_keeps _ _ _ positive a = (a.0, a.1)
@@ -185,11 +185,11 @@ module _ (E : Syntax → List Token → List Token → Type 0) (keeps : Keeps Sa
   relation_keeps _ _ _ (inside {ms = ms} d l) a =
       let k = sum_keeps _ _ _ d a in
       let m = members_keep _ _ _ l k.1.1.1 in
-      ((k.0, members_say ms m.0), m.1.1)
+      ((k.0, members_mean ms m.0), m.1.1)
   relation_keeps _ _ _ (outside {ms = ms} d l) a =
       let k = sum_keeps _ _ _ d a in
       let m = members_keep _ _ _ l k.1.1.1.1 in
-      ((k.0, members_say ms m.0), m.1.1)
+      ((k.0, members_mean ms m.0), m.1.1)
 
   negation_keeps : Keeps SaysAmounts (SpellsNegation E)
   negation_keeps _ _ _ (affirmed d) a = relation_keeps _ _ _ d a

@@ -20,7 +20,7 @@ use Rattle.m_ast.specs.Items.{cells_in, variable_size, variable_cells}
 use Rattle.m_symbols.specs.declared.variable.Variable.{Variable}
 use Rattle.m_symbols.specs.Declarations.{Declared, names_of, owners_from, placed_from}
 use Rattle.m_text.specs.Parts.{with_first}
-use Rattle.m_symbols.specs.Cells.{cell_text, printed_cell, cell_name, variable_named, split_at_bracket, before_closing, may_be_plain, plain_number, index_said, cell_within, cell_by, named_cell, request_cell}
+use Rattle.m_symbols.specs.Cells.{cell_text, printed_cell, cell_name, variable_named, split_at_bracket, before_closing, may_be_plain, plain_number, parsed_index, cell_within, cell_by, named_cell, request_cell}
 use Rattle.m_symbols.specs.Placed.{IsPlaced, items_of}
 use Rattle.m_symbols.proofs.Placing.{known_by}
 use Rattle.m_compile.proofs.words.Names.{get_more, get_behind}
@@ -60,7 +60,7 @@ closing_back [] = refl
 closing_back (d ∷ []) = refl
 closing_back (d ∷ e ∷ ds) = ap (option_map (λ front. d ∷ front)) (closing_back (e ∷ ds))
 
-index_back : (k : ℕ) → k < 10000 → index_said (decimal k ++ 93 ∷ []) ≡ Some k
+index_back : (k : ℕ) → k < 10000 → parsed_index (decimal k ++ 93 ∷ []) ≡ Some k
 index_back k h = ap (option_and_then plain_number) (closing_back (decimal k)) ∙ plain_back k h
 
 -- ---- the name before it
@@ -212,6 +212,6 @@ at_index declared index None p = tt
 at_index declared index (Some i) p = at_variable declared i index (slice_get declared.variables i) p refl
 
 -- what a name names is a cell
-pub asked_below : (declared : Declared) (name : List ℕ) (c : ℕ) → IsPlaced declared → request_cell declared name ≡ Some c → c < length (owners_from 0 declared.variables)
-asked_below declared name c p e =
+pub requested_below : (declared : Declared) (name : List ℕ) (c : ℕ) → IsPlaced declared → request_cell declared name ≡ Some c → c < length (owners_from 0 declared.variables)
+requested_below declared name c p e =
     subst (λ o. IfSome o (λ d. d < length (owners_from 0 declared.variables))) e (at_index declared (split_at_bracket name).1 (index_of (split_at_bracket name).0 (names_of declared.variables)) p)

@@ -21,8 +21,8 @@ use Rattle.tax_print.specs.Lines.{value_line}
 use Rattle.why_report.specs.declared.fault.ReportFault.{ReportFault}
 use Rattle.why_report.specs.declared.fault.ReportFault.TheVariants.{BadLine}
 use Rattle.why_report.specs.declared.line.ReportLine.{ReportLine}
-use Rattle.why_report.specs.Reports.{report_text, split_at_space, amount_value, value_said, cell_with, parts_said, line_said, ends_report, lines_said, report_said}
-use Rattle.why_session.specs.Explains.{told_lines_of}
+use Rattle.why_report.specs.Reports.{report_text, split_at_space, amount_value, parsed_value, cell_with, parsed_parts, parsed_line, ends_report, parsed_lines, parsed_report}
+use Rattle.why_session.specs.Explains.{report_lines_of}
 use Rattle.report_laws.specs.Readable.{IsInside, CanBeRead}
 
 -- ---- bytes that end no line
@@ -64,32 +64,32 @@ amount_goes_on text z (below_zero number n et s e) = subst (AllByRecursion GoesO
 
 -- ---- what stands after a name and a space
 
-abbrev said_text : Value → List ℕ
-said_text Undef = codes "undefined"
-said_text (Num z) = 61 ∷ 32 ∷ printed z
-said_text Over = codes "over"
+abbrev stated_text : Value → List ℕ
+stated_text Undef = codes "undefined"
+stated_text (Num z) = 61 ∷ 32 ∷ printed z
+stated_text Over = codes "over"
 
-said_goes_on : (v : Value) → IsValue v → AllByRecursion GoesOn (said_text v)
-said_goes_on Undef h = word_goes_on (codes "undefined") refl
-said_goes_on (Num z) h = all_both GoesOn (61 ∷ 32 ∷ []) (printed z) (word_goes_on (61 ∷ 32 ∷ []) refl) (amount_goes_on (printed z) z (amount_spelled (printed z) z (reads_back z h)))
-said_goes_on Over h = word_goes_on (codes "over") refl
+stated_goes_on : (v : Value) → IsValue v → AllByRecursion GoesOn (stated_text v)
+stated_goes_on Undef h = word_goes_on (codes "undefined") refl
+stated_goes_on (Num z) h = all_both GoesOn (61 ∷ 32 ∷ []) (printed z) (word_goes_on (61 ∷ 32 ∷ []) refl) (amount_goes_on (printed z) z (amount_spelled (printed z) z (reads_back z h)))
+stated_goes_on Over h = word_goes_on (codes "over") refl
 
-said_back : (v : Value) → IsValue v → value_said (said_text v) ≡ Some v
-said_back Undef h = refl
-said_back (Num z) h = ap amount_value (is_read z h)
-said_back Over h = refl
+stated_back : (v : Value) → IsValue v → parsed_value (stated_text v) ≡ Some v
+stated_back Undef h = refl
+stated_back (Num z) h = ap amount_value (is_read z h)
+stated_back Over h = refl
 
 -- what a line has before its end
 abbrev body : List ℕ → Value → List ℕ
-body name v = name ++ 32 ∷ said_text v
+body name v = name ++ 32 ∷ stated_text v
 
 line_parts : (name : List ℕ) (v : Value) → value_line name v ≡ body name v ++ 10 ∷ []
-line_parts name Undef = sym (append_assoc name (32 ∷ said_text Undef) (10 ∷ []))
-line_parts name (Num z) = sym (append_assoc name (32 ∷ said_text (Num z)) (10 ∷ []))
-line_parts name Over = sym (append_assoc name (32 ∷ said_text Over) (10 ∷ []))
+line_parts name Undef = sym (append_assoc name (32 ∷ stated_text Undef) (10 ∷ []))
+line_parts name (Num z) = sym (append_assoc name (32 ∷ stated_text (Num z)) (10 ∷ []))
+line_parts name Over = sym (append_assoc name (32 ∷ stated_text Over) (10 ∷ []))
 
 body_goes_on : (name : List ℕ) (v : Value) → AllByRecursion IsInside name → IsValue v → AllByRecursion GoesOn (body name v)
-body_goes_on name v h k = all_both GoesOn name (32 ∷ said_text v) (inside_goes_on name h) (all_both GoesOn (32 ∷ []) (said_text v) (word_goes_on (32 ∷ []) refl) (said_goes_on v k))
+body_goes_on name v h k = all_both GoesOn name (32 ∷ stated_text v) (inside_goes_on name h) (all_both GoesOn (32 ∷ []) (stated_text v) (word_goes_on (32 ∷ []) refl) (stated_goes_on v k))
 
 -- ---- one line
 
@@ -105,11 +105,11 @@ split_name (b ∷ name) text h =
     ap (λ t. cond t ([], Some (name ++ 32 ∷ text)) (with_first b (split_at_space (name ++ 32 ∷ text)))) (ne_eqb b 32 h.0.0)
     ∙ ap (with_first b) (split_name name text h.1)
 
-said_line : (declared : Declared) (line : ReportLine) → CanBeRead declared line → line_said declared (body (cell_name declared line.cell) line.value) ≡ Some line
-said_line declared line can =
+stated_line : (declared : Declared) (line : ReportLine) → CanBeRead declared line → parsed_line declared (body (cell_name declared line.cell) line.value) ≡ Some line
+stated_line declared line can =
     let name : List ℕ = cell_name declared line.cell in
-    ap (parts_said declared) (split_name name (said_text line.value) can.inside)
-    ∙ ap (option_and_then (cell_with declared name)) (said_back line.value can.value)
+    ap (parsed_parts declared) (split_name name (stated_text line.value) can.inside)
+    ∙ ap (option_and_then (cell_with declared name)) (stated_back line.value can.value)
     ∙ ap (option_map (λ c. record { cell = c; value = line.value })) can.named
 
 -- a line with a space isn't the point at the end
@@ -130,29 +130,29 @@ no_end name text (next ∷ lines) = refl
 
 -- a text after the lines that says no more
 abbrev SaysNoMore : Declared → List ℕ → Type 0
-SaysNoMore declared after = (number : ℕ) (before : List ReportLine) → lines_said declared number before (exact_lines_of after) ≡ Ok before
+SaysNoMore declared after = (number : ℕ) (before : List ReportLine) → parsed_lines declared number before (exact_lines_of after) ≡ Ok before
 
 lines_back : (declared : Declared) (after : List ℕ) → SaysNoMore declared after → (number : ℕ) (before lines : List ReportLine) → AllByRecursion (CanBeRead declared) lines
-    → lines_said declared number before (exact_lines_of (report_text declared lines ++ after)) ≡ Ok (before ++ lines)
+    → parsed_lines declared number before (exact_lines_of (report_text declared lines ++ after)) ≡ Ok (before ++ lines)
 lines_back declared after none number before [] h = none number before ∙ ap Ok (sym (append-nil before))
 lines_back declared after none number before (line ∷ lines) h =
     let name : List ℕ = cell_name declared line.cell in
     let this : List ℕ = body name line.value in
     let rest : List ℕ = report_text declared lines ++ after in
     let bad : Result (List ReportLine) ReportFault = Err (BadLine number) in
-    let next : Option ReportLine → Result (List ReportLine) ReportFault = λ said. option_map_or (λ l. lines_said declared (number + 1) (before ++ l ∷ []) (exact_lines_of rest)) said bad in
+    let next : Option ReportLine → Result (List ReportLine) ReportFault = λ stated. option_map_or (λ l. parsed_lines declared (number + 1) (before ++ l ∷ []) (exact_lines_of rest)) stated bad in
     let text : (value_line name line.value ++ report_text declared lines) ++ after ≡ this ++ 10 ∷ rest
     = append_assoc (value_line name line.value) (report_text declared lines) after ∙ ap (λ l. l ++ rest) (line_parts name line.value) ∙ append_assoc this (10 ∷ []) rest in
-    ap (λ l. lines_said declared number before (exact_lines_of l)) text
-    ∙ ap (lines_said declared number before) (first_line this rest (body_goes_on name line.value h.0.inside h.0.value))
-    ∙ ap (λ t. cond t (Ok before) (next (line_said declared this))) (no_end name (said_text line.value) (exact_lines_of rest))
-    ∙ ap next (said_line declared line h.0)
+    ap (λ l. parsed_lines declared number before (exact_lines_of l)) text
+    ∙ ap (parsed_lines declared number before) (first_line this rest (body_goes_on name line.value h.0.inside h.0.value))
+    ∙ ap (λ t. cond t (Ok before) (next (parsed_line declared this))) (no_end name (stated_text line.value) (exact_lines_of rest))
+    ∙ ap next (stated_line declared line h.0)
     ∙ lines_back declared after none (number + 1) (before ++ line ∷ []) lines h.1
     ∙ ap Ok (append_assoc before (line ∷ []) lines)
 
-pub printed_back : (declared : Declared) (lines : List ReportLine) → AllByRecursion (CanBeRead declared) lines → report_said declared (report_text declared lines) ≡ Ok lines
+pub printed_back : (declared : Declared) (lines : List ReportLine) → AllByRecursion (CanBeRead declared) lines → parsed_report declared (report_text declared lines) ≡ Ok lines
 printed_back declared lines h =
-    ap (report_said declared) (sym (append-nil (report_text declared lines))) ∙ lines_back declared [] (λ number before. refl) 1 [] lines h
+    ap (parsed_report declared) (sym (append-nil (report_text declared lines))) ∙ lines_back declared [] (λ number before. refl) 1 [] lines h
 
-pub told_back : (declared : Declared) (lines : List ReportLine) → AllByRecursion (CanBeRead declared) lines → report_said declared (told_lines_of declared lines) ≡ Ok lines
-told_back declared lines h = lines_back declared (46 ∷ 10 ∷ []) (λ number before. refl) 1 [] lines h
+pub reported_back : (declared : Declared) (lines : List ReportLine) → AllByRecursion (CanBeRead declared) lines → parsed_report declared (report_lines_of declared lines) ≡ Ok lines
+reported_back declared lines h = lines_back declared (46 ∷ 10 ∷ []) (λ number before. refl) 1 [] lines h

@@ -14,13 +14,13 @@ use Rattle.micro_m.specs.declared.base.Base.{Base}
 use Rattle.micro_m.specs.Bases.{IsValidBase}
 use Rattle.micro_m.specs.Values.{Environment, environment, value_of}
 use Rattle.driver_core.specs.Answers.{start_of}
-use Rattle.driver_core.specs.Inputs.{inputs_said}
+use Rattle.driver_core.specs.Inputs.{inputs_declared}
 use Rattle.why_report.specs.declared.line.ReportLine.{ReportLine}
-use Rattle.why_report.specs.Derivations.{cells_told}
+use Rattle.why_report.specs.Derivations.{reported_cells}
 use Rattle.why_report.specs.Reasons.{AreNeededBy, IsReasonOf}
 use Rattle.why_report.proofs.MeaningLemmas.{sound-values}
 use Rattle.why_report.proofs.ReadLemmas.{Reads-within}
-use Rattle.why_session.specs.Explains.{Explaining, told_lines_of}
+use Rattle.why_session.specs.Explains.{Explaining, report_lines_of}
 use Rattle.m_compile.specs.Sources.{HasRules}
 use Rattle.m_compile.proofs.OneLaws.{one_rules}
 use Rattle.command_plans.specs.declared.status.Status.TheVariants.{Done}
@@ -28,7 +28,7 @@ use Rattle.rule_answers.specs.Checks.{CheckReplies, is_checked, is_sound, sound_
 use Rattle.command_answers.specs.Explained.{IsExplained}
 use Rattle.report_laws.specs.Readable.{CanBeRead}
 use Rattle.report_laws.proofs.Operators.{cell_value}
-use Rattle.report_laws.proofs.Printed.{told_back}
+use Rattle.report_laws.proofs.Printed.{reported_back}
 use Rattle.report_laws.proofs.Starts.{start_is_values, household_values}
 use Rattle.report_laws.proofs.Sources.{IsOfRules, of_rules}
 
@@ -42,7 +42,7 @@ needed_below base c (d ∷ x ∷ later) valid low h = (Reads-within base h.0.0 d
 -- ---- its lines
 
 lines_readable : (declared : Declared) (base : Base) (given : Environment) → IsOfRules declared base → ((c : ℕ) → IsValue (value_of base given c)) → (lines : List ReportLine)
-    → AllByRecursion (λ d. d < base.cells) (cells_told lines) → AllByRecursion (λ line. line.value ≡ value_of base given line.cell) lines → AllByRecursion (CanBeRead declared) lines
+    → AllByRecursion (λ d. d < base.cells) (reported_cells lines) → AllByRecursion (λ line. line.value ≡ value_of base given line.cell) lines → AllByRecursion (CanBeRead declared) lines
 lines_readable declared base given is values [] low h = tt
 lines_readable declared base given is values (line ∷ lines) low h = (
   record { named = is.named line.cell low.0; inside = is.inside line.cell low.0; value = subst IsValue (sym h.0) (values line.cell) },
@@ -55,28 +55,28 @@ reason_readable source declared base values c lines rules amounts low reason =
     let is = of_rules source declared base rules in
     let given : Environment = environment (start_of declared values) in
     lines_readable declared base given is (cell_value base given is.made.amounts (start_is_values declared values amounts is.constants)) lines
-    (needed_below base c (cells_told lines) is.made.valid low reason.needed)
+    (needed_below base c (reported_cells lines) is.made.valid low reason.needed)
     (recursion_from_All (λ line. line.value ≡ value_of base given line.cell) lines (sound-values base given lines reason.sound))
 
 -- ---- what is told
 
-told_by : (source : Source) (explains : Explaining) (is : IsExplained source explains) (rows name : List ℕ) (pairs : List (ℕ × ℤ)) (c : ℕ) → household_of (inputs_said is.declared) rows ≡ Ok pairs → request_cell is.declared name ≡ Some c
-    → CheckReplies source rows (explains (values_of pairs (length (inputs_said is.declared))) name) sound_line Done
-told_by source explains is rows name pairs c given asked =
+observation_by : (source : Source) (explains : Explaining) (is : IsExplained source explains) (rows name : List ℕ) (pairs : List (ℕ × ℤ)) (c : ℕ) → household_of (inputs_declared is.declared) rows ≡ Ok pairs → request_cell is.declared name ≡ Some c
+    → CheckReplies source rows (explains (values_of pairs (length (inputs_declared is.declared))) name) sound_line Done
+observation_by source explains is rows name pairs c given wanted =
     let declared = is.declared in
-    let values = values_of pairs (length (inputs_said declared)) in
+    let values = values_of pairs (length (inputs_declared declared)) in
     let lines = is.lines values c in
-    let low = (of_rules source declared is.base is.rules).known name c asked in
+    let low = (of_rules source declared is.base is.rules).known name c wanted in
     let reason = is.reasons values c low in
-    let readable = reason_readable source declared is.base values c lines is.rules (household_values (inputs_said declared) rows pairs (length (inputs_said declared)) given) low reason in
-    let text : explains values name ≡ told_lines_of declared lines
-    = is.said values name ∙ ap (λ cell. option_map_or (λ d. told_lines_of declared (is.lines values d)) cell (line (codes "refused unknown variable"))) asked in
-    subst (λ told. CheckReplies source rows told sound_line Done) (sym text) (is_checked declared is.base is.rules (is_sound pairs lines given (told_back declared lines readable) reason.sound))
+    let readable = reason_readable source declared is.base values c lines is.rules (household_values (inputs_declared declared) rows pairs (length (inputs_declared declared)) given) low reason in
+    let text : explains values name ≡ report_lines_of declared lines
+    = is.stated values name ∙ ap (λ cell. option_map_or (λ d. report_lines_of declared (is.lines values d)) cell (line (codes "refused unknown variable"))) wanted in
+    subst (λ reported. CheckReplies source rows reported sound_line Done) (sym text) (is_checked declared is.base is.rules (is_sound pairs lines given (reported_back declared lines readable) reason.sound))
 
-pub told_sound : (source : Source) (explains : Explaining) (declared : Declared) (base : Base) (rows name : List ℕ) (pairs : List (ℕ × ℤ)) (c : ℕ) → IsExplained source explains → HasRules source declared base
-    → household_of (inputs_said declared) rows ≡ Ok pairs → request_cell declared name ≡ Some c → CheckReplies source rows (explains (values_of pairs (length (inputs_said declared))) name) sound_line Done
-told_sound source explains declared base rows name pairs c is rules =
+pub reported_sound : (source : Source) (explains : Explaining) (declared : Declared) (base : Base) (rows name : List ℕ) (pairs : List (ℕ × ℤ)) (c : ℕ) → IsExplained source explains → HasRules source declared base
+    → household_of (inputs_declared declared) rows ≡ Ok pairs → request_cell declared name ≡ Some c → CheckReplies source rows (explains (values_of pairs (length (inputs_declared declared))) name) sound_line Done
+reported_sound source explains declared base rows name pairs c is rules =
     subst
-    (λ (d : Declared). household_of (inputs_said d) rows ≡ Ok pairs → request_cell d name ≡ Some c → CheckReplies source rows (explains (values_of pairs (length (inputs_said d))) name) sound_line Done)
+    (λ (d : Declared). household_of (inputs_declared d) rows ≡ Ok pairs → request_cell d name ≡ Some c → CheckReplies source rows (explains (values_of pairs (length (inputs_declared d))) name) sound_line Done)
     (one_rules source is.declared declared is.base base is.rules rules).0
-    (told_by source explains is rows name pairs c)
+    (observation_by source explains is rows name pairs c)

@@ -13,10 +13,10 @@ use Rattle.m_symbols.specs.Placed.{IsPlaced}
 use Rattle.m_ast.specs.Members.{is_single}
 use Rattle.m_ast.specs.declared.plain_rules.Plain.{Plain}
 use Rattle.m_ast.specs.declared.plain_rules.Definition.{Definition}
-use Rattle.m_resolve.specs.Terms.{if_said, cell_said, table_said, member_by, any_of, membership, term_said, terms_said, links_said, members_said}
-use Rattle.m_resolve.specs.Bases.{target_said, new_target, cells_of, definition_said, definitions_said, conditions_said, base_with, resolved}
+use Rattle.m_resolve.specs.Terms.{if_resolved, resolved_cell, resolved_table, member_by, any_of, membership, resolved_term, resolved_terms, resolved_links, resolved_members}
+use Rattle.m_resolve.specs.Bases.{resolved_target, new_target, cells_of, resolved_definition, resolved_definitions, resolved_conditions, base_with, resolved}
 use Rattle.m_resolve.specs.declared.fault.ResolveFault.{ResolveFault}
-use Rattle.m_resolve.proofs.Valid.{said_by, said_valid}
+use Rattle.m_resolve.proofs.Valid.{resolved_by, resolved_valid}
 use Rattle.household.proofs.InputLemmas.{AllByRecursion-push}
 use Rattle.report_laws.proofs.Operators.{HasAmounts, HaveAmounts, StepsHaveAmounts, AreOfAmounts}
 use Rattle.report_laws.proofs.Literals.{SaysAmounts, TermsSayAmounts, LinksSayAmounts, MembersSayAmounts}
@@ -52,63 +52,63 @@ membership_has false members h = any_has members h
 membership_has true members h = (any_has members h, tt)
 
 mutual
-  term_has : (d : Declared) (s : Syntax) (t : Tree) → SaysAmounts s → term_said d s ≡ Ok t → HasAmounts t
+  term_has : (d : Declared) (s : Syntax) (t : Tree) → SaysAmounts s → resolved_term d s ≡ Ok t → HasAmounts t
   term_has d (lit value) t a e = subst HasAmounts (ok_one (lit_tree value) t e) a
   term_has d (named name place) t a e =
-      let k = said_by (λ c. Ok (cell_tree c)) (cell_said d name place) t e in
+      let k = resolved_by (λ c. Ok (cell_tree c)) (resolved_cell d name place) t e in
       subst HasAmounts (ok_one (cell_tree k.0) t k.2) tt
   term_has d (the_x place) t a e = absurd (cc)
   term_has d (cell name index place) t a e =
-      let k = said_by (λ (table : ℕ × ℕ). if_said (λ i. Ok (pick table.0 table.1 i)) (term_said d index)) (table_said d name place) t e in
-      let m = said_by (λ i. Ok (pick k.0.0 k.0.1 i)) (term_said d index) t k.2 in
+      let k = resolved_by (λ (table : ℕ × ℕ). if_resolved (λ i. Ok (pick table.0 table.1 i)) (resolved_term d index)) (resolved_table d name place) t e in
+      let m = resolved_by (λ i. Ok (pick k.0.0 k.0.1 i)) (resolved_term d index) t k.2 in
       subst HasAmounts (ok_one (pick k.0.0 k.0.1 m.0) t m.2) (term_has d index m.0 a m.1)
   term_has d (apply op all) t a e =
-      let k = said_by (λ arguments. Ok (apply_tree op (trees_of arguments))) (terms_said d [] all) t e in
+      let k = resolved_by (λ arguments. Ok (apply_tree op (trees_of arguments))) (resolved_terms d [] all) t e in
       subst HasAmounts (ok_one (apply_tree op (trees_of k.0)) t k.2) (trees_have k.0 (terms_have d [] all k.0 a tt k.1))
   term_has d (chain first links) t a e =
-      let k = said_by (λ f. if_said (λ steps. Ok (chain_tree f (steps_of steps))) (links_said d [] links)) (term_said d first) t e in
-      let m = said_by (λ steps. Ok (chain_tree k.0 (steps_of steps))) (links_said d [] links) t k.2 in
+      let k = resolved_by (λ f. if_resolved (λ steps. Ok (chain_tree f (steps_of steps))) (resolved_links d [] links)) (resolved_term d first) t e in
+      let m = resolved_by (λ steps. Ok (chain_tree k.0 (steps_of steps))) (resolved_links d [] links) t k.2 in
       subst HasAmounts (ok_one (chain_tree k.0 (steps_of m.0)) t m.2) (term_has d first k.0 a.0 k.1, steps_have m.0 (links_have d [] links m.0 a.1 tt m.1))
   term_has d (among negated x all) t a e =
-      let k = said_by (λ y. if_said (λ members. Ok (membership negated members)) (members_said d y [] all)) (term_said d x) t e in
-      let m = said_by (λ members. Ok (membership negated members)) (members_said d k.0 [] all) t k.2 in
+      let k = resolved_by (λ y. if_resolved (λ members. Ok (membership negated members)) (resolved_members d y [] all)) (resolved_term d x) t e in
+      let m = resolved_by (λ members. Ok (membership negated members)) (resolved_members d k.0 [] all) t k.2 in
       subst HasAmounts (ok_one (membership negated m.0) t m.2) (membership_has negated m.0 (members_have d k.0 [] all m.0 (term_has d x k.0 a.0 k.1) a.1 tt m.1))
   term_has d (loop header body) t a e = let s = ok_one _ t e in subst HasAmounts s tt
 
-  terms_have : (d : Declared) (before : List Tree) (all : Terms) (ts : List Tree) → TermsSayAmounts all → AllByRecursion HasAmounts before → terms_said d before all ≡ Ok ts → AllByRecursion HasAmounts ts
+  terms_have : (d : Declared) (before : List Tree) (all : Terms) (ts : List Tree) → TermsSayAmounts all → AllByRecursion HasAmounts before → resolved_terms d before all ≡ Ok ts → AllByRecursion HasAmounts ts
   terms_have d before no_terms ts a h e = subst (AllByRecursion HasAmounts) (ok_one before ts e) h
   terms_have d before (a_term x rest) ts a h e =
-      let k = said_by (λ t. terms_said d (before ++ t ∷ []) rest) (term_said d x) ts e in
+      let k = resolved_by (λ t. resolved_terms d (before ++ t ∷ []) rest) (resolved_term d x) ts e in
       terms_have d (before ++ k.0 ∷ []) rest ts a.1 (AllByRecursion-push HasAmounts before k.0 h (term_has d x k.0 a.0 k.1)) k.2
 
-  links_have : (d : Declared) (before : List Step) (all : Links) (ss : List Step) → LinksSayAmounts all → AllByRecursion StepHas before → links_said d before all ≡ Ok ss → AllByRecursion StepHas ss
+  links_have : (d : Declared) (before : List Step) (all : Links) (ss : List Step) → LinksSayAmounts all → AllByRecursion StepHas before → resolved_links d before all ≡ Ok ss → AllByRecursion StepHas ss
   links_have d before no_links ss a h e = subst (AllByRecursion StepHas) (ok_one before ss e) h
   links_have d before (a_link op x rest) ss a h e =
-      let k = said_by (λ t. links_said d (before ++ record { op = op; term = t } ∷ []) rest) (term_said d x) ss e in
+      let k = resolved_by (λ t. resolved_links d (before ++ record { op = op; term = t } ∷ []) rest) (resolved_term d x) ss e in
       links_have d (before ++ record { op = op; term = k.0 } ∷ []) rest ss a.1 (AllByRecursion-push StepHas before (record { op = op; term = k.0 }) h (term_has d x k.0 a.0 k.1)) k.2
 
   members_have : (d : Declared) (x : Tree) (before : List Step) (all : Members) (ss : List Step) → HasAmounts x → MembersSayAmounts all → AllByRecursion StepHas before
-      → members_said d x before all ≡ Ok ss → AllByRecursion StepHas ss
+      → resolved_members d x before all ≡ Ok ss → AllByRecursion StepHas ss
   members_have d x before no_members ss i a h e = subst (AllByRecursion StepHas) (ok_one before ss e) h
   members_have d x before (a_member low high rest) ss i a h e =
-      let k = said_by (λ m. members_said d x (before ++ record { op = Or; term = m } ∷ []) rest) (if_said (λ l. if_said (λ g. Ok (member_by (is_single low high) x l g)) (term_said d high)) (term_said d low)) ss e in
-      let p = said_by (λ l. if_said (λ g. Ok (member_by (is_single low high) x l g)) (term_said d high)) (term_said d low) k.0 k.1 in
-      let q = said_by (λ g. Ok (member_by (is_single low high) x p.0 g)) (term_said d high) k.0 p.2 in
+      let k = resolved_by (λ m. resolved_members d x (before ++ record { op = Or; term = m } ∷ []) rest) (if_resolved (λ l. if_resolved (λ g. Ok (member_by (is_single low high) x l g)) (resolved_term d high)) (resolved_term d low)) ss e in
+      let p = resolved_by (λ l. if_resolved (λ g. Ok (member_by (is_single low high) x l g)) (resolved_term d high)) (resolved_term d low) k.0 k.1 in
+      let q = resolved_by (λ g. Ok (member_by (is_single low high) x p.0 g)) (resolved_term d high) k.0 p.2 in
       let w = subst HasAmounts (ok_one (member_by (is_single low high) x p.0 q.0) k.0 q.2) (member_has (is_single low high) x p.0 q.0 i (term_has d low p.0 a.0 p.1) (term_has d high q.0 a.1 q.1)) in
       members_have d x (before ++ record { op = Or; term = k.0 } ∷ []) rest ss i a.2 (AllByRecursion-push StepHas before (record { op = Or; term = k.0 }) h w) k.2
 
 -- ---- definitions
 
-definition_has : (d : Declared) (before : List CellDefinition) (definition : Definition) (made : CellDefinition) → DefinitionSays definition → definition_said d before definition ≡ Ok made → HasAmounts made.1
+definition_has : (d : Declared) (before : List CellDefinition) (definition : Definition) (made : CellDefinition) → DefinitionSays definition → resolved_definition d before definition ≡ Ok made → HasAmounts made.1
 definition_has d before definition made a e =
-    let k = said_by (λ c. if_said (λ tree. Ok (c, tree, definition.place)) (term_said d definition.term)) (if_said (new_target d definition.place (cells_of before)) (target_said d definition)) made e in
-    let t = said_by (λ tree. Ok (k.0, tree, definition.place)) (term_said d definition.term) made k.2 in
+    let k = resolved_by (λ c. if_resolved (λ tree. Ok (c, tree, definition.place)) (resolved_term d definition.term)) (if_resolved (new_target d definition.place (cells_of before)) (resolved_target d definition)) made e in
+    let t = resolved_by (λ tree. Ok (k.0, tree, definition.place)) (resolved_term d definition.term) made k.2 in
     subst (λ (x : CellDefinition). HasAmounts x.1) (ok_one (k.0, t.0, definition.place) made t.2) (term_has d definition.term t.0 a t.1)
 
-definitions_have : (d : Declared) (before : List CellDefinition) (all : List Definition) (made : List CellDefinition) → AllByRecursion DefinitionSays all → AreOfAmounts before → definitions_said d before all ≡ Ok made → AreOfAmounts made
+definitions_have : (d : Declared) (before : List CellDefinition) (all : List Definition) (made : List CellDefinition) → AllByRecursion DefinitionSays all → AreOfAmounts before → resolved_definitions d before all ≡ Ok made → AreOfAmounts made
 definitions_have d before [] made a h e = subst AreOfAmounts (ok_one before made e) h
 definitions_have d before (x ∷ all) made a h e =
-    let k = said_by (λ said. definitions_said d (before ++ said ∷ []) all) (definition_said d before x) made e in
+    let k = resolved_by (λ stated. resolved_definitions d (before ++ stated ∷ []) all) (resolved_definition d before x) made e in
     definitions_have d (before ++ k.0 ∷ []) all made a.1 (AllByRecursion-push (λ (y : CellDefinition). HasAmounts y.1) before k.0 h (definition_has d before x k.0 a.0 k.1)) k.2
 
 -- ---- the base
@@ -120,9 +120,9 @@ pub record IsMade (base : Base) : Type 0 where
 
 pub base_made : (declared : Declared) (plain : Plain) (base : Base) → IsPlaced declared → AllByRecursion DefinitionSays plain.definitions → resolved declared plain ≡ Ok base → IsMade base
 base_made declared plain base placed a r =
-    let d = said_by (λ definitions. if_said (λ checks. Ok (base_with declared definitions checks)) (conditions_said declared ([], []) plain.conditions)) (definitions_said declared [] plain.definitions) base r in
-    let c = said_by (λ checks. Ok (base_with declared d.0 checks)) (conditions_said declared ([], []) plain.conditions) base d.2 in
+    let d = resolved_by (λ definitions. if_resolved (λ checks. Ok (base_with declared definitions checks)) (resolved_conditions declared ([], []) plain.conditions)) (resolved_definitions declared [] plain.definitions) base r in
+    let c = resolved_by (λ checks. Ok (base_with declared d.0 checks)) (resolved_conditions declared ([], []) plain.conditions) base d.2 in
     subst IsMade (ok_one (base_with declared d.0 c.0) base c.2) (record {
-      valid = said_valid declared plain d.0 c.0 placed d.1 c.1;
+      valid = resolved_valid declared plain d.0 c.0 placed d.1 c.1;
       amounts = definitions_have declared [] plain.definitions d.0 a tt d.1;
     })

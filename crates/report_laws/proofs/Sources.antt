@@ -24,9 +24,9 @@ use Rattle.m_compile.proofs.words.Items.{files_worded}
 use Rattle.m_compile.proofs.words.Declared.{IsGood, items_good, variables_good}
 use Rattle.m_compile.proofs.words.Names.{cell_named}
 use Rattle.report_laws.specs.Readable.{IsInside}
-use Rattle.report_laws.proofs.Named.{IsNoBracket, IsNameable, cell_back, asked_below}
-use Rattle.report_laws.proofs.Items.{files_say}
-use Rattle.report_laws.proofs.Expanded.{definitions_say}
+use Rattle.report_laws.proofs.Named.{IsNoBracket, IsNameable, cell_back, requested_below}
+use Rattle.report_laws.proofs.Items.{files_meaning}
+use Rattle.report_laws.proofs.Expanded.{definitions_mean}
 use Rattle.report_laws.proofs.Resolved.{IsMade, base_made}
 use Rattle.report_laws.proofs.Starts.{AreOfAmount, declared_amounts}
 
@@ -88,8 +88,8 @@ pub of_rules : (source : Source) (declared : Declared) (base : Base) → HasRule
 of_rules source declared base rules =
     let b = rules.made in
     let items = b.items in
-    let worded = files_worded b.declares.said in
-    let says = files_say b.declares.said in
+    let worded = files_worded b.declares.stated in
+    let says = files_meaning b.declares.stated in
     let faultless = b.declares.faultless in
     let good = subst (λ (d : Declared). AllByRecursion (λ (v : Variable). IsGood v.item) d.variables) (sym b.symbols) (variables_good items worded faultless) in
     let distinct = subst (λ (d : Declared). AreDistinct (names_of d.variables)) (sym b.symbols) (distinct_names items faultless) in
@@ -100,8 +100,8 @@ of_rules source declared base rules =
       named = λ c h. cell_back declared c placed distinct (nameable declared.variables good) (low c h);
       inside = λ c h. name_inside (cell_name declared c)
           (cell_named (variables_of items) declared c (ap (λ (x : Declared). x.variables) b.symbols) (items_good items worded faultless) (low c h));
-      known = λ name c asked. subst (λ n. c < n) (sym cells) (asked_below declared name c placed asked);
+      known = λ name c wanted. subst (λ n. c < n) (sym cells) (requested_below declared name c placed wanted);
       constants = subst (λ (d : Declared). AreOfAmount d.variables) (sym b.symbols) (declared_amounts items says);
       made = base_made declared (expansion items source.application declared) base placed
-          (definitions_say items source.application declared (few_cells declared.variables good) says) b.resolves;
+          (definitions_mean items source.application declared (few_cells declared.variables good) says) b.resolves;
     }

@@ -11,11 +11,11 @@ ghost use Rattle.m_symbols.specs.Cells.{cell_name, request_cell};
 ghost use Rattle.micro_m.specs.declared.base.Base.{Base};
 ghost use Rattle.micro_m.specs.Values.{environment};
 ghost use Rattle.driver_core.specs.Answers.{start_of};
-ghost use Rattle.driver_core.specs.Inputs.{inputs_said};
+ghost use Rattle.driver_core.specs.Inputs.{inputs_declared};
 ghost use Rattle.why_report.specs.declared.line.ReportLine.{ReportLine};
 ghost use Rattle.why_report.specs.Reasons.{IsReasonOf};
-ghost use Rattle.why_report.specs.Reports.{report_said, report_text};
-ghost use Rattle.why_session.specs.Explains.{Explaining, told_lines_of};
+ghost use Rattle.why_report.specs.Reports.{parsed_report, report_text};
+ghost use Rattle.why_session.specs.Explains.{Explaining, report_lines_of};
 ghost use Rattle.m_compile.specs.Sources.{HasRules};
 ghost use Rattle.command_plans.specs.declared.status.Status.{Status};
 ghost use Rattle.rule_answers.specs.Checks.{CheckReplies, sound_line};
@@ -25,9 +25,9 @@ ghost use Rattle.report_laws.specs.Readable.{CanBeRead};
 /// What is printed of lines reads back as these lines, where each can be read; so does the same with the line `.` after it, as a session tells it.
 pub fn printed_reports_read_back()
     ensures printed { (declared : Declared) (lines : List ReportLine) → AllByRecursion (CanBeRead declared) lines
-        → report_said declared (report_text declared lines) ≡ Ok lines }
-    ensures told { (declared : Declared) (lines : List ReportLine) → AllByRecursion (CanBeRead declared) lines
-        → report_said declared (told_lines_of declared lines) ≡ Ok lines }
+        → parsed_report declared (report_text declared lines) ≡ Ok lines }
+    ensures reported { (declared : Declared) (lines : List ReportLine) → AllByRecursion (CanBeRead declared) lines
+        → parsed_report declared (report_lines_of declared lines) ≡ Ok lines }
 {}
 
 /// The printed name of each cell of a source's rules names this cell. So no two cells have one printed name.
@@ -45,9 +45,9 @@ pub fn reasons_can_be_read()
 
 /// What a session tells of a cell's name is sound: where the inputs have the values that a household gives them, a check of what is told, by the same rules
 /// and this household, answers `sound` with status 0.
-pub fn told_reasons_are_sound()
+pub fn printed_reasons_are_sound()
     ensures { (source : Source) (explains : Explaining) (declared : Declared) (base : Base) (rows name : List ℕ) (pairs : List (ℕ × ℤ))
-        (c : ℕ) → IsExplained source explains → HasRules source declared base → household_of (inputs_said declared) rows ≡ Ok pairs
-        → request_cell declared name ≡ Some c → CheckReplies source rows (explains (values_of pairs (length (inputs_said declared))) name) sound_line
+        (c : ℕ) → IsExplained source explains → HasRules source declared base → household_of (inputs_declared declared) rows ≡ Ok pairs
+        → request_cell declared name ≡ Some c → CheckReplies source rows (explains (values_of pairs (length (inputs_declared declared))) name) sound_line
         Status.Done }
 {}

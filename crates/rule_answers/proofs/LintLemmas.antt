@@ -18,10 +18,10 @@ use Rattle.command_plans.specs.declared.status.Status.{Status}
 use Rattle.command_plans.specs.declared.status.Status.TheVariants.{Refused}
 use Rattle.rule_answers.specs.Lints.{LintReplies, is_linted, is_refused}
 use Rattle.rule_answers.specs.inner.Linting.{IsLintOf, is_lint}
-use Rattle.code_answers.proofs.Refusals.{TellsRefusal}
+use Rattle.code_answers.proofs.Refusals.{ReportsRefusal}
 use Rattle.code_answers.proofs.Ways.{answered_as}
 
-pub lint_refused : (source : Source) (fault : SourceFault) (old new : OutputView) (status : Status) → TellsRefusal (λ line. IsSourceFault source fault × (source_line source.texts fault ≡ Some line)) old new status
+pub lint_refused : (source : Source) (fault : SourceFault) (old new : OutputView) (status : Status) → ReportsRefusal (λ line. IsSourceFault source fault × (source_line source.texts fault ≡ Some line)) old new status
     → IsAnswered (LintReplies source) old new status
 lint_refused source fault old new status (inl (line, is, shown)) = printed line Refused (is_refused fault is.0 is.1) tt shown
 lint_refused source fault old new status (inr (same, memory)) = no_memory same memory

@@ -11,20 +11,20 @@ use Rattle.m_compile.specs.declared.fault.SourceFault.TheVariants as source
 use Rattle.command_plans.specs.Views.{OutputView}
 use Rattle.command_plans.specs.declared.status.Status.{Status}
 use Rattle.rule_answers.specs.Checks.{report_fault_line}
-use Rattle.code_answers.specs.inner.Refusals.{TellsLine}
-use Rattle.code_answers.proofs.Refusals.{TellsRefusal, told_either}
+use Rattle.code_answers.specs.inner.Refusals.{ReportsLine}
+use Rattle.code_answers.proofs.Refusals.{ReportsRefusal, reported_either}
 
 -- a source was refused by a fault
-pub fault_told : (s : Source) (fault : SourceFault) (old new : OutputView) (status : Status) → (fault ≢ source.Memory → IsSourceFault s fault)
-    → TellsLine (source_line s.texts fault) old new status → TellsRefusal (λ line. IsSourceFault s fault × (source_line s.texts fault ≡ Some line)) old new status
-fault_told s fault old new status h told = told_either (source_line s.texts fault) (source_line s.texts fault) old new status refl h (λ m. ap (source_line s.texts) m) told
+pub fault_reported : (s : Source) (fault : SourceFault) (old new : OutputView) (status : Status) → (fault ≢ source.Memory → IsSourceFault s fault)
+    → ReportsLine (source_line s.texts fault) old new status → ReportsRefusal (λ line. IsSourceFault s fault × (source_line s.texts fault ≡ Some line)) old new status
+fault_reported s fault old new status h reported = reported_either (source_line s.texts fault) (source_line s.texts fault) old new status refl h (λ m. ap (source_line s.texts) m) reported
 
 -- the rules of a source were refused by a fault
-pub base_told : (s : Source) (fault : SourceFault) (old new : OutputView) (status : Status) → (fault ≢ source.Memory → IsBaseFault s.texts s.application fault)
-    → TellsLine (source_line s.texts fault) old new status → TellsRefusal (λ line. IsBaseFault s.texts s.application fault × (source_line s.texts fault ≡ Some line)) old new status
-base_told s fault old new status h told = told_either (source_line s.texts fault) (source_line s.texts fault) old new status refl h (λ m. ap (source_line s.texts) m) told
+pub base_reported : (s : Source) (fault : SourceFault) (old new : OutputView) (status : Status) → (fault ≢ source.Memory → IsBaseFault s.texts s.application fault)
+    → ReportsLine (source_line s.texts fault) old new status → ReportsRefusal (λ line. IsBaseFault s.texts s.application fault × (source_line s.texts fault ≡ Some line)) old new status
+base_reported s fault old new status h reported = reported_either (source_line s.texts fault) (source_line s.texts fault) old new status refl h (λ m. ap (source_line s.texts) m) reported
 
 -- a report was refused by a fault
-pub report_told : {IsFault : Type 0} (fault : ReportFault) (old new : OutputView) (status : Status) → (fault ≢ report.Memory → IsFault)
-    → TellsLine (report_fault_line fault) old new status → TellsRefusal (λ line. IsFault × (report_fault_line fault ≡ Some line)) old new status
-report_told fault old new status h told = told_either (report_fault_line fault) (report_fault_line fault) old new status refl h (λ m. ap report_fault_line m) told
+pub report_reported : {IsFault : Type 0} (fault : ReportFault) (old new : OutputView) (status : Status) → (fault ≢ report.Memory → IsFault)
+    → ReportsLine (report_fault_line fault) old new status → ReportsRefusal (λ line. IsFault × (report_fault_line fault ≡ Some line)) old new status
+report_reported fault old new status h reported = reported_either (report_fault_line fault) (report_fault_line fault) old new status refl h (λ m. ap report_fault_line m) reported

@@ -11,11 +11,11 @@ use Rattle.micro_m.specs.declared.base.Base.{Base}
 use Rattle.micro_m.specs.Values.{Environment, environment}
 use Rattle.driver_core.specs.Answers.{start_of}
 use Rattle.why_report.specs.Derivations.{IsFirstUnsound, IsSound}
-use Rattle.why_report.specs.Reports.{report_said}
+use Rattle.why_report.specs.Reports.{parsed_report}
 use Rattle.why_report.specs.declared.fault.ReportFault.{ReportFault}
 use Rattle.why_report.specs.declared.fault.ReportFault.TheVariants.{BadLine, Memory}
 use Rattle.why_report.specs.declared.line.ReportLine.{ReportLine}
-use Rattle.driver_core.specs.Inputs.{inputs_said}
+use Rattle.driver_core.specs.Inputs.{inputs_declared}
 use Rattle.m_compile.specs.Faults.{IsBaseFault}
 use Rattle.m_compile.specs.Lines.{source_line}
 use Rattle.m_compile.specs.Sources.{HasRules}
@@ -35,20 +35,20 @@ sound_line = joined (codes "sound" ∷ new_line ∷ [])
 
 -- what each cell begins with, by what is declared and the pairs of a household
 abbrev pub given_by : Declared → List (ℕ × ℤ) → Environment
-given_by declared pairs = environment (start_of declared (values_of pairs (length (inputs_said declared))))
+given_by declared pairs = environment (start_of declared (values_of pairs (length (inputs_declared declared))))
 
 -- What is answered to the household and the report of these bytes, over what is declared and a base: the line of the first fault of the household or of
 -- the report; or that of its first line that isn't sound, by its number from 1; or that it is sound.
 pub data ReportReplies (declared : Declared) (base : Base) (rows report : List ℕ) : List ℕ → Status → Type 0 where
-  household_is_refused : {line : List ℕ} (fault : HouseholdFault) → household_of (inputs_said declared) rows ≡ Err fault → household_fault_line fault ≡ Some line
+  household_is_refused : {line : List ℕ} (fault : HouseholdFault) → household_of (inputs_declared declared) rows ≡ Err fault → household_fault_line fault ≡ Some line
       → ReportReplies declared base rows report line Refused
-  report_is_refused : {line : List ℕ} (pairs : List (ℕ × ℤ)) (fault : ReportFault) → household_of (inputs_said declared) rows ≡ Ok pairs
-      → report_said declared report ≡ Err fault → report_fault_line fault ≡ Some line → ReportReplies declared base rows report line Refused
-  is_unsound : (pairs : List (ℕ × ℤ)) (lines : List ReportLine) (position : ℕ) → household_of (inputs_said declared) rows ≡ Ok pairs
-      → report_said declared report ≡ Ok lines → IsFirstUnsound base (given_by declared pairs) lines position
+  report_is_refused : {line : List ℕ} (pairs : List (ℕ × ℤ)) (fault : ReportFault) → household_of (inputs_declared declared) rows ≡ Ok pairs
+      → parsed_report declared report ≡ Err fault → report_fault_line fault ≡ Some line → ReportReplies declared base rows report line Refused
+  is_unsound : (pairs : List (ℕ × ℤ)) (lines : List ReportLine) (position : ℕ) → household_of (inputs_declared declared) rows ≡ Ok pairs
+      → parsed_report declared report ≡ Ok lines → IsFirstUnsound base (given_by declared pairs) lines position
       → ReportReplies declared base rows report (report_line (position + 1) words.NotSound) Refused
-  is_sound : (pairs : List (ℕ × ℤ)) (lines : List ReportLine) → household_of (inputs_said declared) rows ≡ Ok pairs
-      → report_said declared report ≡ Ok lines → IsSound base (given_by declared pairs) lines → ReportReplies declared base rows report sound_line Done
+  is_sound : (pairs : List (ℕ × ℤ)) (lines : List ReportLine) → household_of (inputs_declared declared) rows ≡ Ok pairs
+      → parsed_report declared report ≡ Ok lines → IsSound base (given_by declared pairs) lines → ReportReplies declared base rows report sound_line Done
 
 -- The answer of a check of the rules of a source, whose driver and requests play no part: the line of the fault of its rule files, or what is answered over
 -- what they declare and the base of their rules.
@@ -64,7 +64,7 @@ pub record CheckHasAnswer (source : Source) (rows report : List ℕ) : Type 0 wh
   pub base : Base
   pub rules : HasRules source declared base
   pub pairs : List (ℕ × ℤ)
-  pub given : household_of (inputs_said declared) rows ≡ Ok pairs
+  pub given : household_of (inputs_declared declared) rows ≡ Ok pairs
   pub lines : List ReportLine
-  pub said : report_said declared report ≡ Ok lines
+  pub stated : parsed_report declared report ≡ Ok lines
   pub sound : IsSound base (given_by declared pairs) lines

@@ -12,15 +12,15 @@ ghost use Rattle.m_symbols.specs.Placed.{IsPlaced};
 ghost use Rattle.micro_m.specs.Bases.{IsValidBase};
 ghost use Rattle.micro_m.specs.Values.{environment};
 ghost use Rattle.driver_core.specs.Answers.{start_of};
-ghost use Rattle.driver_core.specs.Inputs.{inputs_said};
+ghost use Rattle.driver_core.specs.Inputs.{inputs_declared};
 ghost use Rattle.command_plans.specs.Printing.{IsAnswered, Prints};
 ghost use Rattle.command_plans.specs.Views.{output_view};
 ghost use Rattle.rule_answers.specs.Checks.{CheckReplies, ReportReplies};
 ghost use Rattle.rule_answers.specs.inner.Checking.{IsStart, LinesReplies, SaidReplies, found_status, found_text};
 
 use crate::start::first_cells;
-use crate::told::{tell_source, told_report};
-use code_answers::{read_given, tell_refusal, told_household};
+use crate::entries::{report_source, report_entry};
+use code_answers::{read_given, report_refusal, household_entry};
 use command_plans::{Status, print_fault, printed};
 use household::{Household, HouseholdFault, values};
 use m_compile::{compile_base, inputs_of};
@@ -62,7 +62,7 @@ pub fn check_source<R: Threads + Sync, K: Sink>(
             drop(made);
             status
         }
-        Err(fault) => tell_source(source, fault, out),
+        Err(fault) => report_source(source, fault, out),
     }
 }
 
@@ -79,13 +79,13 @@ fn answer_check<K: Sink>(
     requires placed { IsPlaced made.now.symbols }
     requires cells { made.now.ordered.base.cells ≡ length (owners_from 0 made.now.symbols.variables) }
     requires few { made.now.ordered.base.cells ≤ CELLS }
-    requires distinct { AreDistinct (codes_of (inputs_said made.now.symbols)) }
+    requires distinct { AreDistinct (codes_of (inputs_declared made.now.symbols)) }
     ensures { IsAnswered (ReportReplies made.now.symbols made.now.ordered.base household.now report.now)
         (output_view K.written K.faults out.old) (output_view K.written K.faults out.new) result }
 {
     match start_cells(alloc, &made.symbols, household) {
         Ok(env) => answer_report(alloc, made, env.as_slice(), report, out),
-        Err(fault) => tell_refusal(out, told_household(fault)),
+        Err(fault) => report_refusal(out, household_entry(fault)),
     }
 }
 
@@ -95,27 +95,27 @@ fn start_cells(
     symbols: &Symbols,
     household: &[u8],
 ) -> Result<Vec<Value>, HouseholdFault>
-    requires { AreDistinct (codes_of (inputs_said symbols.now)) }
+    requires { AreDistinct (codes_of (inputs_declared symbols.now)) }
     ensures { Outcome Memory result (λ env. IsStart symbols.now household.now env.items)
-        (λ fault. household_of (inputs_said symbols.now) household.now ≡ Err fault) }
+        (λ fault. household_of (inputs_declared symbols.now) household.now ≡ Err fault) }
 {
-    let said = inputs_of(alloc, symbols)?;
-    said_cells(alloc, symbols, said.as_slice(), household)
+    let stated = inputs_of(alloc, symbols)?;
+    report_cells(alloc, symbols, stated.as_slice(), household)
 }
 
 // The same, where these are the inputs.
-fn said_cells(
+fn report_cells(
     alloc: Global,
     symbols: &Symbols,
-    said: &[Coded],
+    stated: &[Coded],
     household: &[u8],
 ) -> Result<Vec<Value>, HouseholdFault>
-    requires distinct { AreDistinct (codes_of said.now) }
-    requires said { said.now ≡ inputs_said symbols.now }
+    requires distinct { AreDistinct (codes_of stated.now) }
+    requires stated { stated.now ≡ inputs_declared symbols.now }
     ensures { Outcome Memory result (λ env. IsStart symbols.now household.now env.items)
-        (λ fault. household_of (inputs_said symbols.now) household.now ≡ Err fault) }
+        (λ fault. household_of (inputs_declared symbols.now) household.now ≡ Err fault) }
 {
-    let (codes, given) = read_given(alloc, said, symbols.inputs(), household)?;
+    let (codes, given) = read_given(alloc, stated, symbols.inputs(), household)?;
     Ok(given_cells(alloc, symbols, &given, codes.len())?)
 }
 
@@ -152,7 +152,7 @@ fn answer_report<K: Sink>(
 {
     match read_report(alloc, report, &made.symbols) {
         Ok(lines) => answer_lines(alloc, &made.ordered.base, env, lines.as_slice(), out),
-        Err(fault) => tell_refusal(out, told_report(fault)),
+        Err(fault) => report_refusal(out, report_entry(fault)),
     }
 }
 
@@ -172,13 +172,13 @@ fn answer_lines<K: Sink>(
         (output_view K.written K.faults out.old) (output_view K.written K.faults out.new) result }
 {
     match first_unsound(alloc, base, env, lines) {
-        Ok(found) => tell_found(found, out),
+        Ok(found) => report_found(found, out),
         Err(AllocError) => Status::Memory,
     }
 }
 
 // Tells which line, by its position, is the first that isn't sound, or that there is none. It takes no memory.
-fn tell_found<K: Sink>(found: Option<u32>, out: &mut K) -> Status
+fn report_found<K: Sink>(found: Option<u32>, out: &mut K) -> Status
     requires { IfSome found (λ position. position ≤ CELLS) }
     ensures { Prints (found_text found) (found_status found) (output_view K.written K.faults out.old) (output_view K.written K.faults out.new) result }
 {

@@ -7,7 +7,7 @@ mod check;
 mod findings;
 mod lint;
 mod start;
-mod told;
+mod entries;
 
 pub use check::check_source;
 pub use lint::lint_source;

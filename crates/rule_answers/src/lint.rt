@@ -11,7 +11,7 @@ ghost use Rattle.rule_answers.specs.Lints.{LintReplies};
 ghost use Rattle.rule_answers.specs.inner.Linting.{IsLintOf};
 
 use crate::findings::give_findings;
-use crate::told::tell_source;
+use crate::entries::report_source;
 use command_plans::{Status, printed};
 use m_compile::{Compiled, compile_with_rules};
 use m_lint::lint;
@@ -38,7 +38,7 @@ pub fn lint_source<R: Threads + Sync, K: Sink>(
             drop(compiled);
             status
         }
-        Err(fault) => tell_source(source, fault, out),
+        Err(fault) => report_source(source, fault, out),
     }
 }
 

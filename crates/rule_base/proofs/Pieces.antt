@@ -5,7 +5,7 @@ use Rattle.m_places.specs.Refusals.{Outcome}
 use Rattle.m_places.specs.declared.source.Text.{Text}
 use Rattle.m_ast.specs.declared.item.Item.{Item}
 use Rattle.workers.specs.Parts.{behind, joined, part_at}
-use Rattle.workers.proofs.PartLemmas.{of_parts, said_of_parts}
+use Rattle.workers.proofs.PartLemmas.{of_parts, stated_of_parts}
 use Rattle.rule_base.specs.declared.read_fault.ReadFault.{ReadFault}
 use Rattle.rule_base.specs.declared.read_fault.ReadFault.TheVariants.{Memory}
 use Rattle.rule_base.specs.Files.{SayEach, none_each, IsFirstFileFault}
@@ -27,11 +27,11 @@ goes size number texts part (Err fault) gave is = λ n. behind_fault size number
 
 -- what is given of a worker's files, of which the first has this number
 abbrev pub IsGiven : ℕ → List Text → Given → Type 0
-IsGiven number texts given = Outcome Memory given (λ said. SayEach number texts said.items) (IsFirstFileFault number texts)
+IsGiven number texts given = Outcome Memory given (λ stated. SayEach number texts stated.items) (IsFirstFileFault number texts)
 
-pub files_said : (size : ℕ) (texts : List Text) (parts : List Given) → ((n : ℕ) (d : Given) → n < length parts → IsGiven (n * size) (part_at texts size (n * size)) (get_or parts n d))
+pub parsed_files : (size : ℕ) (texts : List Text) (parts : List Given) → ((n : ℕ) (d : Given) → n < length parts → IsGiven (n * size) (part_at texts size (n * size)) (get_or parts n d))
     → ((n : ℕ) → n < length parts → n * size < length texts) → length texts ≤ length parts * size → SaysFiles 0 texts (joined parts)
-files_said size texts parts each inside reach =
-    said_of_parts IsGiven size SaysFiles (λ at. none_each)
+parsed_files size texts parts each inside reach =
+    stated_of_parts IsGiven size SaysFiles (λ at. none_each)
     (λ at items fault some gave. λ n. front_fault size at items fault (gave n))
     (λ at items part rest some gave is. goes size at items part rest gave is) 0 texts parts (of_parts IsGiven size texts parts each inside reach)

@@ -28,8 +28,8 @@ use Rattle.micro_m.specs.declared.base.Base.{Base}
 use Rattle.micro_m.specs.Bases.{Definition}
 use Rattle.micro_m.specs.Trees.{Tree}
 use Rattle.m_resolve.specs.declared.fault.ResolveFault.{ResolveFault}
-use Rattle.m_resolve.specs.Terms.{if_said, term_said}
-use Rattle.m_resolve.specs.Bases.{Checks, error_named, label_said, with_condition, conditions_said, definitions_said, base_with, resolved}
+use Rattle.m_resolve.specs.Terms.{if_resolved, resolved_term}
+use Rattle.m_resolve.specs.Bases.{Checks, error_named, resolved_label, with_condition, resolved_conditions, resolved_definitions, base_with, resolved}
 use Rattle.rule_base.specs.Base.{IsBaseOf}
 
 -- ---- cells
@@ -88,30 +88,30 @@ cells-within earlier (item ∷ later) e h =
 
 -- ---- labels
 
-label-more : (declared : Declared) (before said : Checks) (condition : Condition) → with_condition declared before condition ≡ Ok said → length said.1 ≡ length before.1 + 1
-label-more declared before said condition e = by (term_said declared condition.term) (label_said condition (error_named declared condition.error)) e
+label-more : (declared : Declared) (before stated : Checks) (condition : Condition) → with_condition declared before condition ≡ Ok stated → length stated.1 ≡ length before.1 + 1
+label-more declared before stated condition e = by (resolved_term declared condition.term) (resolved_label condition (error_named declared condition.error)) e
   where
     labels : Result Checks ResolveFault → ℕ
     labels (Ok checks) = length checks.1
     labels (Err fault) = 0
 
-    by : (t : Result Tree ResolveFault) (l : Result Label ResolveFault) → if_said (λ tree. if_said (λ label. Ok (before.0 ++ (tree, length before.1, condition.place) ∷ [], before.1 ++ label ∷ [])) l) t ≡ Ok said → length said.1 ≡ length before.1 + 1
+    by : (t : Result Tree ResolveFault) (l : Result Label ResolveFault) → if_resolved (λ tree. if_resolved (λ label. Ok (before.0 ++ (tree, length before.1, condition.place) ∷ [], before.1 ++ label ∷ [])) l) t ≡ Ok stated → length stated.1 ≡ length before.1 + 1
     by (Err f) l h = absurd (cc)
     by (Ok tree) (Err f) h = absurd (cc)
     by (Ok tree) (Ok label) h = sym (ap labels h) ∙ length-append before.1 (label ∷ [])
 
-labels-are : (declared : Declared) (before said : Checks) (conditions : List Condition) → conditions_said declared before conditions ≡ Ok said → length said.1 ≡ length before.1 + length conditions
-labels-are declared before said [] e =
-    let same : before ≡ said = cc in
+labels-are : (declared : Declared) (before stated : Checks) (conditions : List Condition) → resolved_conditions declared before conditions ≡ Ok stated → length stated.1 ≡ length before.1 + length conditions
+labels-are declared before stated [] e =
+    let same : before ≡ stated = cc in
     omega (arith, ap (λ (c : Checks). length c.1) same)
-labels-are declared before said (condition ∷ conditions) e = by (with_condition declared before condition) refl e (λ next h. labels-are declared next said conditions h)
+labels-are declared before stated (condition ∷ conditions) e = by (with_condition declared before condition) refl e (λ next h. labels-are declared next stated conditions h)
   where
-    by : (r : Result Checks ResolveFault) → with_condition declared before condition ≡ r → if_said (λ next. conditions_said declared next conditions) r ≡ Ok said
-        → ((next : Checks) → conditions_said declared next conditions ≡ Ok said → length said.1 ≡ length next.1 + length conditions) → length said.1 ≡ length before.1 + length (condition ∷ conditions)
+    by : (r : Result Checks ResolveFault) → with_condition declared before condition ≡ r → if_resolved (λ next. resolved_conditions declared next conditions) r ≡ Ok stated
+        → ((next : Checks) → resolved_conditions declared next conditions ≡ Ok stated → length stated.1 ≡ length next.1 + length conditions) → length stated.1 ≡ length before.1 + length (condition ∷ conditions)
     by (Err f) is h more = absurd (cc)
     by (Ok next) is h more = omega (arith, label-more declared before next condition is, more next h)
 
-base-labels : (declared : Declared) (conditions : List Condition) (d : Result (List Definition) ResolveFault) (c : Result Checks ResolveFault) (base : Base) → conditions_said declared ([], []) conditions ≡ c → if_said (λ definitions. if_said (λ checks. Ok (base_with declared definitions checks)) c) d ≡ Ok base → length base.labels ≡ length conditions
+base-labels : (declared : Declared) (conditions : List Condition) (d : Result (List Definition) ResolveFault) (c : Result Checks ResolveFault) (base : Base) → resolved_conditions declared ([], []) conditions ≡ c → if_resolved (λ definitions. if_resolved (λ checks. Ok (base_with declared definitions checks)) c) d ≡ Ok base → length base.labels ≡ length conditions
 base-labels declared conditions (Err f) c base is e = absurd (cc)
 base-labels declared conditions (Ok ds) (Err f) base is e = absurd (cc)
 base-labels declared conditions (Ok ds) (Ok checks) base is e =
@@ -120,30 +120,30 @@ base-labels declared conditions (Ok ds) (Ok checks) base is e =
 
 -- ---- checks
 
-check-more : (declared : Declared) (before said : Checks) (condition : Condition) → with_condition declared before condition ≡ Ok said → length said.0 ≡ length before.0 + 1
-check-more declared before said condition e = by (term_said declared condition.term) (label_said condition (error_named declared condition.error)) e
+check-more : (declared : Declared) (before stated : Checks) (condition : Condition) → with_condition declared before condition ≡ Ok stated → length stated.0 ≡ length before.0 + 1
+check-more declared before stated condition e = by (resolved_term declared condition.term) (resolved_label condition (error_named declared condition.error)) e
   where
     counted : Result Checks ResolveFault → ℕ
     counted (Ok checks) = length checks.0
     counted (Err fault) = 0
 
-    by : (t : Result Tree ResolveFault) (l : Result Label ResolveFault) → if_said (λ tree. if_said (λ label. Ok (before.0 ++ (tree, length before.1, condition.place) ∷ [], before.1 ++ label ∷ [])) l) t ≡ Ok said → length said.0 ≡ length before.0 + 1
+    by : (t : Result Tree ResolveFault) (l : Result Label ResolveFault) → if_resolved (λ tree. if_resolved (λ label. Ok (before.0 ++ (tree, length before.1, condition.place) ∷ [], before.1 ++ label ∷ [])) l) t ≡ Ok stated → length stated.0 ≡ length before.0 + 1
     by (Err f) l h = absurd (cc)
     by (Ok tree) (Err f) h = absurd (cc)
     by (Ok tree) (Ok label) h = sym (ap counted h) ∙ length-append before.0 ((tree, length before.1, condition.place) ∷ [])
 
-checks-are : (declared : Declared) (before said : Checks) (conditions : List Condition) → conditions_said declared before conditions ≡ Ok said → length said.0 ≡ length before.0 + length conditions
-checks-are declared before said [] e =
-    let same : before ≡ said = cc in
+checks-are : (declared : Declared) (before stated : Checks) (conditions : List Condition) → resolved_conditions declared before conditions ≡ Ok stated → length stated.0 ≡ length before.0 + length conditions
+checks-are declared before stated [] e =
+    let same : before ≡ stated = cc in
     omega (arith, ap (λ (c : Checks). length c.0) same)
-checks-are declared before said (condition ∷ conditions) e = by (with_condition declared before condition) refl e (λ next h. checks-are declared next said conditions h)
+checks-are declared before stated (condition ∷ conditions) e = by (with_condition declared before condition) refl e (λ next h. checks-are declared next stated conditions h)
   where
-    by : (r : Result Checks ResolveFault) → with_condition declared before condition ≡ r → if_said (λ next. conditions_said declared next conditions) r ≡ Ok said
-        → ((next : Checks) → conditions_said declared next conditions ≡ Ok said → length said.0 ≡ length next.0 + length conditions) → length said.0 ≡ length before.0 + length (condition ∷ conditions)
+    by : (r : Result Checks ResolveFault) → with_condition declared before condition ≡ r → if_resolved (λ next. resolved_conditions declared next conditions) r ≡ Ok stated
+        → ((next : Checks) → resolved_conditions declared next conditions ≡ Ok stated → length stated.0 ≡ length next.0 + length conditions) → length stated.0 ≡ length before.0 + length (condition ∷ conditions)
     by (Err f) is h more = absurd (cc)
     by (Ok next) is h more = omega (arith, check-more declared before next condition is, more next h)
 
-base-checks : (declared : Declared) (conditions : List Condition) (d : Result (List Definition) ResolveFault) (c : Result Checks ResolveFault) (base : Base) → conditions_said declared ([], []) conditions ≡ c → if_said (λ definitions. if_said (λ checks. Ok (base_with declared definitions checks)) c) d ≡ Ok base → length base.checks ≡ length conditions
+base-checks : (declared : Declared) (conditions : List Condition) (d : Result (List Definition) ResolveFault) (c : Result Checks ResolveFault) (base : Base) → resolved_conditions declared ([], []) conditions ≡ c → if_resolved (λ definitions. if_resolved (λ checks. Ok (base_with declared definitions checks)) c) d ≡ Ok base → length base.checks ≡ length conditions
 base-checks declared conditions (Err f) c base is e = absurd (cc)
 base-checks declared conditions (Ok ds) (Err f) base is e = absurd (cc)
 base-checks declared conditions (Ok ds) (Ok checks) base is e =
@@ -152,7 +152,7 @@ base-checks declared conditions (Ok ds) (Ok checks) base is e =
 
 -- ---- limits
 
-base-cells : (declared : Declared) (d : Result (List Definition) ResolveFault) (c : Result Checks ResolveFault) (base : Base) → if_said (λ definitions. if_said (λ checks. Ok (base_with declared definitions checks)) c) d ≡ Ok base → base.cells ≡ length (owners_from 0 declared.variables)
+base-cells : (declared : Declared) (d : Result (List Definition) ResolveFault) (c : Result Checks ResolveFault) (base : Base) → if_resolved (λ definitions. if_resolved (λ checks. Ok (base_with declared definitions checks)) c) d ≡ Ok base → base.cells ≡ length (owners_from 0 declared.variables)
 base-cells declared (Err f) c base e = absurd (cc)
 base-cells declared (Ok ds) (Err f) base e = absurd (cc)
 base-cells declared (Ok ds) (Ok checks) base e =
@@ -195,7 +195,7 @@ pub few-cells : {texts : List Text} {application : List ℕ} {declared : Declare
 few-cells {texts} {application} {declared} {base} m =
     omega (
       arith,
-      base-cells declared (definitions_said declared [] (expansion m.items application declared).definitions) (conditions_said declared ([], []) (expansion m.items application declared).conditions) base m.resolves,
+      base-cells declared (resolved_definitions declared [] (expansion m.items application declared).definitions) (resolved_conditions declared ([], []) (expansion m.items application declared).conditions) base m.resolves,
       ap (λ (d : Declared). length (owners_from 0 d.variables)) m.symbols,
       owned 0 0 m.items,
       cells-within [] m.items m.declares.faultless (omega arith),
@@ -207,7 +207,7 @@ few-labels {texts} {application} {declared} {base} m =
     let plain = expansion m.items application declared in
     omega (
       arith,
-      base-labels declared plain.conditions (definitions_said declared [] plain.definitions) (conditions_said declared ([], []) plain.conditions) base refl m.resolves,
+      base-labels declared plain.conditions (resolved_definitions declared [] plain.definitions) (resolved_conditions declared ([], []) plain.conditions) base refl m.resolves,
       all-few declared 0 counted (or-none (least None (flat_map item_faults counted)) (too_many declared 0 counted) m.expands) (omega arith),
     )
 
@@ -217,6 +217,6 @@ few-checks {texts} {application} {declared} {base} m =
     let plain = expansion m.items application declared in
     omega (
       arith,
-      base-checks declared plain.conditions (definitions_said declared [] plain.definitions) (conditions_said declared ([], []) plain.conditions) base refl m.resolves,
+      base-checks declared plain.conditions (resolved_definitions declared [] plain.definitions) (resolved_conditions declared ([], []) plain.conditions) base refl m.resolves,
       all-few declared 0 counted (or-none (least None (flat_map item_faults counted)) (too_many declared 0 counted) m.expands) (omega arith),
     )

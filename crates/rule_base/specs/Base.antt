@@ -12,7 +12,7 @@ use Rattle.m_resolve.specs.Bases.{resolved}
 
 -- The texts say these items, and no declaration among them has a fault.
 pub record Declares (texts : List Text) (items : List Item) : Type 0 where
-  pub said : SayAll 0 texts items
+  pub stated : SayAll 0 texts items
   pub faultless : first_fault items ≡ None
 
 -- The texts declare this, and the rules of the application are this base over its cells: each loop is replaced by its instances, and

@@ -38,7 +38,7 @@ pub fn read_all<R: Threads + Sync, G: Gate + Sync>(
         size,
         &|start: usize, files: &[Text]| -> Result<Vec<Seq<Item>>, ReadFault>
             requires { (start + length files.now ≤ LIST_FILES) × EachIsWithin files.now }
-            ensures { Outcome Memory result (λ said. SayEach start files.entry.now said.items) (IsFirstFileFault start files.entry.now) }
+            ensures { Outcome Memory result (λ stated. SayEach start files.entry.now stated.items) (IsFirstFileFault start files.entry.now) }
         { read_files(alloc, start, files) },
     )??;
     Ok(Seq::from_vec(files))

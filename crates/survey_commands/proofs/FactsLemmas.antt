@@ -7,7 +7,7 @@ use Rattle.observables.specs.declared.inputs.Coded.{Coded}
 use Rattle.observables.specs.declared.face.FaceLabel.TheVariants.{Verif}
 use Rattle.m_symbols.specs.Declarations.{Declared}
 use Rattle.micro_m.specs.declared.base.Base.{Base}
-use Rattle.driver_core.specs.Inputs.{inputs_said}
+use Rattle.driver_core.specs.Inputs.{inputs_declared}
 use Rattle.household.specs.declared.fault.HouseholdFault.{HouseholdFault}
 use Rattle.household.specs.declared.fault.HouseholdFault.TheVariants as household
 use Rattle.m_compile.specs.Compiled.{IsCompiled}
@@ -23,8 +23,8 @@ use Rattle.command_plans.specs.Views.{OutputView}
 use Rattle.command_plans.specs.declared.status.Status.{Status}
 use Rattle.command_plans.specs.declared.status.Status.TheVariants.{Refused}
 use Rattle.code_answers.specs.Schemes.{Scheme}
-use Rattle.code_answers.specs.inner.Refusals.{TellsLine}
-use Rattle.code_answers.proofs.Refusals.{TellsRefusal, told_either}
+use Rattle.code_answers.specs.inner.Refusals.{ReportsLine}
+use Rattle.code_answers.proofs.Refusals.{ReportsRefusal, reported_either}
 use Rattle.code_answers.proofs.Ways.{answered_as}
 use Rattle.command_answers.specs.Sources.{IsScheme}
 use Rattle.survey_commands.specs.Facts.{FactsHaveAnswer, FactsReplies, facts_are_found, given_by, ranges_are_refused, ranges_fault_line, source_is_refused}
@@ -37,13 +37,13 @@ use Rattle.survey_commands.proofs.Schemes.{no_scheme_and_fault}
 pub same_inputs : (source : Source) (one other : Compiled) → IsCompiled source one → IsCompiled source other → one.face.inputs ≡ other.face.inputs
 same_inputs source one other is was =
     let same = (one_validity source is.declared was.declared is.base was.base is.written was.written is.requests was.requests is.valid was.valid).0 in
-    is.inputs ∙ ap inputs_said same ∙ sym was.inputs
+    is.inputs ∙ ap inputs_declared same ∙ sym was.inputs
 
 -- and they are those of its scheme
 pub scheme_inputs : (source : Source) (scheme : Scheme) (compiled : Compiled) → IsScheme source scheme → IsCompiled source compiled → compiled.face.inputs ≡ scheme.inputs
 scheme_inputs source scheme compiled v is =
     let same = (one_validity source is.declared v.declared is.base v.base is.written v.written is.requests v.requests is.valid v.valid).0 in
-    is.inputs ∙ ap inputs_said same ∙ sym (ap (λ (s : Scheme). s.inputs) v.said)
+    is.inputs ∙ ap inputs_declared same ∙ sym (ap (λ (s : Scheme). s.inputs) v.stated)
 
 -- the first labels are those of the base
 pub labels_first : (source : Source) (declared : Declared) (base : Base) (compiled : Compiled) → HasRules source declared base → IsCompiled source compiled
@@ -55,22 +55,22 @@ labels_first source declared base compiled rules is =
 -- ---- from what was told to what is answered
 
 pub facts_refused : (source : Source) (ranges : Option (List ℕ)) (fault : SourceFault) (old new : OutputView) (status : Status)
-    → TellsRefusal (λ line. IsSourceFault source fault × (source_line source.texts fault ≡ Some line)) old new status → IsAnswered (FactsReplies source ranges) old new status
+    → ReportsRefusal (λ line. IsSourceFault source fault × (source_line source.texts fault ≡ Some line)) old new status → IsAnswered (FactsReplies source ranges) old new status
 facts_refused source ranges fault old new status (inl (line, is, shown)) = printed line Refused (source_is_refused fault is.0 is.1) tt shown
 facts_refused source ranges fault old new status (inr (same, memory)) = no_memory same memory
 
-ranges_told : (fault : HouseholdFault) {IsFault : Type 0} (old new : OutputView) (status : Status) → (fault ≢ household.Memory → IsFault) → TellsLine (ranges_fault_line fault) old new status
-    → TellsRefusal (λ line. IsFault × (ranges_fault_line fault ≡ Some line)) old new status
-ranges_told fault old new status h told = told_either (ranges_fault_line fault) (ranges_fault_line fault) old new status refl h (λ m. ap ranges_fault_line m) told
+ranges_reported : (fault : HouseholdFault) {IsFault : Type 0} (old new : OutputView) (status : Status) → (fault ≢ household.Memory → IsFault) → ReportsLine (ranges_fault_line fault) old new status
+    → ReportsRefusal (λ line. IsFault × (ranges_fault_line fault ≡ Some line)) old new status
+ranges_reported fault old new status h reported = reported_either (ranges_fault_line fault) (ranges_fault_line fault) old new status refl h (λ m. ap ranges_fault_line m) reported
 
 refused_by : (base : Base) (compiled : Compiled) (ranges : Option (List ℕ)) (fault : HouseholdFault) (old new : OutputView) (status : Status)
-    → TellsRefusal (λ line. (given_by compiled.face.inputs ranges ≡ Err fault) × (ranges_fault_line fault ≡ Some line)) old new status → IsAnswered (IsFactsOf base compiled ranges) old new status
+    → ReportsRefusal (λ line. (given_by compiled.face.inputs ranges ≡ Err fault) × (ranges_fault_line fault ≡ Some line)) old new status → IsAnswered (IsFactsOf base compiled ranges) old new status
 refused_by base compiled ranges fault old new status (inl (line, is, shown)) = printed line Refused (are_refused fault is.0 is.1) tt shown
 refused_by base compiled ranges fault old new status (inr (same, memory)) = no_memory same memory
 
 pub ranges_refused : (base : Base) (compiled : Compiled) (ranges : Option (List ℕ)) (fault : HouseholdFault) (old new : OutputView) (status : Status)
-    → (fault ≢ household.Memory → given_by compiled.face.inputs ranges ≡ Err fault) → TellsLine (ranges_fault_line fault) old new status → IsAnswered (IsFactsOf base compiled ranges) old new status
-ranges_refused base compiled ranges fault old new status h told = refused_by base compiled ranges fault old new status (ranges_told fault old new status h told)
+    → (fault ≢ household.Memory → given_by compiled.face.inputs ranges ≡ Err fault) → ReportsLine (ranges_fault_line fault) old new status → IsAnswered (IsFactsOf base compiled ranges) old new status
+ranges_refused base compiled ranges fault old new status h reported = refused_by base compiled ranges fault old new status (ranges_reported fault old new status h reported)
 
 pub found_answered : (base : Base) (compiled : Compiled) (ranges : Option (List ℕ)) (given : List Possible) (old new : OutputView) (status : Status) → given_by compiled.face.inputs ranges ≡ Ok given
     → IsAnswered (IsFactsBy base compiled given) old new status → IsAnswered (IsFactsOf base compiled ranges) old new status

@@ -35,14 +35,14 @@ use Rattle.command_plans.specs.declared.status.Status.{Status}
 use Rattle.command_plans.specs.declared.status.Status.TheVariants.{Done, Refused}
 use Rattle.code_answers.specs.Execs.{code_fault_line}
 use Rattle.code_answers.specs.Households.{household_fault_line}
-use Rattle.code_answers.specs.Schemes.{Scheme, told_to}
+use Rattle.code_answers.specs.Schemes.{Scheme, observation_for}
 use Rattle.code_answers.specs.Shown.{Shows}
 use Rattle.survey_commands.specs.Answer.{Replies}
 use Rattle.survey_commands.specs.Command.{plan_of}
 use Rattle.survey_commands.specs.Csv.{field_text}
 use Rattle.survey_commands.specs.Output.{Output, usage, refuses, answers, AreOneOutput, both_cycles, both_found, both_recursions, the_same}
-use Rattle.survey_commands.specs.Records.{header, rows_records, table_text, told_fields}
-use Rattle.survey_commands.specs.Tables.{CodeReplies, SchemeReplies, SourceReplies, code_answers, code_is_refused, rows_are_told, source_answers, source_is_refused, table_is_refused}
+use Rattle.survey_commands.specs.Records.{header, rows_records, table_text, observation_fields}
+use Rattle.survey_commands.specs.Tables.{CodeReplies, SchemeReplies, SourceReplies, code_answers, code_is_refused, rows_are_answered, source_answers, source_is_refused, table_is_refused}
 use Rattle.survey_commands.specs.declared.command.Command.{Command}
 use Rattle.survey_commands.specs.declared.work.Work.{Work}
 use Rattle.survey_commands.specs.declared.work.Work.TheVariants.{Table, Facts, CodeTable, Version}
@@ -82,7 +82,7 @@ AreGiven scheme rows = AllByRecursion (λ row. AreValuesOf scheme.inputs (values
 -- two schemes of one program tell a row the same
 row_same : (face : Face) (runs : List Value → Answer) (one other : Scheme) (row : Row) → Shows one face runs → Shows other face runs
     → AreValuesOf one.inputs (values_of row.household.pairs (length one.inputs)) → AreValuesOf other.inputs (values_of row.household.pairs (length other.inputs))
-    → told_to one row.household.pairs ≡ told_to other row.household.pairs
+    → observation_for one row.household.pairs ≡ observation_for other row.household.pairs
 row_same face runs one other row a b g h =
     let n : length one.inputs ≡ length other.inputs = ap length (one_inputs face runs one other a b) in
     let x = a.answers (values_of row.household.pairs (length one.inputs)) g in
@@ -94,9 +94,9 @@ rows_same : (face : Face) (runs : List Value → Answer) (one other : Scheme) (r
 rows_same face runs one other [] a b g h = refl
 rows_same face runs one other (row ∷ rows) a b g h =
     let names : one.names ≡ other.names = sym a.names ∙ b.names in
-    let told = row_same face runs one other row a b g.0 h.0 in
+    let reported = row_same face runs one other row a b g.0 h.0 in
     let rest = rows_same face runs one other rows a b g.1 h.1 in
-    λ i. (field_text row.label ++ told_fields (names i) (told i)) ++ rest i
+    λ i. (field_text row.label ++ observation_fields (names i) (reported i)) ++ rest i
 
 text_same : (face : Face) (runs : List Value → Answer) (one other : Scheme) (rows : List Row) → Shows one face runs → Shows other face runs → AreGiven one rows → AreGiven other rows
     → table_text one rows ≡ table_text other rows
@@ -112,13 +112,13 @@ one_answer face runs one other table t u s r a b (table_is_refused fault g k) (t
     let f : table_of other.inputs table ≡ Err fault = subst (λ inputs. table_of inputs table ≡ Err fault) (one_inputs face runs one other a b) g in
     let e : fault ≡ also = cc (f, h) in
     the_same (same_line fault also t u e k l) refl
-one_answer face runs one other table t u s r a b (table_is_refused fault g k) (rows_are_told rows h) =
+one_answer face runs one other table t u s r a b (table_is_refused fault g k) (rows_are_answered rows h) =
     let f : table_of other.inputs table ≡ Err fault = subst (λ inputs. table_of inputs table ≡ Err fault) (one_inputs face runs one other a b) g in
     cc (f, h)
-one_answer face runs one other table t u s r a b (rows_are_told rows g) (table_is_refused fault h k) =
+one_answer face runs one other table t u s r a b (rows_are_answered rows g) (table_is_refused fault h k) =
     let f : table_of other.inputs table ≡ Ok rows = subst (λ inputs. table_of inputs table ≡ Ok rows) (one_inputs face runs one other a b) g in
     cc (f, h)
-one_answer face runs one other table t u s r a b (rows_are_told rows g) (rows_are_told others h) =
+one_answer face runs one other table t u s r a b (rows_are_answered rows g) (rows_are_answered others h) =
     let f : table_of other.inputs table ≡ Ok rows = subst (λ inputs. table_of inputs table ≡ Ok rows) (one_inputs face runs one other a b) g in
     let p : rows ≡ others = cc (f, h) in
     the_same (text_same face runs one other rows a b (table_gives one.inputs table rows g) (table_gives other.inputs table rows f) ∙ ap (table_text other) p) refl
@@ -126,9 +126,9 @@ one_answer face runs one other table t u s r a b (rows_are_told rows g) (rows_ar
 -- a scheme answers a table in one way
 one_reply_of : (scheme : Scheme) (table t u : List ℕ) (s r : Status) → SchemeReplies scheme table t s → SchemeReplies scheme table u r → AreOneOutput t s u r
 one_reply_of scheme table t u s r (table_is_refused fault g k) (table_is_refused other h l) = the_same (same_line fault other t u (cc (g, h)) k l) refl
-one_reply_of scheme table t u s r (table_is_refused fault g k) (rows_are_told rows h) = cc (g, h)
-one_reply_of scheme table t u s r (rows_are_told rows g) (table_is_refused other h l) = cc (g, h)
-one_reply_of scheme table t u s r (rows_are_told rows g) (rows_are_told others h) =
+one_reply_of scheme table t u s r (table_is_refused fault g k) (rows_are_answered rows h) = cc (g, h)
+one_reply_of scheme table t u s r (rows_are_answered rows g) (table_is_refused other h l) = cc (g, h)
+one_reply_of scheme table t u s r (rows_are_answered rows g) (rows_are_answered others h) =
     let e : rows ≡ others = cc (g, h) in
     the_same (ap (table_text scheme) e) refl
 
@@ -156,9 +156,9 @@ same_ranges_line fault other t u e a b =
     cc (c, b)
 
 -- the ranges say the same by what a source is compiled to once and again
-given_again : (source : Source) (ranges : Option (List ℕ)) (one other : Compiled) (said : Result (List Possible) HouseholdFault) → IsCompiled source one → IsCompiled source other
-    → given_by one.face.inputs ranges ≡ said → given_by other.face.inputs ranges ≡ said
-given_again source ranges one other said is was h = subst (λ inputs. given_by inputs ranges ≡ said) (same_inputs source one other is was) h
+given_again : (source : Source) (ranges : Option (List ℕ)) (one other : Compiled) (stated : Result (List Possible) HouseholdFault) → IsCompiled source one → IsCompiled source other
+    → given_by one.face.inputs ranges ≡ stated → given_by other.face.inputs ranges ≡ stated
+given_again source ranges one other stated is was h = subst (λ inputs. given_by inputs ranges ≡ stated) (same_inputs source one other is was) h
 
 one_facts : (source : Source) (ranges : Option (List ℕ)) (t u : List ℕ) (s r : Status) → FactsReplies source ranges t s → FactsReplies source ranges u r → AreOneOutput t s u r
 one_facts source ranges t u s r (facts.source_is_refused fault f k) (facts.source_is_refused other g l) = one_line source.texts fault other t u (one_fault source fault other f g) k l

@@ -13,9 +13,9 @@ use Rattle.observables.specs.declared.answer.Stop.{Stop}
 use Rattle.observables.specs.declared.face.FaceLabel.{FaceLabel}
 use Rattle.observables.specs.declared.face.FaceOutput.{FaceOutput}
 use Rattle.observables.specs.declared.face.FaceOutput.TheVariants.{Named, Noted}
-use Rattle.observables.specs.Answers.{cause_of, note_told, notes_told, stopped}
+use Rattle.observables.specs.Answers.{cause_of, reported_note, reported_notes, stopped}
 use Rattle.observables.specs.Outputs.{are_named, names_of, notes_of, notes_stand_first}
-use Rattle.survey_commands.specs.Records.{cause_field, empty_fields, more_notes, name_fields, told_fields, value_field, value_fields}
+use Rattle.survey_commands.specs.Records.{cause_field, empty_fields, more_notes, name_fields, observation_fields, value_field, value_fields}
 use Rattle.survey_commands.specs.inner.Outputs.{note_text, output_empties, output_names, output_note, output_notes, output_value, output_values}
 
 -- ---- from one of them on
@@ -36,10 +36,10 @@ no_values (output ∷ outputs) = refl
 pub values_end : (outputs : List FaceOutput) (vs : List Value) (k : ℕ) → length vs ≤ k → output_values (drop k outputs) (drop k vs) ≡ []
 values_end outputs vs k h = ap (λ left. output_values (drop k outputs) left) (drop_all k vs h) ∙ no_values (drop k outputs)
 
-pub notes_at : (some : Bool) (labels : List FaceLabel) (outputs : List FaceOutput) (vs : List Value) (k : ℕ) (output e : FaceOutput) (v d : Value) (told : Option Label) → k < length outputs → k < length vs
-    → output ≡ get_or outputs k e → v ≡ get_or vs k d → told ≡ output_note labels output v
-    → output_notes some labels (drop k outputs) (drop k vs) ≡ note_text some told ++ output_notes (some || is_some told) labels (drop (k + 1) outputs) (drop (k + 1) vs)
-notes_at some labels outputs vs k output e v d told outputs_in values_in is_output is_value is_note =
+pub notes_at : (some : Bool) (labels : List FaceLabel) (outputs : List FaceOutput) (vs : List Value) (k : ℕ) (output e : FaceOutput) (v d : Value) (reported : Option Label) → k < length outputs → k < length vs
+    → output ≡ get_or outputs k e → v ≡ get_or vs k d → reported ≡ output_note labels output v
+    → output_notes some labels (drop k outputs) (drop k vs) ≡ note_text some reported ++ output_notes (some || is_some reported) labels (drop (k + 1) outputs) (drop (k + 1) vs)
+notes_at some labels outputs vs k output e v d reported outputs_in values_in is_output is_value is_note =
     let rest : Option Label → List ℕ = λ n. note_text some n ++ output_notes (some || is_some n) labels (drop (k + 1) outputs) (drop (k + 1) vs) in
     ap (λ left. output_notes some labels left (drop k vs)) (drop_more outputs k e outputs_in)
     ∙ ap (λ left. output_notes some labels (get_or outputs k e ∷ drop (k + 1) outputs) left) (drop_more vs k d values_in)
@@ -99,27 +99,27 @@ named_notes true labels (Named name ∷ outputs) (v ∷ vs) h = named_notes true
 named_notes false labels (Named name ∷ outputs) (v ∷ vs) h = named_notes false labels outputs vs h
 named_notes some labels (Noted number ∷ outputs) vs h = absurd (false≢true h)
 
-one_note : (some : Bool) (told : Option Label) (labels : List Label) → more_notes some (cons_option told labels) ≡ note_text some told ++ more_notes (some || is_some told) labels
+one_note : (some : Bool) (reported : Option Label) (labels : List Label) → more_notes some (cons_option reported labels) ≡ note_text some reported ++ more_notes (some || is_some reported) labels
 one_note true None labels = refl
 one_note false None labels = refl
 one_note true (Some label) labels = refl
 one_note false (Some label) labels = refl
 
 pub notes_are : (some : Bool) (labels : List FaceLabel) (outputs : List FaceOutput) (vs : List Value) → notes_stand_first labels outputs ≡ true
-    → output_notes some labels outputs vs ≡ more_notes some (notes_told labels (notes_of outputs) vs)
+    → output_notes some labels outputs vs ≡ more_notes some (reported_notes labels (notes_of outputs) vs)
 notes_are some labels [] vs h = refl
 notes_are some labels (Named name ∷ outputs) vs h =
-    named_notes some labels (Named name ∷ outputs) vs h ∙ ap (λ notes. more_notes some (notes_told labels notes vs)) (sym (none_noted outputs h))
+    named_notes some labels (Named name ∷ outputs) vs h ∙ ap (λ notes. more_notes some (reported_notes labels notes vs)) (sym (none_noted outputs h))
 notes_are some labels (Noted number ∷ outputs) [] h = refl
 notes_are some labels (Noted number ∷ outputs) (v ∷ vs) h =
-    ap (λ rest. note_text some (note_told labels number v) ++ rest) (notes_are (some || is_some (note_told labels number v)) labels outputs vs (and_parts _ _ h).1)
-    ∙ sym (one_note some (note_told labels number v) (notes_told labels (notes_of outputs) vs))
+    ap (λ rest. note_text some (reported_note labels number v) ++ rest) (notes_are (some || is_some (reported_note labels number v)) labels outputs vs (and_parts _ _ h).1)
+    ∙ sym (one_note some (reported_note labels number v) (reported_notes labels (notes_of outputs) vs))
 
 -- ---- stops
 
 -- the fields of a stop, where it has a label
 pub stop_fields : (names : List (List ℕ)) (labels : List FaceLabel) (stop : Stop) (found : Option FaceLabel) (label : FaceLabel) → found ≡ Some label
-    → option_map_or (told_fields names) (option_map (λ label. stopped (cause_of stop label)) found) []
+    → option_map_or (observation_fields names) (option_map (λ label. stopped (cause_of stop label)) found) []
     ≡ joined (codes "," ∷ option_map_or (λ label. cause_field (cause_of stop label)) found [] ∷ codes "," ∷ empty_fields names ∷ new_line ∷ [])
 stop_fields names labels stop None label is = cc is
 stop_fields names labels stop (Some found) label is = refl

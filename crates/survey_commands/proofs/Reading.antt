@@ -25,7 +25,7 @@ use Rattle.survey_commands.specs.Output.{fetches_of}
 use Rattle.survey_commands.specs.declared.command.Command.{Command}
 use Rattle.survey_commands.specs.declared.work.Work.{Work}
 use Rattle.survey_commands.specs.inner.Courses.{Course, is_no_command, has_no_memory, ended, answered}
-use Rattle.survey_commands.proofs.Ways.{Way, way_of, tells, lacks_memory, breaks_off}
+use Rattle.survey_commands.proofs.Ways.{Way, way_of, observe, lacks_memory, breaks_off}
 
 abbrev first_or : Attempt → List Attempt → Attempt
 first_or a [] = a
@@ -43,14 +43,14 @@ none_last (m ∷ made) (b ∷ before) name h e = none_last made before name h.1 
 
 -- the names that a command tried, in order
 in_order_of : (words : List (List ℕ)) (before after : FilesView) (command : Command) (result : Result Work Ending) (disk : Disk) → command_of words ≡ Some command
-    → (g : GoesAlong (plan_of command) before after result) → before.told ≡ Some disk → BeginsWith (fetches_of words disk) (names_tried g.made)
+    → (g : GoesAlong (plan_of command) before after result) → before.known_files ≡ Some disk → BeginsWith (fetches_of words disk) (names_tried g.made)
 in_order_of words before after command result disk c g t =
-    let r = walks_in_order before.told disk (plan_of command) g.made g.spent result g.walk t in
+    let r = walks_in_order before.known_files disk (plan_of command) g.made g.spent result g.walk t in
     (r.0, ap (λ o. option_map_or (λ (x : Command). names_fetched disk (plan_of x)) o []) c ∙ r.1)
 
 -- no attempt failed
 reading_none : (words : List (List ℕ)) (before after : FilesView) (old new : OutputView) (status : Status) (made : List Attempt) → after.attempts ≡ before.attempts ++ made
-    → ((disk : Disk) → before.told ≡ Some disk → BeginsWith (fetches_of words disk) (names_tried made)) → NoneFailed made → (status ≡ ReadFault → ⊥)
+    → ((disk : Disk) → before.known_files ≡ Some disk → BeginsWith (fetches_of words disk) (names_tried made)) → NoneFailed made → (status ≡ ReadFault → ⊥)
     → ReadsInOrder words before after old new status
 reading_none words before after old new status made a i n r = record {
   made = made;
@@ -72,15 +72,15 @@ still words before after old new status s r =
     reading_none words before after old new status [] (ap (λ (v : FilesView). v.attempts) s ∙ sym (append-nil before.attempts)) (λ disk t. (fetches_of words disk, refl)) tt r
 
 -- the last attempt failed, and was told
-last_told : (words : List (List ℕ)) (before after : FilesView) (old new : OutputView) (status : Status) (command : Command) (name : List ℕ) → command_of words ≡ Some command
+last_reported : (words : List (List ℕ)) (before after : FilesView) (old new : OutputView) (status : Status) (command : Command) (name : List ℕ) → command_of words ≡ Some command
     → GoesAlong (plan_of command) before after (Err (ending.Unreadable name)) → Prints (unreadable_line name) ReadFault old new status → ReadsInOrder words before after old new status
-last_told words before after old new status command name c g p = record {
+last_reported words before after old new status command name c g p = record {
   made = g.made;
   appended = g.attempts;
   in_order = λ disk t. in_order_of words before after command (Err (ending.Unreadable name)) disk c g t;
-  at_most_last = inr (name, walks_fit before.told (plan_of command) g.made g.spent (Err (ending.Unreadable name)) g.walk);
+  at_most_last = inr (name, walks_fit before.known_files (plan_of command) g.made g.spent (Err (ending.Unreadable name)) g.walk);
   failed = λ other l. either p;
-  cause = λ e. (name, walks_fit before.told (plan_of command) g.made g.spent (Err (ending.Unreadable name)) g.walk, whole p e);
+  cause = λ e. (name, walks_fit before.known_files (plan_of command) g.made g.spent (Err (ending.Unreadable name)) g.walk, whole p e);
 }
   where
     either : Prints (unreadable_line name) ReadFault old new status → (status ≡ ReadFault) ⊎ (status ≡ WriteFault)
@@ -92,7 +92,7 @@ last_told words before after old new status command name c g p = record {
     whole (inr q) e = cc (q.1, e)
 
 reading_way : (work : Work) (old new : OutputView) (status : Status) → Way work old new status → status ≡ ReadFault → ⊥
-reading_way work old new status (tells text own r o p) e = not_read text own old new status (λ x. subst IsOfEnd x o) p e
+reading_way work old new status (observe text own r o p) e = not_read text own old new status (λ x. subst IsOfEnd x o) p e
 reading_way work old new status (lacks_memory n m) e = cc (m, e)
 reading_way work old new status (breaks_off text own r b a n m) e = cc (m, e)
 
@@ -101,11 +101,11 @@ reading_of words before after old new status (is_no_command n s p) = still words
 reading_of words before after old new status (has_no_memory s o m) = still words before after old new status s (λ e. cc (m, e))
 reading_of words before after old new status (ended command (ending.Refused refusal) c g p) =
     reading_none words before after old new status g.made g.attempts (λ disk t. in_order_of words before after command _ disk c g t)
-    (walks_fit before.told (plan_of command) g.made g.spent (Err (ending.Refused refusal)) g.walk) (not_read (refusal_line refusal) Refused old new status (λ x. cc) p)
-reading_of words before after old new status (ended command (ending.Unreadable name) c g p) = last_told words before after old new status command name c g p
+    (walks_fit before.known_files (plan_of command) g.made g.spent (Err (ending.Refused refusal)) g.walk) (not_read (refusal_line refusal) Refused old new status (λ x. cc) p)
+reading_of words before after old new status (ended command (ending.Unreadable name) c g p) = last_reported words before after old new status command name c g p
 reading_of words before after old new status (ended command ending.Memory c g p) =
     reading_none words before after old new status g.made g.attempts (λ disk t. in_order_of words before after command _ disk c g t)
-    (walks_fit before.told (plan_of command) g.made g.spent (Err ending.Memory) g.walk) (λ e. cc (p.1, e))
+    (walks_fit before.known_files (plan_of command) g.made g.spent (Err ending.Memory) g.walk) (λ e. cc (p.1, e))
 reading_of words before after old new status (answered command work c g k a) =
     reading_none words before after old new status g.made g.attempts (λ disk t. in_order_of words before after command _ disk c g t)
-    (walks_fit before.told (plan_of command) g.made g.spent (Ok work) g.walk) (reading_way work old new status (way_of work old new status a))
+    (walks_fit before.known_files (plan_of command) g.made g.spent (Ok work) g.walk) (reading_way work old new status (way_of work old new status a))

@@ -2,7 +2,7 @@
 use Rattle.std.proofs.Common.{◌≡◌, ℕ, List, sym, ap, ◌∙◌}
 use Rattle.m_fixed.specs.declared.amount.Value.{Value}
 use Rattle.m_places.specs.declared.source.Source.{Source}
-use Rattle.observables.specs.Answers.{told_of}
+use Rattle.observables.specs.Answers.{observation}
 use Rattle.observables.specs.Outputs.{names_of, notes_of}
 use Rattle.observables.specs.declared.answer.Answer.{Answer}
 use Rattle.observables.specs.declared.face.Face.{Face}
@@ -16,13 +16,13 @@ use Rattle.m_compile.specs.declared.fault.SourceFault.{SourceFault}
 use Rattle.m_compile.proofs.OneLaws.{no_valid_and_fault, one_validity}
 use Rattle.code_answers.specs.Schemes.{Scheme}
 use Rattle.code_answers.specs.Shown.{Shows}
-use Rattle.command_answers.specs.Sources.{IsScheme, scheme_said}
+use Rattle.command_answers.specs.Sources.{IsScheme, source_scheme}
 
 -- a source has one scheme
 pub one_scheme : (source : Source) (one other : Scheme) → IsScheme source one → IsScheme source other → one ≡ other
 one_scheme source one other a b =
     let same = one_validity source a.declared b.declared a.base b.base a.written b.written a.requests b.requests a.valid b.valid in
-    a.said ∙ (λ i. scheme_said (same.0 i) (same.1 i) (same.2 i) (same.3 i)) ∙ sym b.said
+    a.stated ∙ (λ i. source_scheme (same.0 i) (same.1 i) (same.2 i) (same.3 i)) ∙ sym b.stated
 
 -- a source that has a scheme has no fault
 pub no_scheme_and_fault : (source : Source) (scheme : Scheme) (fault : SourceFault) → IsScheme source scheme → IsSourceFault source fault → ⊥
@@ -52,5 +52,5 @@ pub shown_other : (scheme : Scheme) (one other : Loaded) → IsSameCode one othe
 shown_other scheme one other same s = record {
   inputs = sym same.inputs ∙ s.inputs;
   names = ap names_of (sym same.outputs) ∙ s.names;
-  answers = λ values given. (λ i. told_of (sym same.labels i) (notes_of (sym same.outputs i)) (machine_run (sym same.code i) values)) ∙ s.answers values given;
+  answers = λ values given. (λ i. observation (sym same.labels i) (notes_of (sym same.outputs i)) (machine_run (sym same.code i) values)) ∙ s.answers values given;
 }

@@ -78,14 +78,14 @@ taken_of words before after old new status (is_no_command n s p) = still (limit_
 taken_of words before after old new status (has_no_memory s o m) = still (limit_of words) before after status s
 taken_of words before after old new status (ended command (ending.Refused refusal) c g p) =
     of_command words command before after status c (without (file_limit command) before after g.made g.spent status g.attempts g.taken
-    (walks_within before.told (file_limit command) (plan_of command) g.made g.spent (Err (ending.Refused refusal)) (keeps_limit command) g.walk))
+    (walks_within before.known_files (file_limit command) (plan_of command) g.made g.spent (Err (ending.Refused refusal)) (keeps_limit command) g.walk))
 taken_of words before after old new status (ended command (ending.Unreadable name) c g p) =
     of_command words command before after status c (without (file_limit command) before after g.made g.spent status g.attempts g.taken
-    (walks_within before.told (file_limit command) (plan_of command) g.made g.spent (Err (ending.Unreadable name)) (keeps_limit command) g.walk))
+    (walks_within before.known_files (file_limit command) (plan_of command) g.made g.spent (Err (ending.Unreadable name)) (keeps_limit command) g.walk))
 taken_of words before after old new status (ended command ending.Memory c g p) =
     of_command words command before after status c (subst (λ (s : Status). TakesWithin (file_limit command) before after s) (sym p.1)
     (within (file_limit command) before after g.made g.spent (file_limit command + 1) g.attempts g.taken
-    (walks_within before.told (file_limit command) (plan_of command) g.made g.spent (Err ending.Memory) (keeps_limit command) g.walk)))
+    (walks_within before.known_files (file_limit command) (plan_of command) g.made g.spent (Err ending.Memory) (keeps_limit command) g.walk)))
 taken_of words before after old new status (answered command work c g k a) =
     of_command words command before after status c (without (file_limit command) before after g.made g.spent status g.attempts g.taken
-    (walks_within before.told (file_limit command) (plan_of command) g.made g.spent (Ok work) (keeps_limit command) g.walk))
+    (walks_within before.known_files (file_limit command) (plan_of command) g.made g.spent (Ok work) (keeps_limit command) g.walk))

@@ -21,7 +21,7 @@ use Rattle.survey_commands.specs.Answer.{Replies, HasAnswer}
 use Rattle.survey_commands.specs.Command.{command_of, plan_of}
 use Rattle.survey_commands.specs.Clauses.{AnswersValid}
 use Rattle.survey_commands.specs.Output.{IsValidCommand}
-use Rattle.survey_commands.specs.Tables.{SchemeReplies, code_answers, code_is_refused, rows_are_told, source_answers, source_is_refused, table_is_refused}
+use Rattle.survey_commands.specs.Tables.{SchemeReplies, code_answers, code_is_refused, rows_are_answered, source_answers, source_is_refused, table_is_refused}
 use Rattle.survey_commands.specs.declared.command.Command.{Command}
 use Rattle.survey_commands.specs.declared.work.Work.{Work}
 use Rattle.survey_commands.specs.declared.work.Work.TheVariants.{Table, Facts, CodeTable, Version}
@@ -29,12 +29,12 @@ use Rattle.survey_commands.specs.inner.Courses.{Course, is_no_command, has_no_me
 use Rattle.survey_commands.proofs.Clauses.{asking, gathers}
 use Rattle.survey_commands.proofs.FactsLemmas.{facts_complete}
 use Rattle.survey_commands.proofs.Schemes.{no_form_and_fault, no_scheme_and_fault, one_loaded, one_scheme}
-use Rattle.survey_commands.proofs.Ways.{Way, way_of, tells, lacks_memory, breaks_off}
+use Rattle.survey_commands.proofs.Ways.{Way, way_of, observe, lacks_memory, breaks_off}
 
 -- a table without a fault isn't refused
 table_complete : (scheme : Scheme) (table text : List ℕ) (status : Status) (rows : List Row) → table_of scheme.inputs table ≡ Ok rows → SchemeReplies scheme table text status → IsComplete status
 table_complete scheme table text status rows g (table_is_refused fault h k) = cc (g, h)
-table_complete scheme table text status rows g (rows_are_told others h) = tt
+table_complete scheme table text status rows g (rows_are_answered others h) = tt
 
 -- what has an answer is answered, and not refused
 replies_complete : (work : Work) (text : List ℕ) (status : Status) → HasAnswer work → Replies work text status → IsComplete status
@@ -77,7 +77,7 @@ complete text own old new status (inl p) d q = subst IsComplete (sym p.1) d
 complete text own old new status (inr p) d q = absurd (q p.0.1)
 
 complete_way : (work : Work) (old new : OutputView) (status : Status) → HasAnswer work → (Rose old.faults new.faults → ⊥) → Way work old new status → IsComplete status
-complete_way work old new status h out (tells text own r o p) = complete text own old new status p (replies_complete work text own h r) out
+complete_way work old new status h out (observe text own r o p) = complete text own old new status p (replies_complete work text own h r) out
 complete_way work old new status h out (lacks_memory n m) = subst IsComplete (sym m) tt
 complete_way work old new status h out (breaks_off text own r b a n m) = subst IsComplete (sym m) tt
 
@@ -85,9 +85,9 @@ pub complete_of : (words : List (List ℕ)) (before after : FilesView) (old new 
 complete_of words before after old new status (is_no_command n s p) disk t valid quiet = let i = valid.is_command in cc (n, i)
 complete_of words before after old new status (has_no_memory s o m) disk t valid quiet = subst IsComplete (sym m) tt
 complete_of words before after old new status (ended command (ending.Refused refusal) c g p) disk t valid quiet =
-    absurd (not_refused words disk command (refusal_line refusal) valid c (walks_to_end before.told disk (plan_of command) g.made g.spent (Err (ending.Refused refusal)) g.walk (asking words disk before command t c)))
+    absurd (not_refused words disk command (refusal_line refusal) valid c (walks_to_end before.known_files disk (plan_of command) g.made g.spent (Err (ending.Refused refusal)) g.walk (asking words disk before command t c)))
 complete_of words before after old new status (ended command (ending.Unreadable name) c g p) disk t valid quiet =
-    absurd (quiet.0 (inl (rose before after g.made name g.attempts (walks_fit before.told (plan_of command) g.made g.spent (Err (ending.Unreadable name)) g.walk))))
+    absurd (quiet.0 (inl (rose before after g.made name g.attempts (walks_fit before.known_files (plan_of command) g.made g.spent (Err (ending.Unreadable name)) g.walk))))
 complete_of words before after old new status (ended command ending.Memory c g p) disk t valid quiet = subst IsComplete (sym p.1) tt
 complete_of words before after old new status (answered command work c g k a) disk t valid quiet =
     complete_way work old new status (has_answer words disk command work valid c (gathers words disk before after command work t c g)) quiet.1 (way_of work old new status a)

@@ -29,7 +29,7 @@ use Rattle.code_answers.specs.Parts.{IsWrittenInParts}
 use Rattle.code_answers.specs.Parts as parts
 use Rattle.code_answers.specs.Schemes.{Scheme}
 use Rattle.code_answers.specs.Shown.{Shows}
-use Rattle.code_answers.proofs.Refusals.{TellsRefusal}
+use Rattle.code_answers.proofs.Refusals.{ReportsRefusal}
 use Rattle.code_answers.proofs.Ways.{parts_as}
 use Rattle.command_answers.specs.Prepared.{IsPreparedCode}
 use Rattle.survey_commands.specs.Answer.{Replies}
@@ -44,14 +44,14 @@ use Rattle.survey_commands.specs.inner.Courses.{IsWorkOf, WorkIsAnswered, work_i
 -- ---- tables
 
 pub table_refused : (scheme : Scheme) (face : Face) (runs : List Value → Answer) (table : List ℕ) (fault : HouseholdFault) (old new : OutputView) (status : Status) → Shows scheme face runs
-    → TellsRefusal (λ line. (table_of face.inputs table ≡ Err fault) × (household_fault_line fault ≡ Some line)) old new status
+    → ReportsRefusal (λ line. (table_of face.inputs table ≡ Err fault) × (household_fault_line fault ≡ Some line)) old new status
     → IsWrittenInParts (SchemeReplies scheme table) old new status
 table_refused scheme face runs table fault old new status shown (inl (line, refused, p)) =
     parts.printed line Refused (table_is_refused fault (subst (λ inputs. table_of inputs table ≡ Err fault) shown.inputs refused.0) refused.1) tt p
 table_refused scheme face runs table fault old new status shown (inr (same, memory)) = parts.no_memory same memory
 
 pub source_refused : (source : Source) (table : List ℕ) (fault : SourceFault) (old new : OutputView) (status : Status)
-    → TellsRefusal (λ line. IsSourceFault source fault × (source_line source.texts fault ≡ Some line)) old new status → IsWrittenInParts (SourceReplies source table) old new status
+    → ReportsRefusal (λ line. IsSourceFault source fault × (source_line source.texts fault ≡ Some line)) old new status → IsWrittenInParts (SourceReplies source table) old new status
 source_refused source table fault old new status (inl (line, is, shown)) = parts.printed line Refused (source_is_refused fault is.0 is.1) tt shown
 source_refused source table fault old new status (inr (same, memory)) = parts.no_memory same memory
 
@@ -60,7 +60,7 @@ pub source_answered : (source : Source) (loaded : Loaded) (table : List ℕ) (ol
 source_answered source loaded table old new status is a =
     parts_as (SchemeReplies is.scheme table) (SourceReplies source table) old new status (λ text own replied. source_answers is.scheme is.valid replied) a
 
-pub code_refused : (code table : List ℕ) (fault : CodeFault) (old new : OutputView) (status : Status) → TellsRefusal (λ line. IsCodeFault code fault × (code_fault_line fault ≡ Some line)) old new status
+pub code_refused : (code table : List ℕ) (fault : CodeFault) (old new : OutputView) (status : Status) → ReportsRefusal (λ line. IsCodeFault code fault × (code_fault_line fault ≡ Some line)) old new status
     → IsWrittenInParts (CodeReplies code table) old new status
 code_refused code table fault old new status (inl (line, refused, shown)) = parts.printed line Refused (code_is_refused fault refused.0 refused.1) tt shown
 code_refused code table fault old new status (inr (same, memory)) = parts.no_memory same memory
@@ -74,22 +74,22 @@ code_answered code table loaded scheme old new status form shown a =
 
 -- A text was printed; or there was no memory, before anything was written or, where an answer is written in parts, on the way.
 pub data Way (work : Work) (old new : OutputView) (status : Status) : Type 0 where
-  tells : (text : List ℕ) (own : Status) → Replies work text own → IsOfEnd own → Prints text own old new status → Way work old new status
+  observe : (text : List ℕ) (own : Status) → Replies work text own → IsOfEnd own → Prints text own old new status → Way work old new status
   lacks_memory : new ≡ old → status ≡ Memory → Way work old new status
   breaks_off : (text : List ℕ) (own : Status) → Replies work text own → work_in_parts work ≡ true → AppendsPrefix old.written new.written text → new.faults ≡ old.faults → status ≡ Memory
       → Way work old new status
 
 pub way_of : (work : Work) (old new : OutputView) (status : Status) → WorkIsAnswered work old new status → Way work old new status
-way_of (Table source table) old new status (parts.printed text own r o p) = tells text own r o p
+way_of (Table source table) old new status (parts.printed text own r o p) = observe text own r o p
 way_of (Table source table) old new status (parts.no_memory n m) = lacks_memory n m
 way_of (Table source table) old new status (parts.broke_off text own r a f m) = breaks_off text own r refl a f m
-way_of (Facts source ranges) old new status (printing.printed text own r o p) = tells text own r o p
+way_of (Facts source ranges) old new status (printing.printed text own r o p) = observe text own r o p
 way_of (Facts source ranges) old new status (printing.no_memory n m) = lacks_memory n m
-way_of (CodeTable code table) old new status (parts.printed text own r o p) = tells text own r o p
+way_of (CodeTable code table) old new status (parts.printed text own r o p) = observe text own r o p
 way_of (CodeTable code table) old new status (parts.no_memory n m) = lacks_memory n m
 way_of (CodeTable code table) old new status (parts.broke_off text own r a f m) = breaks_off text own r refl a f m
-way_of Version old new status p = tells version_line Done (refl, refl) tt p
+way_of Version old new status p = observe version_line Done (refl, refl) tt p
 
 -- what writes in parts was asked for
-pub parts_asked : (words : List (List ℕ)) (asked : Command) (work : Work) → command_of words ≡ Some asked → IsWorkOf asked work → work_in_parts work ≡ true → writes_early words ≡ true
-parts_asked words asked work c k e = ap (λ o. option_map_or writes_in_parts o false) c ∙ sym k ∙ e
+pub parts_requested : (words : List (List ℕ)) (wanted : Command) (work : Work) → command_of words ≡ Some wanted → IsWorkOf wanted work → work_in_parts work ≡ true → writes_early words ≡ true
+parts_requested words wanted work c k e = ap (λ o. option_map_or writes_in_parts o false) c ∙ sym k ∙ e

@@ -4,7 +4,7 @@ use Rattle.std.specs.List.{list_all}
 use Rattle.std.specs.Option.{option_map_or, option_or}
 use Rattle.std.specs.Str.{bytes_eq, is_utf8}
 use Rattle.m_places.specs.declared.limits.TheConstants.{CODE_FILE_BYTES, FILE_BYTES}
-use Rattle.command_plans.specs.Plan.{Plan, done, asks_file, file_plan, and_then}
+use Rattle.command_plans.specs.Plan.{Plan, done, requests_file, file_plan, and_then}
 use Rattle.command_plans.specs.Source.{optional_plan, source_plan}
 use Rattle.command_plans.specs.declared.source.SourceNames.{SourceNames}
 use Rattle.survey_commands.specs.declared.command.Command.{Command}
@@ -40,7 +40,7 @@ command_over over.Facts names file = Facts names file
 abbrev pub source_command : List (List ℕ) → Option Command
 source_command (word ∷ list ∷ driver ∷ requests ∷ file ∷ []) =
     if list_all is_utf8 (list ∷ driver ∷ requests ∷ file ∷ [])
-    then option_map (λ asked. command_over asked (record { list = list; driver = driver; requests = requests }) file) (over_source word)
+    then option_map (λ wanted. command_over wanted (record { list = list; driver = driver; requests = requests }) file) (over_source word)
     else None
 source_command _ = None
 
@@ -71,7 +71,7 @@ plan_of Version = done work.Version
 
 -- whether the words are a command that fetches a file: one whose plan asks for one
 abbrev pub reads_files : List (List ℕ) → Bool
-reads_files words = option_map_or (λ command. asks_file (plan_of command)) (command_of words) false
+reads_files words = option_map_or (λ command. requests_file (plan_of command)) (command_of words) false
 
 -- the most bytes of a file that a command fetches
 abbrev pub file_limit : Command → ℕ

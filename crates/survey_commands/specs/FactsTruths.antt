@@ -22,12 +22,12 @@ pub record AreTrueFacts (source : Source) (ranges : Option (List ℕ)) (scheme :
   pub base : Base
   pub rules : HasRules source declared base
   pub given : List Possible
-  pub said : given_by scheme.inputs ranges ≡ Ok given
+  pub stated : given_by scheme.inputs ranges ≡ Ok given
   pub face : Face
   pub found : FactsFound
   pub inputs : face.inputs ≡ scheme.inputs
   pub names : names_of face.outputs ≡ scheme.names
   pub lines : text ≡ found_text base face found
-  pub possible : ArePossible scheme.inputs given scheme.tells (named_facts face.outputs found.possible)
-  pub silent : AllByRecursion (IsSilent base scheme.inputs given scheme.tells) found.silent
-  pub reads : AllZip (λ k ns. (place : ℕ) → k ≡ length (notes_of face.outputs) + place → DependsOn scheme.inputs given scheme.tells place ns) found.firsts found.reads
+  pub possible : ArePossible scheme.inputs given scheme.observe (named_facts face.outputs found.possible)
+  pub silent : AllByRecursion (IsSilent base scheme.inputs given scheme.observe) found.silent
+  pub reads : AllZip (λ k ns. (place : ℕ) → k ≡ length (notes_of face.outputs) + place → DependsOn scheme.inputs given scheme.observe place ns) found.firsts found.reads

@@ -7,9 +7,9 @@ use Rattle.m_fixed.specs.declared.amount.Value.{Value}
 use Rattle.m_fixed.specs.declared.amount.Value.TheVariants.{Undef, Num, Over as OverValue}
 use Rattle.m_fixed.specs.Text.{printed}
 use Rattle.m_places.specs.declared.verification.Label.{Label}
-use Rattle.observables.specs.Answers.{Cause, failed, over, over_driver, Told, values, stopped}
+use Rattle.observables.specs.Answers.{Cause, failed, over, over_driver, Observation, values, stopped}
 use Rattle.household.specs.declared.table.Row.{Row}
-use Rattle.code_answers.specs.Schemes.{Scheme, told_to}
+use Rattle.code_answers.specs.Schemes.{Scheme, observation_for}
 use Rattle.survey_commands.specs.Csv.{field_text}
 
 -- names, each after a comma
@@ -56,13 +56,13 @@ empty_fields names = flat_map (λ name. codes ",") names
 
 -- What a household is told, as the fields after its label and the end of the record: its stop, its notes and its values. One that stops has neither notes
 -- nor values.
-abbrev pub told_fields : List (List ℕ) → Told → List ℕ
-told_fields names (values notes vs) = joined (codes ",," ∷ notes_field notes ∷ value_fields names vs ∷ new_line ∷ [])
-told_fields names (stopped cause) = joined (codes "," ∷ cause_field cause ∷ codes "," ∷ empty_fields names ∷ new_line ∷ [])
+abbrev pub observation_fields : List (List ℕ) → Observation → List ℕ
+observation_fields names (values notes vs) = joined (codes ",," ∷ notes_field notes ∷ value_fields names vs ∷ new_line ∷ [])
+observation_fields names (stopped cause) = joined (codes "," ∷ cause_field cause ∷ codes "," ∷ empty_fields names ∷ new_line ∷ [])
 
 -- The record of a household: its label, and what its amounts are told.
 abbrev pub row_record : Scheme → Row → List ℕ
-row_record scheme row = field_text row.label ++ told_fields scheme.names (told_to scheme row.household.pairs)
+row_record scheme row = field_text row.label ++ observation_fields scheme.names (observation_for scheme row.household.pairs)
 
 -- The records of a table's rows, in their order.
 abbrev pub rows_records : Scheme → List Row → List ℕ

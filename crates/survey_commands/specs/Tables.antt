@@ -23,7 +23,7 @@ use Rattle.survey_commands.specs.Records.{table_text}
 -- What is answered to the table of these bytes by a scheme: the line by which it is refused, or its records. A household that stops is one like the others.
 pub data SchemeReplies (scheme : Scheme) (table : List ℕ) : List ℕ → Status → Type 0 where
   table_is_refused : {line : List ℕ} (fault : HouseholdFault) → table_of scheme.inputs table ≡ Err fault → household_fault_line fault ≡ Some line → SchemeReplies scheme table line Refused
-  rows_are_told : (rows : List Row) → table_of scheme.inputs table ≡ Ok rows → SchemeReplies scheme table (table_text scheme rows) Done
+  rows_are_answered : (rows : List Row) → table_of scheme.inputs table ≡ Ok rows → SchemeReplies scheme table (table_text scheme rows) Done
 
 -- The answer of a source to the table of these bytes: the line of the source's fault, or what is answered by the source's scheme.
 pub data SourceReplies (source : Source) (table : List ℕ) : List ℕ → Status → Type 0 where

@@ -9,7 +9,7 @@ ghost use Rattle.code_answers.specs.Parts.{IsWrittenInParts};
 ghost use Rattle.survey_commands.specs.Tables.{CodeReplies};
 
 use crate::table::answer_table;
-use code_answers::tell_refusal;
+use code_answers::report_refusal;
 use code_file::{CodeFault, read_code};
 use command_plans::Status;
 use m_ports::Sink;
@@ -31,12 +31,12 @@ pub(crate) fn table_code<R: Threads + Sync, K: Sink>(
 {
     match read_code(alloc, code) {
         Ok(loaded) => answer_table(rt, alloc, &loaded, table, out),
-        Err(fault) => tell_refusal(out, told_code(fault)),
+        Err(fault) => report_refusal(out, code_entry(fault)),
     }
 }
 
 // What the fault of a code file is told as. Nothing is told of running out of memory.
-fn told_code<'a>(fault: CodeFault) -> Option<Fault<'a>>
+fn code_entry<'a>(fault: CodeFault) -> Option<Fault<'a>>
     ensures { option_map fault_line result ≡ code_fault_line fault }
 {
     match fault {

@@ -77,7 +77,7 @@ fn source_command(alloc: Global, words: &[Word]) -> Result<Option<Command>, Allo
     let [word, list, driver, requests, file] = words else {
         return Ok(None);
     };
-    let Some(asked) = over_source(word.bytes()) else {
+    let Some(wanted) = over_source(word.bytes()) else {
         return Ok(None);
     };
     let are_names = is_text(list.bytes())
@@ -89,7 +89,7 @@ fn source_command(alloc: Global, words: &[Word]) -> Result<Option<Command>, Allo
     }
     let file = file.copy(alloc)?;
     let names = names_of(alloc, list, driver, requests)?;
-    Ok(Some(command_over(asked, names, file)))
+    Ok(Some(command_over(wanted, names, file)))
 }
 
 // What a word asks for that is done with a source and one file more, if it asks for that.
@@ -105,10 +105,10 @@ fn over_source(word: &[u8]) -> Option<OverSource>
     }
 }
 
-fn command_over(asked: OverSource, names: SourceNames, file: Name) -> Command
-    ensures { result ≡ command_over asked names file }
+fn command_over(wanted: OverSource, names: SourceNames, file: Name) -> Command
+    ensures { result ≡ command_over wanted names file }
 {
-    match asked {
+    match wanted {
         OverSource::Table => Command::Table(names, file),
         OverSource::Facts => Command::Facts(names, file),
     }

@@ -11,8 +11,8 @@ ghost use Rattle.survey_commands.specs.Facts.{FactsReplies};
 ghost use Rattle.survey_commands.specs.inner.Finding.{IsFactsBy, IsFactsOf};
 
 use crate::found::give_found;
-use crate::ranges::{given_facts, tell_ranges};
-use crate::source::tell_source;
+use crate::ranges::{given_facts, report_ranges};
+use crate::source::report_source;
 use command_plans::{Status, printed};
 use definedness::Fact;
 use m_compile::{Compiled, compile_with_rules};
@@ -42,7 +42,7 @@ pub(crate) fn facts_source<R: Threads + Sync, K: Sink>(
             drop(compiled);
             status
         }
-        Err(fault) => tell_source(source, fault, out),
+        Err(fault) => report_source(source, fault, out),
     }
 }
 
@@ -67,7 +67,7 @@ fn answer_facts<K: Sink>(
             drop(given);
             status
         }
-        Err(fault) => tell_ranges(fault, out),
+        Err(fault) => report_ranges(fault, out),
     }
 }
 

@@ -16,8 +16,8 @@ use std::alloc::Global;
 
 /// Gathers the files of a command. What ends it before it has them is the error.
 pub fn gather<F: Files>(alloc: Global, files: &mut F, command: &Command) -> Result<Work, Ending>
-    ensures along { GoesAlong (plan_of command.now) (files_view F.told F.attempts F.taken files.old)
-        (files_view F.told F.attempts F.taken files.new) result }
+    ensures along { GoesAlong (plan_of command.now) (files_view F.known_files F.attempts F.taken files.old)
+        (files_view F.known_files F.attempts F.taken files.new) result }
     ensures within { IfOk result WorkKeepsLimits }
     ensures kind { IfOk result (IsWorkOf command.now) }
 {
@@ -36,8 +36,8 @@ fn gather_table<F: Files>(
     names: &SourceNames,
     table: &Name,
 ) -> Result<Work, Ending>
-    ensures along { GoesAlong (source_table_plan names.now table.now) (files_view F.told F.attempts F.taken files.old)
-        (files_view F.told F.attempts F.taken files.new) result }
+    ensures along { GoesAlong (source_table_plan names.now table.now) (files_view F.known_files F.attempts F.taken files.old)
+        (files_view F.known_files F.attempts F.taken files.new) result }
     ensures within { IfOk result WorkKeepsLimits }
     ensures kind { IfOk result (λ work. work_in_parts work ≡ true) }
 {
@@ -53,8 +53,8 @@ fn gather_facts<F: Files>(
     names: &SourceNames,
     ranges: &Name,
 ) -> Result<Work, Ending>
-    ensures along { GoesAlong (facts_plan names.now ranges.now) (files_view F.told F.attempts F.taken files.old)
-        (files_view F.told F.attempts F.taken files.new) result }
+    ensures along { GoesAlong (facts_plan names.now ranges.now) (files_view F.known_files F.attempts F.taken files.old)
+        (files_view F.known_files F.attempts F.taken files.new) result }
     ensures within { IfOk result WorkKeepsLimits }
     ensures kind { IfOk result (λ work. work_in_parts work ≡ false) }
 {
@@ -70,8 +70,8 @@ fn gather_code_table<F: Files>(
     code: &Name,
     table: &Name,
 ) -> Result<Work, Ending>
-    ensures along { GoesAlong (code_table_plan code.now table.now) (files_view F.told F.attempts F.taken files.old)
-        (files_view F.told F.attempts F.taken files.new) result }
+    ensures along { GoesAlong (code_table_plan code.now table.now) (files_view F.known_files F.attempts F.taken files.old)
+        (files_view F.known_files F.attempts F.taken files.new) result }
     ensures within { IfOk result WorkKeepsLimits }
     ensures kind { IfOk result (λ work. work_in_parts work ≡ true) }
 {

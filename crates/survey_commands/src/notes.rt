@@ -2,7 +2,7 @@
 ghost use Rattle.std.specs.Prelude.{◌≡◌, ◌≤◌, ◌||◌, ◌∷◌, [], false, codes, is_some, length, option_copied};
 ghost use Rattle.m_ports.specs.Giving.{Gives};
 ghost use Rattle.m_text.specs.Pieces.{joined};
-ghost use Rattle.observables.specs.Answers.{is_told, note_told};
+ghost use Rattle.observables.specs.Answers.{is_reported, reported_note};
 ghost use Rattle.observables.specs.Outputs.{verif_at};
 ghost use Rattle.survey_commands.specs.Records.{between};
 ghost use Rattle.survey_commands.specs.inner.Outputs.{note_text, output_note, output_notes};
@@ -37,23 +37,23 @@ fn output_note<'a>(labels: &'a [FaceLabel], output: &FaceOutput, value: Value) -
 {
     match output {
         FaceOutput::Named(_) => None,
-        FaceOutput::Noted(number) => note_told(labels, *number, value),
+        FaceOutput::Noted(number) => reported_note(labels, *number, value),
     }
 }
 
 // The verification that a note with this value tells, if it tells one.
-fn note_told(labels: &[FaceLabel], number: u32, value: Value) -> Option<&Label>
-    ensures { option_copied result ≡ note_told labels.now number value }
+fn reported_note(labels: &[FaceLabel], number: u32, value: Value) -> Option<&Label>
+    ensures { option_copied result ≡ reported_note labels.now number value }
 {
-    if is_told(value) {
+    if is_reported(value) {
         verif_at(labels, number)
     } else {
         None
     }
 }
 
-fn is_told(value: Value) -> bool
-    ensures { result ≡ is_told value }
+fn is_reported(value: Value) -> bool
+    ensures { result ≡ is_reported value }
 {
     match value {
         Value::Undef => false,

@@ -6,7 +6,7 @@ ghost use Rattle.command_plans.specs.Views.{Disk, files_view, output_view};
 ghost use Rattle.command_plans.specs.declared.status.Status.{Status};
 ghost use Rattle.m_ports.specs.Counts.{Rose};
 ghost use Rattle.survey_commands.specs.Command.{command_of, limit_of, writes_early};
-ghost use Rattle.survey_commands.specs.Clauses.{PrintsOutput, ReadsInOrder, WritesFront, StopsInFront, AnswersValid, IsToldUsage};
+ghost use Rattle.survey_commands.specs.Clauses.{PrintsOutput, ReadsInOrder, WritesFront, StopsInFront, AnswersValid, IsUsageReport};
 ghost use Rattle.survey_commands.specs.Lines.{usage_line};
 ghost use Rattle.survey_commands.specs.Output.{Output, AreOneOutput};
 ghost use Rattle.survey_commands.specs.inner.Courses.{Course};
@@ -14,7 +14,7 @@ ghost use Rattle.survey_commands.specs.inner.Courses.{Course};
 use crate::answer::answer;
 use crate::command::{Command, command_of};
 use crate::gather::gather;
-use command_plans::{Status, printed, tell};
+use command_plans::{Status, printed, report_ending};
 use m_places::Word;
 use m_ports::{Files, Sink, give_pieces};
 use std::alloc::Global;
@@ -38,7 +38,7 @@ fn perform<R: Threads + Sync, F: Files, K: Sink>(
     files: &mut F,
     out: &mut K,
 ) -> Status
-    ensures { Course words.now (files_view F.told F.attempts F.taken files.old) (files_view F.told F.attempts F.taken files.new)
+    ensures { Course words.now (files_view F.known_files F.attempts F.taken files.old) (files_view F.known_files F.attempts F.taken files.new)
         (output_view K.written K.faults out.old) (output_view K.written K.faults out.new) result }
 {
     match command_of(alloc, words) {
@@ -61,7 +61,7 @@ fn act<R: Threads + Sync, F: Files, K: Sink>(
     out: &mut K,
 ) -> Status
     ensures { (words : List (List ℕ)) → command_of words ≡ Some command.now
-        → Course words (files_view F.told F.attempts F.taken files.old) (files_view F.told F.attempts F.taken files.new)
+        → Course words (files_view F.known_files F.attempts F.taken files.old) (files_view F.known_files F.attempts F.taken files.new)
         (output_view K.written K.faults out.old) (output_view K.written K.faults out.new) result }
 {
     match gather(alloc, files, command) {
@@ -71,7 +71,7 @@ fn act<R: Threads + Sync, F: Files, K: Sink>(
             status
         }
         Err(ending) => {
-            let status = tell(out, &ending);
+            let status = report_ending(out, &ending);
             drop(ending);
             status
         }
@@ -90,33 +90,33 @@ pub fn m_survey<R: Threads + Sync, F: Files, K: Sink>(
 ) -> Status
     // Where the files are told, if the command fetches one, and neither reading, writing nor memory failed, the text that is appended and
     // the status are an `Output` of the words and the files.
-    ensures text { PrintsOutput words.now (files_view F.told F.attempts F.taken files.old)
+    ensures text { PrintsOutput words.now (files_view F.known_files F.attempts F.taken files.old)
         (output_view K.written K.faults out.old) (output_view K.written K.faults out.new) result }
 
     // The attempts on files are those of `fetches_of`, at most the last of them failed, and a read fault is told only there. All files
     // together give at most one byte past the limit for each that was tried.
-    ensures reading { ReadsInOrder words.now (files_view F.told F.attempts F.taken files.old) (files_view F.told F.attempts F.taken files.new)
+    ensures reading { ReadsInOrder words.now (files_view F.known_files F.attempts F.taken files.old) (files_view F.known_files F.attempts F.taken files.new)
         (output_view K.written K.faults out.old) (output_view K.written K.faults out.new) result }
-    ensures taken { TakesWithin (limit_of words.now) (files_view F.told F.attempts F.taken files.old)
-        (files_view F.told F.attempts F.taken files.new) result }
+    ensures taken { TakesWithin (limit_of words.now) (files_view F.known_files F.attempts F.taken files.old)
+        (files_view F.known_files F.attempts F.taken files.new) result }
 
     // A write fault is told only where one happened and always where one did, and what was written is the prefix of a text.
     ensures write_fault { result ≡ Status.WriteFault → Rose (K.faults out.old) (K.faults out.new) }
-    ensures write_told { K.faults out.old < K.faults out.new → result ≡ Status.WriteFault }
-    ensures writing { WritesFront words.now (files_view F.told F.attempts F.taken files.old) (files_view F.told F.attempts F.taken files.new)
+    ensures write_reported { K.faults out.old < K.faults out.new → result ≡ Status.WriteFault }
+    ensures writing { WritesFront words.now (files_view F.known_files F.attempts F.taken files.old) (files_view F.known_files F.attempts F.taken files.new)
         (output_view K.written K.faults out.old) (output_view K.written K.faults out.new) result }
 
     // Without memory nothing was written, but by a command that writes in parts, which has written the prefix of an output.
     ensures memory { result ≡ Status.Memory → writes_early words.now ≡ false → K.written out.new ≡ K.written out.old }
-    ensures memory_front { StopsInFront words.now (files_view F.told F.attempts F.taken files.old)
+    ensures memory_front { StopsInFront words.now (files_view F.known_files F.attempts F.taken files.old)
         (output_view K.written K.faults out.old) (output_view K.written K.faults out.new) result }
 
     // What is valid is answered, unless a read, a write or memory failed.
-    ensures completeness { AnswersValid words.now (files_view F.told F.attempts F.taken files.old) (files_view F.told F.attempts F.taken files.new)
+    ensures completeness { AnswersValid words.now (files_view F.known_files F.attempts F.taken files.old) (files_view F.known_files F.attempts F.taken files.new)
         (output_view K.written K.faults out.old) (output_view K.written K.faults out.new) result }
 
     // The usage line is printed exactly for words that are no command.
-    ensures usage { IsToldUsage words.now result }
+    ensures usage { IsUsageReport words.now result }
 {
     perform(rt, alloc, words, files, out)
 }

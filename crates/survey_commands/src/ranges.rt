@@ -8,7 +8,7 @@ ghost use Rattle.household.specs.declared.fault.HouseholdFault.TheVariants.{Memo
 ghost use Rattle.command_plans.specs.Printing.{Prints};
 ghost use Rattle.command_plans.specs.Views.{output_view};
 ghost use Rattle.command_plans.specs.declared.status.Status.TheVariants.{Refused};
-ghost use Rattle.code_answers.specs.inner.Refusals.{TellsLine};
+ghost use Rattle.code_answers.specs.inner.Refusals.{ReportsLine};
 ghost use Rattle.survey_commands.specs.Facts.{given_by, ranges_fault_line};
 
 use command_plans::{Status, printed};
@@ -39,23 +39,23 @@ pub(crate) fn given_facts(
 }
 
 /// Tells the fault of ranges by its line, or that there was no memory. It takes no memory.
-pub(crate) fn tell_ranges<K: Sink>(fault: HouseholdFault, out: &mut K) -> Status
-    ensures { TellsLine (ranges_fault_line fault) (output_view K.written K.faults out.old) (output_view K.written K.faults out.new) result }
+pub(crate) fn report_ranges<K: Sink>(fault: HouseholdFault, out: &mut K) -> Status
+    ensures { ReportsLine (ranges_fault_line fault) (output_view K.written K.faults out.old) (output_view K.written K.faults out.new) result }
 {
     match fault {
-        HouseholdFault::BadHeader => tell_file(b"bad header", out),
-        HouseholdFault::TooManyRows => tell_file(b"too many rows", out),
-        HouseholdFault::BadRow(line) => tell_row(line, b"bad row", out),
-        HouseholdFault::UnknownCode(line) => tell_row(line, b"unknown code", out),
-        HouseholdFault::BadAmount(line) => tell_row(line, b"bad amount", out),
-        HouseholdFault::NotOfType(line) => tell_row(line, b"not of its type", out),
-        HouseholdFault::CodeTwice(line) => tell_row(line, b"code twice", out),
+        HouseholdFault::BadHeader => report_file(b"bad header", out),
+        HouseholdFault::TooManyRows => report_file(b"too many rows", out),
+        HouseholdFault::BadRow(line) => report_row(line, b"bad row", out),
+        HouseholdFault::UnknownCode(line) => report_row(line, b"unknown code", out),
+        HouseholdFault::BadAmount(line) => report_row(line, b"bad amount", out),
+        HouseholdFault::NotOfType(line) => report_row(line, b"not of its type", out),
+        HouseholdFault::CodeTwice(line) => report_row(line, b"code twice", out),
         HouseholdFault::Memory => Status::Memory,
     }
 }
 
 // Tells of the file as a whole.
-fn tell_file<K: Sink>(words: &[u8], out: &mut K) -> Status
+fn report_file<K: Sink>(words: &[u8], out: &mut K) -> Status
     ensures { Prints (joined (codes "refused ranges: " ∷ words.now ∷ new_line ∷ [])) Refused
         (output_view K.written K.faults out.old) (output_view K.written K.faults out.new) result }
 {
@@ -66,16 +66,16 @@ fn tell_file<K: Sink>(words: &[u8], out: &mut K) -> Status
 }
 
 // Tells of the record with this number.
-fn tell_row<K: Sink>(line: u32, words: &[u8], out: &mut K) -> Status
+fn report_row<K: Sink>(line: u32, words: &[u8], out: &mut K) -> Status
     ensures { Prints (joined (codes "refused ranges line " ∷ decimal line ∷ codes ": " ∷ words.now ∷ new_line ∷ [])) Refused
         (output_view K.written K.faults out.old) (output_view K.written K.faults out.new) result }
 {
     let mut buffer = Buffer::new();
     let digits = buffer.format(line).as_bytes();
-    tell_digits(digits, words, out)
+    report_digits(digits, words, out)
 }
 
-fn tell_digits<'a, K: Sink>(digits: &'a [u8], words: &'a [u8], out: &mut K) -> Status
+fn report_digits<'a, K: Sink>(digits: &'a [u8], words: &'a [u8], out: &mut K) -> Status
     ensures { Prints (joined (codes "refused ranges line " ∷ digits.now ∷ codes ": " ∷ words.now ∷ new_line ∷ [])) Refused
         (output_view K.written K.faults out.old) (output_view K.written K.faults out.new) result }
 {

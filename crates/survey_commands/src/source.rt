@@ -9,15 +9,15 @@ ghost use Rattle.m_compile.specs.declared.fault.SourceFault.TheVariants.{Memory}
 ghost use Rattle.command_plans.specs.Views.{output_view};
 ghost use Rattle.code_answers.specs.Parts.{IsWrittenInParts};
 ghost use Rattle.code_answers.specs.Shown.{IsRunnableCode};
-ghost use Rattle.code_answers.specs.inner.Refusals.{TellsLine};
+ghost use Rattle.code_answers.specs.inner.Refusals.{ReportsLine};
 ghost use Rattle.command_answers.specs.Prepared.{IsPreparedCode};
 ghost use Rattle.survey_commands.specs.Tables.{SourceReplies};
 
 use crate::table::answer_table;
-use code_answers::tell_refusal;
+use code_answers::report_refusal;
 use code_file::Loaded;
 use command_plans::Status;
-use m_compile::{Compiled, SourceFault, compile_with, told_fault};
+use m_compile::{Compiled, SourceFault, compile_with, fault_entry};
 use m_places::Source;
 use m_ports::Sink;
 use std::alloc::Global;
@@ -37,7 +37,7 @@ pub(crate) fn table_source<R: Threads + Sync, K: Sink>(
 {
     match prepare_code(rt, alloc, source) {
         Ok(loaded) => answer_table(rt, alloc, &loaded, table, out),
-        Err(fault) => tell_source(source, fault, out),
+        Err(fault) => report_source(source, fault, out),
     }
 }
 
@@ -72,10 +72,10 @@ fn code_of(compiled: Compiled) -> Loaded
 }
 
 /// Tells the fault of a source by its line, or that there was no memory.
-pub(crate) fn tell_source<K: Sink>(source: &Source, fault: SourceFault, out: &mut K) -> Status
-    ensures { TellsLine (source_line source.now.texts fault) (output_view K.written K.faults out.old) (output_view K.written K.faults out.new) result }
+pub(crate) fn report_source<K: Sink>(source: &Source, fault: SourceFault, out: &mut K) -> Status
+    ensures { ReportsLine (source_line source.now.texts fault) (output_view K.written K.faults out.old) (output_view K.written K.faults out.new) result }
 {
-    let status = tell_refusal(out, told_fault(source.texts.as_slice(), &fault));
+    let status = report_refusal(out, fault_entry(source.texts.as_slice(), &fault));
     drop(fault);
     status
 }

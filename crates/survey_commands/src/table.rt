@@ -18,7 +18,7 @@ ghost use Rattle.survey_commands.specs.inner.Printers.{text_by};
 
 use crate::columns::{HEADER_ROOM, give_header};
 use crate::records::Records;
-use code_answers::{tell_refusal, told_household};
+use code_answers::{report_refusal, household_entry};
 use code_file::Loaded;
 use command_plans::Status;
 use household::{Codes, HouseholdFault, Row, read_table};
@@ -48,7 +48,7 @@ pub(crate) fn answer_table<R: Threads + Sync, K: Sink>(
             let rows = rows.as_slice();
             status_of(print_table(rt, alloc, loaded, rows, &mut held, out))
         }
-        Err(fault) => tell_refusal(out, told_household(fault)),
+        Err(fault) => report_refusal(out, household_entry(fault)),
     }
 }
 

@@ -11,7 +11,7 @@ use Rattle.m_places.specs.declared.verification.Label.{Label}
 use Rattle.observables.specs.declared.face.FaceLabel.{FaceLabel}
 use Rattle.observables.specs.declared.face.FaceOutput.{FaceOutput}
 use Rattle.observables.specs.declared.face.FaceOutput.TheVariants.{Named, Noted}
-use Rattle.observables.specs.Answers.{note_told, notes_told}
+use Rattle.observables.specs.Answers.{reported_note, reported_notes}
 use Rattle.observables.specs.Outputs.{are_named, names_of, notes_of, notes_stand_first, verif_at}
 use Rattle.tax_print.specs.Lines.{label_lines, notes_lines, output_lines, outputs_lines, value_line, values_lines}
 
@@ -52,19 +52,19 @@ no_notes [] h = refl
 no_notes (Named name ∷ outputs) h = no_notes outputs h
 no_notes (Noted number ∷ outputs) h = absurd (false≢true h)
 
-one_note : (told : Option Label) (labels : List Label) → notes_lines (cons_option told labels) ≡ option_map_or (label_lines (codes "noted")) told [] ++ notes_lines labels
+one_note : (reported : Option Label) (labels : List Label) → notes_lines (cons_option reported labels) ≡ option_map_or (label_lines (codes "noted")) reported [] ++ notes_lines labels
 one_note None labels = refl
 one_note (Some label) labels = refl
 
-pub outputs_told : (labels : List FaceLabel) (outputs : List FaceOutput) (vs : List Value) → notes_stand_first labels outputs ≡ true
-    → outputs_lines labels outputs vs ≡ notes_lines (notes_told labels (notes_of outputs) vs) ++ values_lines (names_of outputs) (drop (length (notes_of outputs)) vs)
-outputs_told labels [] vs h = refl
-outputs_told labels (Named name ∷ outputs) vs h =
+pub outputs_reported : (labels : List FaceLabel) (outputs : List FaceOutput) (vs : List Value) → notes_stand_first labels outputs ≡ true
+    → outputs_lines labels outputs vs ≡ notes_lines (reported_notes labels (notes_of outputs) vs) ++ values_lines (names_of outputs) (drop (length (notes_of outputs)) vs)
+outputs_reported labels [] vs h = refl
+outputs_reported labels (Named name ∷ outputs) vs h =
     named_lines labels (Named name ∷ outputs) vs h
-    ∙ ap (λ notes. notes_lines (notes_told labels notes vs) ++ values_lines (name ∷ names_of outputs) (drop (length notes) vs)) (sym (no_notes outputs h))
-outputs_told labels (Noted number ∷ outputs) [] h =
+    ∙ ap (λ notes. notes_lines (reported_notes labels notes vs) ++ values_lines (name ∷ names_of outputs) (drop (length notes) vs)) (sym (no_notes outputs h))
+outputs_reported labels (Noted number ∷ outputs) [] h =
     sym (ap (values_lines (names_of outputs)) (drop-nil (length (number ∷ notes_of outputs))) ∙ no_values (names_of outputs))
-outputs_told labels (Noted number ∷ outputs) (v ∷ vs) h =
-    ap (λ rest. option_map_or (label_lines (codes "noted")) (note_told labels number v) [] ++ rest) (outputs_told labels outputs vs (and_parts _ _ h).1)
-    ∙ sym (append_assoc (option_map_or (label_lines (codes "noted")) (note_told labels number v) []) (notes_lines (notes_told labels (notes_of outputs) vs)) (values_lines (names_of outputs) (drop (length (notes_of outputs)) vs)))
-    ∙ ap (λ front. front ++ values_lines (names_of outputs) (drop (length (notes_of outputs)) vs)) (sym (one_note (note_told labels number v) (notes_told labels (notes_of outputs) vs)))
+outputs_reported labels (Noted number ∷ outputs) (v ∷ vs) h =
+    ap (λ rest. option_map_or (label_lines (codes "noted")) (reported_note labels number v) [] ++ rest) (outputs_reported labels outputs vs (and_parts _ _ h).1)
+    ∙ sym (append_assoc (option_map_or (label_lines (codes "noted")) (reported_note labels number v) []) (notes_lines (reported_notes labels (notes_of outputs) vs)) (values_lines (names_of outputs) (drop (length (notes_of outputs)) vs)))
+    ∙ ap (λ front. front ++ values_lines (names_of outputs) (drop (length (notes_of outputs)) vs)) (sym (one_note (reported_note labels number v) (reported_notes labels (notes_of outputs) vs)))

@@ -15,7 +15,7 @@ use Rattle.observables.specs.declared.face.Face.{Face}
 use Rattle.observables.specs.declared.face.FaceLabel.{FaceLabel}
 use Rattle.observables.specs.declared.face.FaceOutput.{FaceOutput}
 use Rattle.observables.specs.declared.face.FaceOutput.TheVariants.{Named, Noted}
-use Rattle.observables.specs.Answers.{Cause, failed, over, over_driver, Told, values, stopped, label_number, cause_of, note_told, told_of}
+use Rattle.observables.specs.Answers.{Cause, failed, over, over_driver, Observation, values, stopped, label_number, cause_of, reported_note, observation}
 use Rattle.observables.specs.Outputs.{names_of, notes_of}
 
 -- the line of a name and its value: `IRN = 1500.5`, `IRN undefined`, `IRN over`
@@ -52,9 +52,9 @@ notes_lines [] = []
 notes_lines (label ∷ labels) = label_lines (codes "noted") label ++ notes_lines labels
 
 -- The lines of what a household is told, where these are the names of what was asked for: first the notes, and then the values.
-abbrev pub told_lines : List (List ℕ) → Told → List ℕ
-told_lines names (values notes vs) = notes_lines notes ++ values_lines names vs
-told_lines names (stopped cause) = cause_lines cause
+abbrev pub observation_lines : List (List ℕ) → Observation → List ℕ
+observation_lines names (values notes vs) = notes_lines notes ++ values_lines names vs
+observation_lines names (stopped cause) = cause_lines cause
 
 -- the lines of a stop at one of these labels
 abbrev pub stop_lines : List FaceLabel → Stop → List ℕ
@@ -62,12 +62,12 @@ stop_lines labels stop = option_map_or (λ label. cause_lines (cause_of stop lab
 
 -- The lines of an answer: it is read through the face, and told.
 abbrev pub answer_lines : Face → Answer → List ℕ
-answer_lines face answer = option_map_or (told_lines (names_of face.outputs)) (told_of face.labels (notes_of face.outputs) answer) []
+answer_lines face answer = option_map_or (observation_lines (names_of face.outputs)) (observation face.labels (notes_of face.outputs) answer) []
 
 -- the lines of an output with this value, where these are the labels: of a name its line, and of a note those of what it tells
 abbrev pub output_lines : List FaceLabel → Value → FaceOutput → List ℕ
 output_lines labels v (Named name) = value_line name v
-output_lines labels v (Noted number) = option_map_or (label_lines (codes "noted")) (note_told labels number v) []
+output_lines labels v (Noted number) = option_map_or (label_lines (codes "noted")) (reported_note labels number v) []
 
 -- the lines of outputs with these values, in order
 abbrev pub outputs_lines : List FaceLabel → List FaceOutput → List Value → List ℕ

@@ -3,7 +3,7 @@ ghost use Rattle.std.specs.Prelude.{◌∷◌, [], ◌≡◌, codes, option_copi
 ghost use Rattle.std.specs.Option.{option_map_or};
 ghost use Rattle.m_ports.specs.Giving.{Gives};
 ghost use Rattle.m_text.specs.Pieces.{joined, new_line};
-ghost use Rattle.observables.specs.Answers.{is_told, note_told};
+ghost use Rattle.observables.specs.Answers.{is_reported, reported_note};
 ghost use Rattle.observables.specs.Outputs.{verif_at};
 ghost use Rattle.tax_print.specs.Lines.{kind_text, label_lines};
 
@@ -20,27 +20,27 @@ pub(crate) fn print_note<K: Sink>(
     value: Value,
     out: &mut K,
 ) -> Result<(), Failed>
-    ensures { Gives K.written K.faults out.old out.new result (option_map_or (label_lines (codes "noted")) (note_told labels.now number value) []) }
+    ensures { Gives K.written K.faults out.old out.new result (option_map_or (label_lines (codes "noted")) (reported_note labels.now number value) []) }
 {
-    match note_told(labels, number, value) {
+    match reported_note(labels, number, value) {
         Some(label) => print_label(b"noted", label, out),
         None => give_pieces(out, &[]),
     }
 }
 
 // The verification that a note with this value tells, if it tells one.
-fn note_told(labels: &[FaceLabel], number: u32, value: Value) -> Option<&Label>
-    ensures { option_copied result ≡ note_told labels.now number value }
+fn reported_note(labels: &[FaceLabel], number: u32, value: Value) -> Option<&Label>
+    ensures { option_copied result ≡ reported_note labels.now number value }
 {
-    if is_told(value) {
+    if is_reported(value) {
         verif_at(labels, number)
     } else {
         None
     }
 }
 
-fn is_told(value: Value) -> bool
-    ensures { result ≡ is_told value }
+fn is_reported(value: Value) -> bool
+    ensures { result ≡ is_reported value }
 {
     match value {
         Value::Undef => false,

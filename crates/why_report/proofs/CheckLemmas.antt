@@ -18,8 +18,8 @@ use Rattle.micro_m.proofs.TermLemmas.{term_value-same}
 use Rattle.micro_m.proofs.TurnLemmas.{option_cases}
 use Rattle.why_report.specs.declared.line.ReportLine.{ReportLine}
 use Rattle.why_report.specs.declared.check.Checked.{Checked}
-use Rattle.why_report.specs.Derivations.{cells_told, values_told, line_at, IsDerived, IsDerivedAt, IsFirstUnsound}
-use Rattle.why_report.specs.inner.Standing.{stands, AllStand, KnowsStanding, term_stands}
+use Rattle.why_report.specs.Derivations.{reported_cells, reported_values, line_at, IsDerived, IsDerivedAt, IsFirstUnsound}
+use Rattle.why_report.specs.inner.Standing.{is_set, AllStand, KnowsStanding, term_is_marked}
 use Rattle.why_report.specs.inner.Checked.{standing_value, derived_value, Keeps}
 use Rattle.why_report.proofs.ListLemmas.{cells-more, values-more, sound-part}
 use Rattle.why_report.proofs.StandingLemmas.{term-covers, covers-term}
@@ -32,7 +32,7 @@ undef-all zero c = refl
 undef-all (suc n) zero = refl
 undef-all (suc n) (suc c) = undef-all n c
 
-false-all : (n c : ℕ) → stands (replicate n false) c ≡ false
+false-all : (n c : ℕ) → is_set (replicate n false) c ≡ false
 false-all zero c = refl
 false-all (suc n) zero = refl
 false-all (suc n) (suc c) = false-all n c
@@ -43,7 +43,7 @@ keeps-none n checked values marks known values_size marks_size known_size = reco
   marks_size = marks_size;
   known_size = known_size;
   values = λ c. ap (λ (vs : List Value). environment vs c) values ∙ undef-all n c;
-  marks = λ c. ap (λ (ms : List Bool). stands ms c) marks ∙ false-all n c;
+  marks = λ c. ap (λ (ms : List Bool). is_set ms c) marks ∙ false-all n c;
   known = λ first c low high. let none : get_or checked.known.items first 0 ≡ 0 = ap (λ (ns : List ℕ). get_or ns first 0) known ∙ zero-all n first in absurd (omega arith);
 }
 
@@ -55,56 +55,56 @@ some-value e = cc
 none-some : {w : Value} → None ≡ Some w → ⊥
 none-some e = cc
 
-derives : (base : Base) (given : Environment) (cells : ℕ) (earlier : List ReportLine) (checked : Checked) (line : ReportLine) → Keeps cells earlier checked → stands checked.marks.items line.cell ≡ false → derived_value base given checked.marks.items checked.values.items line.cell ≡ Some line.value → IsDerived base given earlier line
+derives : (base : Base) (given : Environment) (cells : ℕ) (earlier : List ReportLine) (checked : Checked) (line : ReportLine) → Keeps cells earlier checked → is_set checked.marks.items line.cell ≡ false → derived_value base given checked.marks.items checked.values.items line.cell ≡ Some line.value → IsDerived base given earlier line
 derives base given cells earlier checked line kept away is =
     let marks : List Bool = checked.marks.items in
     let values : List Value = checked.values.items in
     option_cases (definition_of base line.cell)
     (λ (none : definition_of base line.cell ≡ None). record {
-      told_once = sym (kept.marks line.cell) ∙ away;
+      reported_once = sym (kept.marks line.cell) ∙ away;
       reads_earlier = λ c r. absurd (subst (λ o. IsSomeAnd o (λ t. TermReads t c)) none r);
-      has_value = sym (some-value (sym (ap (λ o. option_map_or (standing_value marks values) o (Some (given line.cell))) none) ∙ is)) ∙ sym (ap (λ o. option_map_or (term_value (values_told earlier)) o (given line.cell)) none);
+      has_value = sym (some-value (sym (ap (λ o. option_map_or (standing_value marks values) o (Some (given line.cell))) none) ∙ is)) ∙ sym (ap (λ o. option_map_or (term_value (reported_values earlier)) o (given line.cell)) none);
     })
     (λ t (some : definition_of base line.cell ≡ Some t).
-    let at : cond (term_stands marks t) (Some (term_value (environment values) t)) None ≡ Some line.value = sym (ap (λ o. option_map_or (standing_value marks values) o (Some (given line.cell))) some) ∙ is in
-    cases (term_stands marks t)
-    (λ (y : term_stands marks t ≡ true). record {
-      told_once = sym (kept.marks line.cell) ∙ away;
+    let at : cond (term_is_marked marks t) (Some (term_value (environment values) t)) None ≡ Some line.value = sym (ap (λ o. option_map_or (standing_value marks values) o (Some (given line.cell))) some) ∙ is in
+    cases (term_is_marked marks t)
+    (λ (y : term_is_marked marks t ≡ true). record {
+      reported_once = sym (kept.marks line.cell) ∙ away;
       reads_earlier = λ c r. sym (kept.marks c) ∙ term-covers marks t y c (subst (λ o. IsSomeAnd o (λ u. TermReads u c)) some r);
       has_value = sym (some-value (sym (ap (λ b. cond b (Some (term_value (environment values) t)) None) y) ∙ at))
-          ∙ term_value-same t (environment values) (values_told earlier) (λ c r. kept.values c)
-          ∙ sym (ap (λ o. option_map_or (term_value (values_told earlier)) o (given line.cell)) some);
+          ∙ term_value-same t (environment values) (reported_values earlier) (λ c r. kept.values c)
+          ∙ sym (ap (λ o. option_map_or (term_value (reported_values earlier)) o (given line.cell)) some);
     })
-    (λ (n : term_stands marks t ≡ false). absurd (none-some (sym (ap (λ b. cond b (Some (term_value (environment values) t)) None) n) ∙ at))))
+    (λ (n : term_is_marked marks t ≡ false). absurd (none-some (sym (ap (λ b. cond b (Some (term_value (environment values) t)) None) n) ∙ at))))
 
-derived : (base : Base) (given : Environment) (cells : ℕ) (earlier : List ReportLine) (checked : Checked) (line : ReportLine) → Keeps cells earlier checked → IsDerived base given earlier line → (stands checked.marks.items line.cell ≡ false) × (derived_value base given checked.marks.items checked.values.items line.cell ≡ Some line.value)
+derived : (base : Base) (given : Environment) (cells : ℕ) (earlier : List ReportLine) (checked : Checked) (line : ReportLine) → Keeps cells earlier checked → IsDerived base given earlier line → (is_set checked.marks.items line.cell ≡ false) × (derived_value base given checked.marks.items checked.values.items line.cell ≡ Some line.value)
 derived base given cells earlier checked line kept follows =
     let marks : List Bool = checked.marks.items in
     let values : List Value = checked.values.items in (
-      kept.marks line.cell ∙ follows.told_once,
+      kept.marks line.cell ∙ follows.reported_once,
       option_cases (definition_of base line.cell)
           (λ (none : definition_of base line.cell ≡ None).
           ap (λ o. option_map_or (standing_value marks values) o (Some (given line.cell))) none
-          ∙ ap Some (sym (follows.has_value ∙ ap (λ o. option_map_or (term_value (values_told earlier)) o (given line.cell)) none)))
+          ∙ ap Some (sym (follows.has_value ∙ ap (λ o. option_map_or (term_value (reported_values earlier)) o (given line.cell)) none)))
           (λ t (some : definition_of base line.cell ≡ Some t).
           ap (λ o. option_map_or (standing_value marks values) o (Some (given line.cell))) some
           ∙ ap (λ b. cond b (Some (term_value (environment values) t)) None) (covers-term marks t (λ c r. kept.marks c ∙ follows.reads_earlier c (subst (λ o. IsSomeAnd o (λ u. TermReads u c)) (sym some) r)))
-          ∙ ap Some (term_value-same t (environment values) (values_told earlier) (λ c r. kept.values c)
-          ∙ sym (follows.has_value ∙ ap (λ o. option_map_or (term_value (values_told earlier)) o (given line.cell)) some))),
+          ∙ ap Some (term_value-same t (environment values) (reported_values earlier) (λ c r. kept.values c)
+          ∙ sym (follows.has_value ∙ ap (λ o. option_map_or (term_value (reported_values earlier)) o (given line.cell)) some))),
     )
 
 -- the line at a position that was read of the list
 pub line-is : (lines : List ReportLine) (i : ℕ) (line : ReportLine) → i < length lines → line ≡ get_or lines i line → line ≡ line_at lines i
 line-is lines i line low is = is ∙ get_or_default lines i line (line_at [] 0) low
 
-pub follows-here : (base : Base) (given : Environment) (cells i : ℕ) (lines : List ReportLine) (checked : Checked) (line : ReportLine) (found : Option Value) → Keeps cells (take i lines) checked → line ≡ line_at lines i → stands checked.marks.items line.cell ≡ false → found ≡ derived_value base given checked.marks.items checked.values.items line.cell → found ≡ Some line.value → IsDerivedAt base given lines i
+pub follows-here : (base : Base) (given : Environment) (cells i : ℕ) (lines : List ReportLine) (checked : Checked) (line : ReportLine) (found : Option Value) → Keeps cells (take i lines) checked → line ≡ line_at lines i → is_set checked.marks.items line.cell ≡ false → found ≡ derived_value base given checked.marks.items checked.values.items line.cell → found ≡ Some line.value → IsDerivedAt base given lines i
 follows-here base given cells i lines checked line found kept is away derived_is has =
     subst (λ (l : ReportLine). IsDerived base given (take i lines) l) is
     (derives base given cells (take i lines) checked line kept away (sym derived_is ∙ has))
 
 -- a cell that an earlier line has
-pub told-before : (base : Base) (given : Environment) (cells i : ℕ) (lines : List ReportLine) (checked : Checked) (line : ReportLine) → Keeps cells (take i lines) checked → line ≡ line_at lines i → stands checked.marks.items line.cell ≡ true → IsDerivedAt base given lines i → ⊥
-told-before base given cells i lines checked line kept is here follows =
+pub reported-before : (base : Base) (given : Environment) (cells i : ℕ) (lines : List ReportLine) (checked : Checked) (line : ReportLine) → Keeps cells (take i lines) checked → line ≡ line_at lines i → is_set checked.marks.items line.cell ≡ true → IsDerivedAt base given lines i → ⊥
+reported-before base given cells i lines checked line kept is here follows =
     clash here (derived base given cells (take i lines) checked line kept (subst (λ (l : ReportLine). IsDerived base given (take i lines) l) (sym is) follows)).0
 
 -- another value, or a cell that is read and doesn't stand
@@ -114,12 +114,12 @@ not-derived base given cells i lines checked line found kept is derived_is other
 
 -- ---- one line more is kept
 
-stands-more : (marks : List Bool) (cell : ℕ) → cell < length marks → (c : ℕ) → stands (set marks cell true) c ≡ (stands marks c || (nat_eq c cell || false))
-stands-more marks cell low c = elim (cases_eq c cell) [
-  | inl e ↦ ap (λ n. stands (set marks cell true) n) e ∙ get_or-set_same marks cell true false low
-      ∙ sym (ap (λ b. stands marks c || (b || false)) (ap (λ n. nat_eq n cell) e ∙ itself cell) ∙ or-last (stands marks c))
+is_set-more : (marks : List Bool) (cell : ℕ) → cell < length marks → (c : ℕ) → is_set (set marks cell true) c ≡ (is_set marks c || (nat_eq c cell || false))
+is_set-more marks cell low c = elim (cases_eq c cell) [
+  | inl e ↦ ap (λ n. is_set (set marks cell true) n) e ∙ get_or-set_same marks cell true false low
+      ∙ sym (ap (λ b. is_set marks c || (b || false)) (ap (λ n. nat_eq n cell) e ∙ itself cell) ∙ or-last (is_set marks c))
   | inr n ↦ get_or-set_other marks cell c true false n
-      ∙ sym (ap (λ b. stands marks c || (b || false)) (differ c cell n) ∙ or-none (stands marks c))
+      ∙ sym (ap (λ b. is_set marks c || (b || false)) (differ c cell n) ∙ or-none (is_set marks c))
 ]
   where
     or-last : (b : Bool) → (b || (true || false)) ≡ true
@@ -146,12 +146,12 @@ value-set values cell v low c = cases (nat_eq c cell)
     get_or-set_other values cell c v Undef (λ e. clash (subst (λ n. nat_eq c n ≡ true) e (itself c)) f)
     ∙ sym (ap (λ b. cond b v (environment values c)) f))
 
-pub keeps-more : (cells i : ℕ) (lines : List ReportLine) (old new : Checked) (line : ReportLine) (known : List ℕ) → Keeps cells (take i lines) old → i < length lines → line ≡ line_at lines i → line.cell < cells → stands old.marks.items line.cell ≡ false → new.values.items ≡ set old.values.items line.cell line.value → new.marks.items ≡ set old.marks.items line.cell true → new.known.items ≡ known → length known ≡ cells → KnowsStanding old.marks.items known → Keeps cells (take (i + 1) lines) new
+pub keeps-more : (cells i : ℕ) (lines : List ReportLine) (old new : Checked) (line : ReportLine) (known : List ℕ) → Keeps cells (take i lines) old → i < length lines → line ≡ line_at lines i → line.cell < cells → is_set old.marks.items line.cell ≡ false → new.values.items ≡ set old.values.items line.cell line.value → new.marks.items ≡ set old.marks.items line.cell true → new.known.items ≡ known → length known ≡ cells → KnowsStanding old.marks.items known → Keeps cells (take (i + 1) lines) new
 keeps-more cells i lines old new line ks kept low is within away values marks same_known known_size known =
     let values_size = kept.values_size in
     let marks_size = kept.marks_size in
-    let grown : (c : ℕ) → stands new.marks.items c ≡ (stands old.marks.items c || (nat_eq c line.cell || false)) =
-    λ c. ap (λ (ms : List Bool). stands ms c) marks ∙ stands-more old.marks.items line.cell (omega arith) c in
+    let grown : (c : ℕ) → is_set new.marks.items c ≡ (is_set old.marks.items c || (nat_eq c line.cell || false)) =
+    λ c. ap (λ (ms : List Bool). is_set ms c) marks ∙ is_set-more old.marks.items line.cell (omega arith) c in
     subst (λ n. Keeps cells (take n lines) new) (sym (add-one i)) record {
       values_size = ap length values ∙ length-set old.values.items line.cell line.value ∙ kept.values_size;
       marks_size = ap length marks ∙ length-set old.marks.items line.cell true ∙ kept.marks_size;
@@ -159,13 +159,13 @@ keeps-more cells i lines old new line ks kept low is within away values marks sa
       values = λ c. ap (λ (vs : List Value). environment vs c) values
           ∙ value-set old.values.items line.cell line.value (omega arith) c
           ∙ ap (λ v. cond (nat_eq c line.cell) line.value v) (kept.values c)
-          ∙ ap (λ (l : ReportLine). cond (nat_eq c l.cell) l.value (values_told (take i lines) c)) is
-          ∙ sym (values-more lines i c low (ap (λ (l : ReportLine). is_among l.cell (cells_told (take i lines))) (sym is) ∙ sym (kept.marks line.cell) ∙ away));
+          ∙ ap (λ (l : ReportLine). cond (nat_eq c l.cell) l.value (reported_values (take i lines) c)) is
+          ∙ sym (values-more lines i c low (ap (λ (l : ReportLine). is_among l.cell (reported_cells (take i lines))) (sym is) ∙ sym (kept.marks line.cell) ∙ away));
       marks = λ c. grown c
           ∙ ap (λ b. b || (nat_eq c line.cell || false)) (kept.marks c)
-          ∙ ap (λ (l : ReportLine). is_among c (cells_told (take i lines)) || (nat_eq c l.cell || false)) is
-          ∙ sym (ap (is_among c) (cells-more lines i low) ∙ among-append c (cells_told (take i lines)) ((line_at lines i).cell ∷ []));
-      known = λ first c above below. grown c ∙ or-left (stands old.marks.items c) (nat_eq c line.cell || false) (subst (λ (ns : List ℕ). AllStand old.marks.items first (get_or ns first 0)) (sym same_known) (known first) c above below);
+          ∙ ap (λ (l : ReportLine). is_among c (reported_cells (take i lines)) || (nat_eq c l.cell || false)) is
+          ∙ sym (ap (is_among c) (cells-more lines i low) ∙ among-append c (reported_cells (take i lines)) ((line_at lines i).cell ∷ []));
+      known = λ first c above below. grown c ∙ or-left (is_set old.marks.items c) (nat_eq c line.cell || false) (subst (λ (ns : List ℕ). AllStand old.marks.items first (get_or ns first 0)) (sym same_known) (known first) c above below);
     }
 
 -- ---- what is found
@@ -194,7 +194,7 @@ term-within base c n t valid is size =
     terms-long b = length-map b.definitions (λ (d : Definition). d.1)
 
 -- a mark that was read
-pub mark-false : (marks : List Bool) (c : ℕ) (b : Bool) → b ≡ get_or marks c b → b ≡ false → stands marks c ≡ false
+pub mark-false : (marks : List Bool) (c : ℕ) (b : Bool) → b ≡ get_or marks c b → b ≡ false → is_set marks c ≡ false
 mark-false marks c b is f = ap (λ d. get_or marks c d) (sym f) ∙ sym is ∙ f
 
 -- what was derived of slices is derived of what is kept

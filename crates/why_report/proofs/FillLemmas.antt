@@ -14,17 +14,17 @@ use Rattle.micro_m.proofs.NumberLemmas.{same, itself, cases, clash, or-false}
 use Rattle.micro_m.proofs.TermLemmas.{term_value-same}
 use Rattle.micro_m.proofs.TurnLemmas.{option_cases}
 use Rattle.why_report.specs.declared.line.ReportLine.{ReportLine}
-use Rattle.why_report.specs.Derivations.{cells_told, values_told}
+use Rattle.why_report.specs.Derivations.{reported_cells, reported_values}
 use Rattle.why_report.specs.Reasons.{line_over, lines_over}
 use Rattle.why_report.specs.inner.Held.{AreFollowing}
 use Rattle.why_report.proofs.ReadLemmas.{or-either}
-use Rattle.why_report.proofs.ReasonLemmas.{told-more, following-line}
+use Rattle.why_report.proofs.ReasonLemmas.{reported-more, following-line}
 
 -- what holds when the first lines were put: the rest completes them, and the values are those that they tell
 pub record IsFill (base : Base) (given : Environment) (cells : List ℕ) (values : List Value) (lines : List ReportLine) (i : ℕ) : Type 0 where
   pub rest : lines_over base given (take i lines) (drop i cells) ≡ lines_over base given [] cells
-  pub following : AreFollowing base (cells_told (take i lines)) (drop i cells)
-  pub values_are : (c : ℕ) → is_among c (cells_told (take i lines)) ≡ true → environment values c ≡ values_told (take i lines) c
+  pub following : AreFollowing base (reported_cells (take i lines)) (drop i cells)
+  pub values_are : (c : ℕ) → is_among c (reported_cells (take i lines)) ≡ true → environment values c ≡ reported_values (take i lines) c
 
 pub fill-first : (base : Base) (given : Environment) (cells : List ℕ) (values : List Value) (lines : List ReportLine) → AreFollowing base [] cells → IsFill base given cells values lines 0
 fill-first base given cells values lines h = record { rest = refl; following = h; values_are = λ c t. absurd (cc) }
@@ -39,52 +39,52 @@ value-same base given e f x h = option_cases (definition_of base x)
     ∙ sym (ap (λ o. option_map_or (term_value f) o (given x)) s))
 
 -- one line after others tells its cell alone
-told-old : (lines : List ReportLine) (l : ReportLine) (c : ℕ) → is_among c (cells_told lines) ≡ true → values_told (lines ++ l ∷ []) c ≡ values_told lines c
-told-old [] l c h = absurd (cc)
-told-old (k ∷ lines) l c h = cases (nat_eq c k.cell)
-    (λ (t : nat_eq c k.cell ≡ true). ap (λ b. cond b k.value (values_told (lines ++ l ∷ []) c)) t ∙ sym (ap (λ b. cond b k.value (values_told lines c)) t))
+reported-old : (lines : List ReportLine) (l : ReportLine) (c : ℕ) → is_among c (reported_cells lines) ≡ true → reported_values (lines ++ l ∷ []) c ≡ reported_values lines c
+reported-old [] l c h = absurd (cc)
+reported-old (k ∷ lines) l c h = cases (nat_eq c k.cell)
+    (λ (t : nat_eq c k.cell ≡ true). ap (λ b. cond b k.value (reported_values (lines ++ l ∷ []) c)) t ∙ sym (ap (λ b. cond b k.value (reported_values lines c)) t))
     (λ (f : nat_eq c k.cell ≡ false).
-    ap (λ b. cond b k.value (values_told (lines ++ l ∷ []) c)) f
-    ∙ told-old lines l c (ap (λ b. b || is_among c (cells_told lines)) (sym f) ∙ h)
-    ∙ sym (ap (λ b. cond b k.value (values_told lines c)) f))
+    ap (λ b. cond b k.value (reported_values (lines ++ l ∷ []) c)) f
+    ∙ reported-old lines l c (ap (λ b. b || is_among c (reported_cells lines)) (sym f) ∙ h)
+    ∙ sym (ap (λ b. cond b k.value (reported_values lines c)) f))
 
-told-new : (lines : List ReportLine) (l : ReportLine) → is_among l.cell (cells_told lines) ≡ false → values_told (lines ++ l ∷ []) l.cell ≡ l.value
-told-new [] l h = ap (λ b. cond b l.value Undef) (itself l.cell)
-told-new (k ∷ lines) l h =
-    let o = or-false (nat_eq l.cell k.cell) (is_among l.cell (cells_told lines)) h in
-    ap (λ b. cond b k.value (values_told (lines ++ l ∷ []) l.cell)) o.0 ∙ told-new lines l o.1
+reported-new : (lines : List ReportLine) (l : ReportLine) → is_among l.cell (reported_cells lines) ≡ false → reported_values (lines ++ l ∷ []) l.cell ≡ l.value
+reported-new [] l h = ap (λ b. cond b l.value Undef) (itself l.cell)
+reported-new (k ∷ lines) l h =
+    let o = or-false (nat_eq l.cell k.cell) (is_among l.cell (reported_cells lines)) h in
+    ap (λ b. cond b k.value (reported_values (lines ++ l ∷ []) l.cell)) o.0 ∙ reported-new lines l o.1
 
 pub fill-turn : (base : Base) (given : Environment) (cells : List ℕ) (values : List Value) (lines : List ReportLine) (i x : ℕ) (v : Value) → i < length cells → i < length lines → x ≡ get_or cells i 0 → x < length values → v ≡ option_map_or (term_value (environment values)) (definition_of base x) (given x) → IsFill base given cells values lines i → IsFill base given cells (set values x v) (set lines i (record { cell = x; value = v })) (i + 1)
 fill-turn base given cells values lines i x v low room is within value fill =
-    let told : List ReportLine = take i lines in
+    let reported : List ReportLine = take i lines in
     let line : ReportLine = record { cell = x; value = v } in
     let one : suc i ≡ i + 1 = omega arith in
     let here : drop i cells ≡ x ∷ drop (i + 1) cells = drop-cons cells i 0 low ∙ ap (λ n. n ∷ drop (suc i) cells) (sym is) ∙ ap (λ n. x ∷ drop n cells) one in
-    let follows : AreFollowing base (cells_told told) (x ∷ drop (i + 1) cells) = subst (AreFollowing base (cells_told told)) here fill.following in
-    let more : take (i + 1) (set lines i line) ≡ told ++ line ∷ [] = take_more_set lines i line room in
-    let agrees : v ≡ option_map_or (term_value (values_told told)) (definition_of base x) (given x) =
-    value ∙ value-same base given (environment values) (values_told told) x (λ c r. fill.values_are c (follows.1 c r)) in
-    let line_is : line ≡ line_over base given told x = ap (λ (w : Value). record { cell = x; value = w }) agrees in
+    let follows : AreFollowing base (reported_cells reported) (x ∷ drop (i + 1) cells) = subst (AreFollowing base (reported_cells reported)) here fill.following in
+    let more : take (i + 1) (set lines i line) ≡ reported ++ line ∷ [] = take_more_set lines i line room in
+    let agrees : v ≡ option_map_or (term_value (reported_values reported)) (definition_of base x) (given x) =
+    value ∙ value-same base given (environment values) (reported_values reported) x (λ c r. fill.values_are c (follows.1 c r)) in
+    let line_is : line ≡ line_over base given reported x = ap (λ (w : Value). record { cell = x; value = w }) agrees in
     record {
-      rest = ap (λ (ls : List ReportLine). lines_over base given ls (drop (i + 1) cells)) (more ∙ ap (λ (l : ReportLine). told ++ l ∷ []) line_is)
-          ∙ sym (ap (lines_over base given told) here)
+      rest = ap (λ (ls : List ReportLine). lines_over base given ls (drop (i + 1) cells)) (more ∙ ap (λ (l : ReportLine). reported ++ l ∷ []) line_is)
+          ∙ sym (ap (lines_over base given reported) here)
           ∙ fill.rest;
-      following = subst (λ (ls : List ReportLine). AreFollowing base (cells_told ls) (drop (i + 1) cells)) (sym more) (following-line base told line (drop (i + 1) cells) follows.2);
+      following = subst (λ (ls : List ReportLine). AreFollowing base (reported_cells ls) (drop (i + 1) cells)) (sym more) (following-line base reported line (drop (i + 1) cells) follows.2);
       values_are = λ c t.
-          let among = ap (λ (ls : List ReportLine). is_among c (cells_told ls)) (sym more) ∙ t in
+          let among = ap (λ (ls : List ReportLine). is_among c (reported_cells ls)) (sym more) ∙ t in
           cases (nat_eq c x)
           (λ (y : nat_eq c x ≡ true).
           let e : c ≡ x = same c x y in
           ap (environment (set values x v)) e ∙ get_or-set_same values x v Undef within
-          ∙ sym (ap (values_told (take (i + 1) (set lines i line))) e ∙ ap (λ (ls : List ReportLine). values_told ls x) more ∙ told-new told line follows.0))
+          ∙ sym (ap (reported_values (take (i + 1) (set lines i line))) e ∙ ap (λ (ls : List ReportLine). reported_values ls x) more ∙ reported-new reported line follows.0))
           (λ (n : nat_eq c x ≡ false).
-          let old : is_among c (cells_told told) ≡ true = elim (or-either (is_among c (cells_told told)) (nat_eq c x || false) (sym (told-more told line c) ∙ among)) [
+          let old : is_among c (reported_cells reported) ≡ true = elim (or-either (is_among c (reported_cells reported)) (nat_eq c x || false) (sym (reported-more reported line c) ∙ among)) [
             | inl m ↦ m
             | inr m ↦ absurd (clash m (ap (λ b. b || false) n))
           ] in
           get_or-set_other values x c v Undef (λ e. clash (subst (λ m. nat_eq c m ≡ true) e (itself c)) n)
           ∙ fill.values_are c old
-          ∙ sym (ap (λ (ls : List ReportLine). values_told ls c) more ∙ told-old told line c old));
+          ∙ sym (ap (λ (ls : List ReportLine). reported_values ls c) more ∙ reported-old reported line c old));
     }
 
 pub fill-end : (base : Base) (given : Environment) (cells : List ℕ) (values : List Value) (lines : List ReportLine) (i : ℕ) → length cells ≤ i → IsFill base given cells values lines i → take i lines ≡ lines_over base given [] cells

@@ -9,19 +9,19 @@ use Rattle.micro_m.specs.Bases.{is_among, AreDistinctCells}
 use Rattle.micro_m.specs.Values.{Environment}
 use Rattle.micro_m.proofs.NumberLemmas.{same, itself, cases, or-false, clash, distinct, AreDistinct-push}
 use Rattle.why_report.specs.declared.line.ReportLine.{ReportLine}
-use Rattle.why_report.specs.Derivations.{cells_told, values_told, line_at, IsDerived, IsDerivedAt, IsSound}
+use Rattle.why_report.specs.Derivations.{reported_cells, reported_values, line_at, IsDerived, IsDerivedAt, IsSound}
 
 -- a cell that lines tell, and the first line that tells it
-pub told-at : (lines : List ReportLine) (c : ℕ) → is_among c (cells_told lines) ≡ true → (q : ℕ) × (q < length lines) × ((d : ReportLine) → (get_or lines q d).cell ≡ c) × ((d : ReportLine) → (get_or lines q d).value ≡ values_told lines c)
-told-at [] c h = absurd (cc)
-told-at (line ∷ lines) c h = cases (nat_eq c line.cell)
-    (λ (t : nat_eq c line.cell ≡ true). (0, omega arith, λ d. sym (same c line.cell t), λ d. sym (ap (λ b. cond b line.value (values_told lines c)) t)))
+pub reported-at : (lines : List ReportLine) (c : ℕ) → is_among c (reported_cells lines) ≡ true → (q : ℕ) × (q < length lines) × ((d : ReportLine) → (get_or lines q d).cell ≡ c) × ((d : ReportLine) → (get_or lines q d).value ≡ reported_values lines c)
+reported-at [] c h = absurd (cc)
+reported-at (line ∷ lines) c h = cases (nat_eq c line.cell)
+    (λ (t : nat_eq c line.cell ≡ true). (0, omega arith, λ d. sym (same c line.cell t), λ d. sym (ap (λ b. cond b line.value (reported_values lines c)) t)))
     (λ (f : nat_eq c line.cell ≡ false).
-    let k = told-at lines c (ap (λ b. b || is_among c (cells_told lines)) (sym f) ∙ h) in
-    (suc k.0, omega arith, k.2, λ d. k.3 d ∙ sym (ap (λ b. cond b line.value (values_told lines c)) f)))
+    let k = reported-at lines c (ap (λ b. b || is_among c (reported_cells lines)) (sym f) ∙ h) in
+    (suc k.0, omega arith, k.2, λ d. k.3 d ∙ sym (ap (λ b. cond b line.value (reported_values lines c)) f)))
 
 -- one line more tells its cell
-pub cells-more : (lines : List ReportLine) (i : ℕ) → i < length lines → cells_told (take (suc i) lines) ≡ cells_told (take i lines) ++ (line_at lines i).cell ∷ []
+pub cells-more : (lines : List ReportLine) (i : ℕ) → i < length lines → reported_cells (take (suc i) lines) ≡ reported_cells (take i lines) ++ (line_at lines i).cell ∷ []
 cells-more [] i low = absurd (omega arith)
 cells-more (l ∷ lines) zero low = refl
 cells-more (l ∷ lines) (suc i) low = ap (λ (cs : List ℕ). l.cell ∷ cs) (cells-more lines i (omega arith))
@@ -41,44 +41,44 @@ swap c a b x y z f = cases (nat_eq c a)
     ∙ sym (ap (λ e. cond (nat_eq c b) y (cond e x z)) g))
 
 -- one line more, of another cell than those before it, tells its value
-pub values-more : (lines : List ReportLine) (i c : ℕ) → i < length lines → is_among (line_at lines i).cell (cells_told (take i lines)) ≡ false → values_told (take (suc i) lines) c ≡ cond (nat_eq c (line_at lines i).cell) (line_at lines i).value (values_told (take i lines) c)
+pub values-more : (lines : List ReportLine) (i c : ℕ) → i < length lines → is_among (line_at lines i).cell (reported_cells (take i lines)) ≡ false → reported_values (take (suc i) lines) c ≡ cond (nat_eq c (line_at lines i).cell) (line_at lines i).value (reported_values (take i lines) c)
 values-more [] i c low away = absurd (omega arith)
 values-more (l ∷ lines) zero c low away = refl
 values-more (l ∷ lines) (suc i) c low away =
     let line : ReportLine = line_at lines i in
-    let k = or-false (nat_eq line.cell l.cell) (is_among line.cell (cells_told (take i lines))) away in
+    let k = or-false (nat_eq line.cell l.cell) (is_among line.cell (reported_cells (take i lines))) away in
     ap (λ v. cond (nat_eq c l.cell) l.value v) (values-more lines i c (omega arith) k.1)
-    ∙ swap c l.cell line.cell l.value line.value (values_told (take i lines) c) k.0
+    ∙ swap c l.cell line.cell l.value line.value (reported_values (take i lines) c) k.0
 
 -- ---- lines that follow
 
 -- the lines before a position tell distinct cells, if each follows
-pub told-distinct : (base : Base) (given : Environment) (lines : List ReportLine) (k : ℕ) → ((p : ℕ) → p < k → IsDerivedAt base given lines p) → k ≤ length lines → AreDistinctCells (cells_told (take k lines))
-told-distinct base given lines zero sound low = tt
-told-distinct base given lines (suc k) sound low =
+pub reported-distinct : (base : Base) (given : Environment) (lines : List ReportLine) (k : ℕ) → ((p : ℕ) → p < k → IsDerivedAt base given lines p) → k ≤ length lines → AreDistinctCells (reported_cells (take k lines))
+reported-distinct base given lines zero sound low = tt
+reported-distinct base given lines (suc k) sound low =
     subst AreDistinctCells (sym (cells-more lines k (omega arith)))
-    (AreDistinct-push (cells_told (take k lines)) (line_at lines k).cell
-    (told-distinct base given lines k (λ p h. sound p (omega arith)) (omega arith))
-    (sound k (omega arith)).told_once)
+    (AreDistinct-push (reported_cells (take k lines)) (line_at lines k).cell
+    (reported-distinct base given lines k (λ p h. sound p (omega arith)) (omega arith))
+    (sound k (omega arith)).reported_once)
 
 -- they are no more than there are cells
-pub told-few : (base : Base) (given : Environment) (lines : List ReportLine) (k : ℕ) → ((p : ℕ) → p < k → IsDerivedAt base given lines p) → k ≤ length lines → All (λ line. line.cell < base.cells) lines → k ≤ base.cells
-told-few base given lines k sound low cells =
-    let few = length-le_from_distinct_below (cells_told (take k lines)) base.cells
-    (distinct (cells_told (take k lines)) (told-distinct base given lines k sound low))
+pub reported-few : (base : Base) (given : Environment) (lines : List ReportLine) (k : ℕ) → ((p : ℕ) → p < k → IsDerivedAt base given lines p) → k ≤ length lines → All (λ line. line.cell < base.cells) lines → k ≤ base.cells
+reported-few base given lines k sound low cells =
+    let few = length-le_from_distinct_below (reported_cells (take k lines)) base.cells
+    (distinct (reported_cells (take k lines)) (reported-distinct base given lines k sound low))
     (λ q h.
-    let at = told-at (take k lines) q h in
+    let at = reported-at (take k lines) q h in
     let long = length-take-le k lines low in
     let here : get_or (take k lines) at.0 (line_at lines 0) ≡ get_or lines at.0 (line_at lines 0) = get_or-take k lines at.0 (line_at lines 0) (omega arith) in
     let below = cells at.0 (line_at lines 0) (omega arith) in
     subst (λ n. n < base.cells) (ap (λ (l : ReportLine). l.cell) (sym here) ∙ at.2 (line_at lines 0)) below) in
     let long = length-take-le k lines low in
-    let same_length = told-length (take k lines) in
+    let same_length = reported-length (take k lines) in
     omega arith
   where
-    told-length : (ls : List ReportLine) → length (cells_told ls) ≡ length ls
-    told-length [] = refl
-    told-length (l ∷ ls) = ap (λ n. suc n) (told-length ls)
+    reported-length : (ls : List ReportLine) → length (reported_cells ls) ≡ length ls
+    reported-length [] = refl
+    reported-length (l ∷ ls) = ap (λ n. suc n) (reported-length ls)
 
 -- what follows in a list follows in a part of it from its first line on
 pub sound-part : (base : Base) (given : Environment) (lines : List ReportLine) (k : ℕ) → ((p : ℕ) → p < k → IsDerivedAt base given lines p) → k ≤ length lines → IsSound base given (take k lines)

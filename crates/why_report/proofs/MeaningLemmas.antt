@@ -16,8 +16,8 @@ use Rattle.micro_m.proofs.PositionLemmas.{definition_of-position}
 use Rattle.micro_m.proofs.TermLemmas.{term_value-same}
 use Rattle.micro_m.proofs.TurnLemmas.{option_cases}
 use Rattle.why_report.specs.declared.line.ReportLine.{ReportLine}
-use Rattle.why_report.specs.Derivations.{cells_told, values_told, line_at, IsSound}
-use Rattle.why_report.proofs.ListLemmas.{told-at, told-distinct}
+use Rattle.why_report.specs.Derivations.{reported_cells, reported_values, line_at, IsSound}
+use Rattle.why_report.proofs.ListLemmas.{reported-at, reported-distinct}
 
 -- ---- the cells that have definitions
 
@@ -76,15 +76,15 @@ defined-target base x (c ∷ cs) h = option_cases (definition_of base c)
 -- ---- how many of the first lines have a definition
 
 abbrev rank : Base → List ReportLine → ℕ → ℕ
-rank base lines k = length (defined_among base (cells_told (take k lines)))
+rank base lines k = length (defined_among base (reported_cells (take k lines)))
 
 rank-more : (base : Base) (lines : List ReportLine) (k : ℕ) → k < length lines → rank base lines (suc k) ≡ rank base lines k + weight (definition_of base (line_at lines k).cell)
 rank-more base [] k low = absurd (omega arith)
 rank-more base (l ∷ lines) zero low = length-pushed (definition_of base l.cell) l.cell []
 rank-more base (l ∷ lines) (suc k) low =
     let i = rank-more base lines k (omega arith) in
-    let a = length-pushed (definition_of base l.cell) l.cell (defined_among base (cells_told (take (suc k) lines))) in
-    let b = length-pushed (definition_of base l.cell) l.cell (defined_among base (cells_told (take k lines))) in
+    let a = length-pushed (definition_of base l.cell) l.cell (defined_among base (reported_cells (take (suc k) lines))) in
+    let b = length-pushed (definition_of base l.cell) l.cell (defined_among base (reported_cells (take k lines))) in
     omega arith
 
 rank-grows : (base : Base) (lines : List ReportLine) (d q : ℕ) → d + q ≤ length lines → rank base lines q ≤ rank base lines (d + q)
@@ -105,9 +105,9 @@ rank-below base lines q p h low =
 
 rank-few : (base : Base) (given : Environment) (lines : List ReportLine) (k : ℕ) → IsSound base given lines → k ≤ length lines → rank base lines k ≤ length base.definitions
 rank-few base given lines k sound low =
-    let cs : List ℕ = cells_told (take k lines) in
+    let cs : List ℕ = reported_cells (take k lines) in
     let few = length-le_from_among (defined_among base cs) (targets_of base)
-    (defined-distinct base cs (told-distinct base given lines k (λ p h. sound p (omega arith)) low))
+    (defined-distinct base cs (reported-distinct base given lines k (λ p h. sound p (omega arith)) low))
     (λ x h. defined-target base x cs h) in
     let long : length (targets_of base) ≡ length base.definitions = length-map base.definitions (λ (d : Definition). d.0) in
     omega arith
@@ -122,13 +122,13 @@ value-by base given lines sound (suc k) p (suc m) h low enough =
     option_cases (definition_of base line.cell)
     (λ (none : definition_of base line.cell ≡ None).
     ap (λ o. option_map_or (term_value (value_in base given m)) o (given line.cell)) none
-    ∙ sym ((sound p low).has_value ∙ ap (λ o. option_map_or (term_value (values_told (take p lines))) o (given line.cell)) none))
+    ∙ sym ((sound p low).has_value ∙ ap (λ o. option_map_or (term_value (reported_values (take p lines))) o (given line.cell)) none))
     (λ t (some : definition_of base line.cell ≡ Some t).
     ap (λ o. option_map_or (term_value (value_in base given m)) o (given line.cell)) some
-    ∙ term_value-same t (value_in base given m) (values_told (take p lines))
+    ∙ term_value-same t (value_in base given m) (reported_values (take p lines))
     (λ c r.
     let among = (sound p low).reads_earlier c (subst (λ o. IsSomeAnd o (λ u. TermReads u c)) (sym some) r) in
-    let q = told-at (take p lines) c among in
+    let q = reported-at (take p lines) c among in
     let long = length-take-le p lines (omega arith) in
     let before : q.0 < p = omega arith in
     let here : get_or (take p lines) q.0 (line_at [] 0) ≡ line_at lines q.0 = get_or-take p lines q.0 (line_at [] 0) before in
@@ -138,7 +138,7 @@ value-by base given lines sound (suc k) p (suc m) h low enough =
     ap (value_in base given m) (sym (q.2 (line_at [] 0)) ∙ ap (λ (l : ReportLine). l.cell) here)
     ∙ value-by base given lines sound k q.0 m (omega arith) (omega arith) (omega arith)
     ∙ ap (λ (l : ReportLine). l.value) (sym here) ∙ q.3 (line_at [] 0))
-    ∙ sym ((sound p low).has_value ∙ ap (λ o. option_map_or (term_value (values_told (take p lines))) o (given line.cell)) some))
+    ∙ sym ((sound p low).has_value ∙ ap (λ o. option_map_or (term_value (reported_values (take p lines))) o (given line.cell)) some))
 
 pub sound-values : (base : Base) (given : Environment) (lines : List ReportLine) → IsSound base given lines → All (λ line. line.value ≡ value_of base given line.cell) lines
 sound-values base given lines sound k d low =

@@ -11,7 +11,7 @@ use Rattle.micro_m.proofs.NumberLemmas.{same, itself, cases, or-false, or-true, 
 use Rattle.rule_order.specs.declared.ordered.Ordered.{Ordered}
 use Rattle.rule_order.specs.Orders.{IsOrder}
 use Rattle.why_report.specs.declared.line.ReportLine.{ReportLine}
-use Rattle.why_report.specs.Derivations.{cells_told, line_at, IsDerived, IsDerivedAt, IsSound}
+use Rattle.why_report.specs.Derivations.{reported_cells, line_at, IsDerived, IsDerivedAt, IsSound}
 use Rattle.why_report.specs.Reasons.{AreNeededBy, IsReasonOf, cell_reads, cells_down, is_needed, needed_along, needed_cells, line_over, lines_over, why_lines}
 use Rattle.why_report.specs.inner.Held.{AreFollowing}
 use Rattle.why_report.proofs.ReadLemmas.{or-left, or-either, or-none, reads-cell, any-read}
@@ -175,37 +175,37 @@ needed-all-below ordered c valid order k d low = needed-below ordered c valid or
 
 -- ---- their lines
 
-pub told-append : (lines more : List ReportLine) → cells_told (lines ++ more) ≡ cells_told lines ++ cells_told more
-told-append [] more = refl
-told-append (l ∷ lines) more = ap (λ (cs : List ℕ). l.cell ∷ cs) (told-append lines more)
+pub reported-append : (lines more : List ReportLine) → reported_cells (lines ++ more) ≡ reported_cells lines ++ reported_cells more
+reported-append [] more = refl
+reported-append (l ∷ lines) more = ap (λ (cs : List ℕ). l.cell ∷ cs) (reported-append lines more)
 
-pub told-more : (lines : List ReportLine) (line : ReportLine) (c : ℕ) → is_among c (cells_told (lines ++ line ∷ [])) ≡ (is_among c (cells_told lines) || (nat_eq c line.cell || false))
-told-more lines line c = ap (is_among c) (told-append lines (line ∷ [])) ∙ among-append c (cells_told lines) (line.cell ∷ [])
+pub reported-more : (lines : List ReportLine) (line : ReportLine) (c : ℕ) → is_among c (reported_cells (lines ++ line ∷ [])) ≡ (is_among c (reported_cells lines) || (nat_eq c line.cell || false))
+reported-more lines line c = ap (is_among c) (reported-append lines (line ∷ [])) ∙ among-append c (reported_cells lines) (line.cell ∷ [])
 
 -- cells that follow one stand after its line
-pub following-line : (base : Base) (lines : List ReportLine) (line : ReportLine) (cells : List ℕ) → AreFollowing base (line.cell ∷ cells_told lines) cells → AreFollowing base (cells_told (lines ++ line ∷ [])) cells
+pub following-line : (base : Base) (lines : List ReportLine) (line : ReportLine) (cells : List ℕ) → AreFollowing base (line.cell ∷ reported_cells lines) cells → AreFollowing base (reported_cells (lines ++ line ∷ [])) cells
 following-line base lines line cells h =
-    following-less base (line.cell ∷ cells_told lines) (cells_told (lines ++ line ∷ [])) cells
-    (λ c k. elim (or-either (is_among c (cells_told lines)) (nat_eq c line.cell || false) (sym (told-more lines line c) ∙ k)) [
-      | inl m ↦ or-true (nat_eq c line.cell) (is_among c (cells_told lines)) m
-      | inr m ↦ or-left (nat_eq c line.cell) (is_among c (cells_told lines)) (sym (or-none (nat_eq c line.cell)) ∙ m)
+    following-less base (line.cell ∷ reported_cells lines) (reported_cells (lines ++ line ∷ [])) cells
+    (λ c k. elim (or-either (is_among c (reported_cells lines)) (nat_eq c line.cell || false) (sym (reported-more lines line c) ∙ k)) [
+      | inl m ↦ or-true (nat_eq c line.cell) (is_among c (reported_cells lines)) m
+      | inr m ↦ or-left (nat_eq c line.cell) (is_among c (reported_cells lines)) (sym (or-none (nat_eq c line.cell)) ∙ m)
     ])
-    (λ c r k. told-more lines line c ∙ elim (or-either (nat_eq c line.cell) (is_among c (cells_told lines)) k) [
-      | inl y ↦ or-true (is_among c (cells_told lines)) (nat_eq c line.cell || false) (or-left (nat_eq c line.cell) false y)
-      | inr m ↦ or-left (is_among c (cells_told lines)) (nat_eq c line.cell || false) m
+    (λ c r k. reported-more lines line c ∙ elim (or-either (nat_eq c line.cell) (is_among c (reported_cells lines)) k) [
+      | inl y ↦ or-true (is_among c (reported_cells lines)) (nat_eq c line.cell || false) (or-left (nat_eq c line.cell) false y)
+      | inr m ↦ or-left (is_among c (reported_cells lines)) (nat_eq c line.cell || false) m
     ])
     h
 
-pub lines-cells : (base : Base) (given : Environment) (earlier : List ReportLine) (cells : List ℕ) → cells_told (lines_over base given earlier cells) ≡ cells_told earlier ++ cells
-lines-cells base given earlier [] = sym (append-none (cells_told earlier))
+pub lines-cells : (base : Base) (given : Environment) (earlier : List ReportLine) (cells : List ℕ) → reported_cells (lines_over base given earlier cells) ≡ reported_cells earlier ++ cells
+lines-cells base given earlier [] = sym (append-none (reported_cells earlier))
   where
     append-none : (xs : List ℕ) → xs ++ [] ≡ xs
     append-none [] = refl
     append-none (x ∷ xs) = ap (λ (ys : List ℕ). x ∷ ys) (append-none xs)
 lines-cells base given earlier (c ∷ cells) =
     lines-cells base given (earlier ++ line_over base given earlier c ∷ []) cells
-    ∙ ap (λ (xs : List ℕ). xs ++ cells) (told-append earlier (line_over base given earlier c ∷ []))
-    ∙ append-assoc (cells_told earlier) (c ∷ []) cells
+    ∙ ap (λ (xs : List ℕ). xs ++ cells) (reported-append earlier (line_over base given earlier c ∷ []))
+    ∙ append-assoc (reported_cells earlier) (c ∷ []) cells
   where
     append-assoc : (xs ys zs : List ℕ) → (xs ++ ys) ++ zs ≡ xs ++ (ys ++ zs)
     append-assoc [] ys zs = refl
@@ -247,12 +247,12 @@ sound-more base given lines l sound here p low = elim (cases_lt p (length lines)
       (subst (λ (line : ReportLine). IsDerived base given lines line) (sym (line-last lines l)) here))
 ]
 
-pub lines-sound : (base : Base) (given : Environment) (earlier : List ReportLine) (cells : List ℕ) → IsSound base given earlier → AreFollowing base (cells_told earlier) cells → IsSound base given (lines_over base given earlier cells)
+pub lines-sound : (base : Base) (given : Environment) (earlier : List ReportLine) (cells : List ℕ) → IsSound base given earlier → AreFollowing base (reported_cells earlier) cells → IsSound base given (lines_over base given earlier cells)
 lines-sound base given earlier [] sound h = sound
 lines-sound base given earlier (c ∷ cells) sound h =
     let line : ReportLine = line_over base given earlier c in
     lines-sound base given (earlier ++ line ∷ []) cells
-    (sound-more base given earlier line sound record { told_once = h.0; reads_earlier = h.1; has_value = refl })
+    (sound-more base given earlier line sound record { reported_once = h.0; reads_earlier = h.1; has_value = refl })
     (following-line base earlier line cells h.2)
 
 -- the reason of a cell's value
@@ -273,7 +273,7 @@ why-below ordered given c valid order k d low =
     lines : List ReportLine
     lines = why_lines ordered given c
 
-    at : (ls : List ReportLine) (i : ℕ) (d : ReportLine) → i < length ls → is_among (get_or ls i d).cell (cells_told ls) ≡ true
+    at : (ls : List ReportLine) (i : ℕ) (d : ReportLine) → i < length ls → is_among (get_or ls i d).cell (reported_cells ls) ≡ true
     at [] i d h = absurd (omega arith)
-    at (l ∷ ls) zero d h = or-left (nat_eq l.cell l.cell) (is_among l.cell (cells_told ls)) (itself l.cell)
-    at (l ∷ ls) (suc i) d h = or-true (nat_eq (get_or ls i d).cell l.cell) (is_among (get_or ls i d).cell (cells_told ls)) (at ls i d (omega arith))
+    at (l ∷ ls) zero d h = or-left (nat_eq l.cell l.cell) (is_among l.cell (reported_cells ls)) (itself l.cell)
+    at (l ∷ ls) (suc i) d h = or-true (nat_eq (get_or ls i d).cell l.cell) (is_among (get_or ls i d).cell (reported_cells ls)) (at ls i d (omega arith))

@@ -9,21 +9,21 @@ use Rattle.micro_m.specs.Values.{Environment, term_value}
 use Rattle.why_report.specs.declared.line.ReportLine.{ReportLine}
 
 -- the cells that lines tell, in order
-abbrev pub cells_told : List ReportLine → List ℕ
-cells_told lines = map (λ line. line.cell) lines
+abbrev pub reported_cells : List ReportLine → List ℕ
+reported_cells lines = map (λ line. line.cell) lines
 
 -- the values that lines tell: a cell that none of them has is undefined
-abbrev pub values_told : List ReportLine → Environment
-values_told [] c = Undef
-values_told (line ∷ lines) c = if c == line.cell then line.value else values_told lines c
+abbrev pub reported_values : List ReportLine → Environment
+reported_values [] c = Undef
+reported_values (line ∷ lines) c = if c == line.cell then line.value else reported_values lines c
 
 -- A line follows from earlier ones over an environment: none of them has its cell; all cells that its definition reads stand in
 -- them; and its value is that of the term under their values, or without a definition what the environment gives. Where `IRN = REV`
 -- is defined, the line `IRN = 2500.5` follows from `REV = 2500.5`, and not from no lines.
 pub record IsDerived (base : Base) (given : Environment) (earlier : List ReportLine) (line : ReportLine) : Type 0 where
-  pub told_once : is_among line.cell (cells_told earlier) ≡ false
-  pub reads_earlier : (c : ℕ) → Reads base line.cell c → is_among c (cells_told earlier) ≡ true
-  pub has_value : line.value ≡ option_map_or (term_value (values_told earlier)) (definition_of base line.cell) (given line.cell)
+  pub reported_once : is_among line.cell (reported_cells earlier) ≡ false
+  pub reads_earlier : (c : ℕ) → Reads base line.cell c → is_among c (reported_cells earlier) ≡ true
+  pub has_value : line.value ≡ option_map_or (term_value (reported_values earlier)) (definition_of base line.cell) (given line.cell)
 
 -- the line at a position of a list
 abbrev pub line_at : List ReportLine → ℕ → ReportLine

@@ -9,7 +9,7 @@ use Rattle.micro_m.specs.ReadTests.{term_reads}
 use Rattle.micro_m.specs.Values.{Environment, term_value}
 use Rattle.rule_order.specs.declared.ordered.Ordered.{Ordered}
 use Rattle.why_report.specs.declared.line.ReportLine.{ReportLine}
-use Rattle.why_report.specs.Derivations.{cells_told, values_told, IsSound}
+use Rattle.why_report.specs.Derivations.{reported_cells, reported_values, IsSound}
 
 -- ---- what a reason is
 
@@ -27,7 +27,7 @@ AreNeededBy base c (d ∷ x ∷ later) = IsReadAmong base (x ∷ later) d × Are
 -- cell is read by a later line.
 pub record IsReasonOf (base : Base) (given : Environment) (c : ℕ) (lines : List ReportLine) : Type 0 where
   pub sound : IsSound base given lines
-  pub needed : AreNeededBy base c (cells_told lines)
+  pub needed : AreNeededBy base c (reported_cells lines)
 
 -- ---- what is read
 
@@ -70,7 +70,7 @@ needed_cells ordered c = needed_along ordered.base c [] (cells_down ordered)
 
 -- the line of a cell after earlier lines
 abbrev pub line_over : Base → Environment → List ReportLine → ℕ → ReportLine
-line_over base given earlier c = record { cell = c; value = option_map_or (term_value (values_told earlier)) (definition_of base c) (given c) }
+line_over base given earlier c = record { cell = c; value = option_map_or (term_value (reported_values earlier)) (definition_of base c) (given c) }
 
 -- the lines of cells in order, after earlier lines
 abbrev pub lines_over : Base → Environment → List ReportLine → List ℕ → List ReportLine

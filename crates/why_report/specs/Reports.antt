@@ -39,8 +39,8 @@ amount_value (Ok amount) = Some (Num amount)
 amount_value (Err fault) = None
 
 -- The value that is said after a cell's name and a space: `= 2500.50`, with any spelling of an amount, `undefined` or `over`.
-abbrev pub value_said : List ℕ → Option Value
-value_said text =
+abbrev pub parsed_value : List ℕ → Option Value
+parsed_value text =
     if bytes_eq text (codes "undefined") then Some Undef
     else if bytes_eq text (codes "over") then Some Over
     else option_and_then (λ amount. amount_value (amount_read (text_value amount))) (behind_equals text)
@@ -50,12 +50,12 @@ abbrev pub cell_with : Declared → List ℕ → Value → Option ReportLine
 cell_with declared name v = option_map (λ c. record { cell = c; value = v }) (request_cell declared name)
 
 -- what a line says in two parts
-abbrev pub parts_said : Declared → List ℕ × Option (List ℕ) → Option ReportLine
-parts_said declared parts = option_and_then (cell_with declared parts.0) (option_and_then value_said parts.1)
+abbrev pub parsed_parts : Declared → List ℕ × Option (List ℕ) → Option ReportLine
+parsed_parts declared parts = option_and_then (cell_with declared parts.0) (option_and_then parsed_value parts.1)
 
 -- The line of a derivation that a line of text says, if it says one: the printed name of a cell, one space, and its value.
-abbrev pub line_said : Declared → List ℕ → Option ReportLine
-line_said declared line = parts_said declared (split_at_space line)
+abbrev pub parsed_line : Declared → List ℕ → Option ReportLine
+parsed_line declared line = parsed_parts declared (split_at_space line)
 
 -- whether a line that stands before these is the last, and is `.`
 abbrev pub ends_report : List ℕ → List (List ℕ) → Bool
@@ -64,12 +64,12 @@ ends_report line (next ∷ lines) = false
 
 -- What lines say, of which the first has this number, after what those before it said: a line of a derivation each, or the number
 -- of the first that says none. A last line `.` says nothing.
-abbrev pub lines_said : Declared → ℕ → List ReportLine → List (List ℕ) → Result (List ReportLine) ReportFault
-lines_said declared number before [] = Ok before
-lines_said declared number before (line ∷ lines) =
+abbrev pub parsed_lines : Declared → ℕ → List ReportLine → List (List ℕ) → Result (List ReportLine) ReportFault
+parsed_lines declared number before [] = Ok before
+parsed_lines declared number before (line ∷ lines) =
     if ends_report line lines then Ok before
-    else option_map_or (λ said. lines_said declared (number + 1) (before ++ said ∷ []) lines) (line_said declared line) (Err (BadLine number))
+    else option_map_or (λ stated. parsed_lines declared (number + 1) (before ++ stated ∷ []) lines) (parsed_line declared line) (Err (BadLine number))
 
 -- What a report says: the lines of a derivation, or its first bad line, by its number from 1.
-abbrev pub report_said : Declared → List ℕ → Result (List ReportLine) ReportFault
-report_said declared bytes = lines_said declared 1 [] (exact_lines_of bytes)
+abbrev pub parsed_report : Declared → List ℕ → Result (List ReportLine) ReportFault
+parsed_report declared bytes = parsed_lines declared 1 [] (exact_lines_of bytes)

@@ -10,7 +10,7 @@ ghost use Rattle.why_report.specs.inner.Checked.{ArePlaces, Keeps, derived_value
 
 use crate::ReportLine;
 use crate::places::{definition_at, places_of};
-use crate::standing::term_stands;
+use crate::standing::term_is_marked;
 use m_fixed::Value;
 use micro_m::{Base, term_value};
 use std::alloc::{AllocError, Global};
@@ -125,7 +125,7 @@ fn derived_value(
 {
     match definition_at(base, places, cell) {
         Some(term) => {
-            if term_stands(term, marks, known) {
+            if term_is_marked(term, marks, known) {
                 Some(term_value(term, values))
             } else {
                 None

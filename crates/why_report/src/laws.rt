@@ -11,7 +11,7 @@ ghost use Rattle.why_report.specs.Derivations.{IsSound};
 ghost use Rattle.why_report.specs.Reasons.{IsReasonOf, why_lines};
 
 /// Each value of a sound derivation is its cell's value by the base's meaning, also where other cells of the base are on a cycle.
-pub fn sound_lines_tell_values()
+pub fn sound_lines_hold_values()
     ensures { (base : Base) (given : Environment) (lines : List ReportLine) → IsSound base given lines
         → All (λ line. line.value ≡ value_of base given line.cell) lines }
 {}

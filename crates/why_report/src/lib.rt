@@ -22,7 +22,7 @@ mod starts;
 
 pub use check::first_unsound;
 pub use fault::ReportFault;
-pub use laws::{sound_lines_tell_values, why_lines_are_a_reason};
+pub use laws::{sound_lines_hold_values, why_lines_are_a_reason};
 pub use line::ReportLine;
 pub use print::print_report;
 pub use read::read_report;

@@ -9,7 +9,7 @@ ghost use Rattle.m_text.specs.Lines.{exact_lines_of};
 ghost use Rattle.m_symbols.specs.Declarations.{owners_from};
 ghost use Rattle.m_symbols.specs.Placed.{IsPlaced};
 ghost use Rattle.why_report.specs.declared.fault.ReportFault.TheVariants.{Memory};
-ghost use Rattle.why_report.specs.Reports.{behind_equals, amount_value, value_said, line_said, ends_report, report_said};
+ghost use Rattle.why_report.specs.Reports.{behind_equals, amount_value, parsed_value, parsed_line, ends_report, parsed_report};
 
 use crate::{ReportFault, ReportLine};
 use m_fixed::{Value, read_amount};
@@ -29,8 +29,8 @@ pub fn read_report(
 ) -> Result<Seq<ReportLine>, ReportFault>
     requires placed { IsPlaced symbols.now }
     requires small { length bytes.now ≤ CODE_FILE_BYTES }
-    ensures outcome { Outcome Memory result (λ lines. report_said symbols.now bytes.now ≡ Ok lines)
-        (λ fault. report_said symbols.now bytes.now ≡ Err fault) }
+    ensures outcome { Outcome Memory result (λ lines. parsed_report symbols.now bytes.now ≡ Ok lines)
+        (λ fault. parsed_report symbols.now bytes.now ≡ Err fault) }
     ensures known { IfOk result (All (λ line. line.cell < length (owners_from 0 symbols.now.variables))) }
 {
     let mut lines = Vec::new(alloc);
@@ -47,8 +47,8 @@ fn add_lines(
     requires placed { IsPlaced symbols.now }
     requires small { length bytes.now ≤ CODE_FILE_BYTES }
     requires none { lines.old.items ≡ [] }
-    ensures outcome { Outcome Memory result (λ _. report_said symbols.now bytes.now ≡ Ok lines.new.items)
-        (λ fault. report_said symbols.now bytes.now ≡ Err fault) }
+    ensures outcome { Outcome Memory result (λ _. parsed_report symbols.now bytes.now ≡ Ok lines.new.items)
+        (λ fault. parsed_report symbols.now bytes.now ≡ Err fault) }
     ensures known { OnOk result (All (λ line. line.cell < length (owners_from 0 symbols.now.variables)) lines.new.items) }
 {
     let mut number = 1u32;
@@ -69,14 +69,14 @@ fn add_lines(
 // Adds the line of a derivation that a line of text says, and tells whether it says one.
 fn add_line(line: &[u8], symbols: &Symbols, lines: &mut Vec<ReportLine>) -> Result<bool, AllocError>
     requires placed { IsPlaced symbols.now }
-    requires known { All (λ told. told.cell < length (owners_from 0 symbols.now.variables)) lines.old.items }
-    ensures said { IfOk result (λ said. said ≡ is_some (line_said symbols.now line.now)) }
-    ensures added { OnOk result (lines.new.items ≡ lines.old.items ++ option_to_list (line_said symbols.now line.now)) }
-    ensures known { OnOk result (All (λ told. told.cell < length (owners_from 0 symbols.now.variables)) lines.new.items) }
+    requires known { All (λ reported. reported.cell < length (owners_from 0 symbols.now.variables)) lines.old.items }
+    ensures stated { IfOk result (λ stated. stated ≡ is_some (parsed_line symbols.now line.now)) }
+    ensures added { OnOk result (lines.new.items ≡ lines.old.items ++ option_to_list (parsed_line symbols.now line.now)) }
+    ensures known { OnOk result (All (λ reported. reported.cell < length (owners_from 0 symbols.now.variables)) lines.new.items) }
 {
     match read_line(line, symbols) {
-        Some(said) => {
-            add(said.cell, said.value, lines)?;
+        Some(stated) => {
+            add(stated.cell, stated.value, lines)?;
             Ok(true)
         }
         None => Ok(false),
@@ -104,8 +104,8 @@ fn ends_report(line: &[u8], rest: &[u8]) -> bool
 // The line of a derivation that a line of text says.
 fn read_line(line: &[u8], symbols: &Symbols) -> Option<ReportLine>
     requires { IsPlaced symbols.now }
-    ensures said { result ≡ line_said symbols.now line.now }
-    ensures known { IfSome result (λ said. said.cell < length (owners_from 0 symbols.now.variables)) }
+    ensures stated { result ≡ parsed_line symbols.now line.now }
+    ensures known { IfSome result (λ stated. stated.cell < length (owners_from 0 symbols.now.variables)) }
 {
     let at = first_of(line, b' ');
     if at == line.len() {
@@ -118,7 +118,7 @@ fn read_line(line: &[u8], symbols: &Symbols) -> Option<ReportLine>
 
 // The value that is said after a cell's name and a space.
 fn read_value(text: &[u8]) -> Option<Value>
-    ensures { result ≡ value_said text.now }
+    ensures { result ≡ parsed_value text.now }
 {
     if text == b"undefined".as_slice() {
         return Some(Value::Undef);

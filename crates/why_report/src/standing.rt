@@ -3,29 +3,29 @@
 ghost use Rattle.std.specs.Prelude.{◌≡◌, ◌+◌, ◌<◌, ◌≤◌, length};
 ghost use Rattle.micro_m.specs.Views.{trees_of, steps_of};
 ghost use Rattle.micro_m.specs.Bases.{IsWithin, AreWithin, StepsAreWithin};
-ghost use Rattle.why_report.specs.inner.Standing.{AllStand, KnowsStanding, run_stands, table_stands, term_stands, arguments_stand, steps_stand};
+ghost use Rattle.why_report.specs.inner.Standing.{AllStand, KnowsStanding, run_is_marked, table_is_marked, term_is_marked, arguments_stand, steps_stand};
 
 use micro_m::{MNode, MTerm, Picked, Step, pick};
 
 /// Whether all cells stand that a term reads. From each cell on, as many cells as `known` says are known to stand, so that a table
 /// that is read often is looked through once.
 #[cycle(standing)]
-pub fn term_stands(term: &MTerm, marks: &[bool], known: &mut [usize]) -> bool
+pub fn term_is_marked(term: &MTerm, marks: &[bool], known: &mut [usize]) -> bool
     requires within { IsWithin (length marks.now) term.now }
     requires size { length known.old ≡ length marks.now }
     requires knows { KnowsStanding marks.now known.old }
-    ensures stands { result ≡ term_stands marks.now term.now }
+    ensures is_set { result ≡ term_is_marked marks.now term.now }
     ensures knows { KnowsStanding marks.now known.new }
 {
     match &term.node {
         MNode::Lit(_) => true,
         MNode::Cell(cell) => marks[*cell as usize],
         MNode::Pick(first, size, index) => {
-            term_stands(index, marks, known) && table_stands(*first, *size, index, marks, known)
+            term_is_marked(index, marks, known) && table_is_marked(*first, *size, index, marks, known)
         }
         MNode::Apply(_, arguments) => arguments_stand(arguments, marks, known),
         MNode::Chain(first, steps) => {
-            term_stands(first, marks, known) && steps_stand(steps, marks, known)
+            term_is_marked(first, marks, known) && steps_stand(steps, marks, known)
         }
     }
 }
@@ -35,11 +35,11 @@ fn arguments_stand(arguments: &[MTerm], marks: &[bool], known: &mut [usize]) -> 
     requires within { AreWithin (length marks.now) (trees_of arguments.now) }
     requires size { length known.old ≡ length marks.now }
     requires knows { KnowsStanding marks.now known.old }
-    ensures stands { result ≡ arguments_stand marks.now (trees_of arguments.now) }
+    ensures is_set { result ≡ arguments_stand marks.now (trees_of arguments.now) }
     ensures knows { KnowsStanding marks.now known.new }
 {
     for argument in arguments {
-        if !term_stands(argument, marks, known) {
+        if !term_is_marked(argument, marks, known) {
             return false;
         }
     }
@@ -51,11 +51,11 @@ fn steps_stand(steps: &[Step], marks: &[bool], known: &mut [usize]) -> bool
     requires within { StepsAreWithin (length marks.now) (steps_of steps.now) }
     requires size { length known.old ≡ length marks.now }
     requires knows { KnowsStanding marks.now known.old }
-    ensures stands { result ≡ steps_stand marks.now (steps_of steps.now) }
+    ensures is_set { result ≡ steps_stand marks.now (steps_of steps.now) }
     ensures knows { KnowsStanding marks.now known.new }
 {
     for step in steps {
-        if !term_stands(&step.term, marks, known) {
+        if !term_is_marked(&step.term, marks, known) {
             return false;
         }
     }
@@ -64,11 +64,11 @@ fn steps_stand(steps: &[Step], marks: &[bool], known: &mut [usize]) -> bool
 
 /// Whether all stands that a table read reads of its table: at a literal the one cell that it comes to, if it comes to one, and else
 /// all cells.
-fn table_stands(first: u32, size: u32, index: &MTerm, marks: &[bool], known: &mut [usize]) -> bool
+fn table_is_marked(first: u32, size: u32, index: &MTerm, marks: &[bool], known: &mut [usize]) -> bool
     requires within { first + size ≤ length marks.now }
     requires size { length known.old ≡ length marks.now }
     requires knows { KnowsStanding marks.now known.old }
-    ensures stands { result ≡ table_stands marks.now first size index.now }
+    ensures is_set { result ≡ table_is_marked marks.now first size index.now }
     ensures knows { KnowsStanding marks.now known.new }
 {
     match &index.node {
@@ -76,25 +76,25 @@ fn table_stands(first: u32, size: u32, index: &MTerm, marks: &[bool], known: &mu
             Picked::Cell(cell) => marks[cell],
             Picked::Fixed(_) => true,
         },
-        MNode::Cell(_) => run_stands(first as usize, size as usize, marks, known),
-        MNode::Pick(_, _, _) => run_stands(first as usize, size as usize, marks, known),
-        MNode::Apply(_, _) => run_stands(first as usize, size as usize, marks, known),
-        MNode::Chain(_, _) => run_stands(first as usize, size as usize, marks, known),
+        MNode::Cell(_) => run_is_marked(first as usize, size as usize, marks, known),
+        MNode::Pick(_, _, _) => run_is_marked(first as usize, size as usize, marks, known),
+        MNode::Apply(_, _) => run_is_marked(first as usize, size as usize, marks, known),
+        MNode::Chain(_, _) => run_is_marked(first as usize, size as usize, marks, known),
     }
 }
 
 /// Whether each of so many cells from one on stands. What is known to stand isn't looked at again.
-fn run_stands(first: usize, size: usize, marks: &[bool], known: &mut [usize]) -> bool
+fn run_is_marked(first: usize, size: usize, marks: &[bool], known: &mut [usize]) -> bool
     requires within { first + size ≤ length marks.now }
     requires size { length known.old ≡ length marks.now }
     requires knows { KnowsStanding marks.now known.old }
-    ensures stands { result ≡ run_stands marks.now first size }
+    ensures is_set { result ≡ run_is_marked marks.now first size }
     ensures knows { KnowsStanding marks.now known.new }
 {
     if size == 0 {
         return true;
     }
-    if !rest_stands(first, size, known[first], marks) {
+    if !rest_is_marked(first, size, known[first], marks) {
         return false;
     }
     if size > known[first] {
@@ -104,10 +104,10 @@ fn run_stands(first: usize, size: usize, marks: &[bool], known: &mut [usize]) ->
 }
 
 /// Whether each of so many cells from one on stands, where so many of them are known to.
-fn rest_stands(first: usize, size: usize, known: usize, marks: &[bool]) -> bool
+fn rest_is_marked(first: usize, size: usize, known: usize, marks: &[bool]) -> bool
     requires within { first + size ≤ length marks.now }
     requires knows { AllStand marks.now first known }
-    ensures { result ≡ run_stands marks.now first size }
+    ensures { result ≡ run_is_marked marks.now first size }
 {
     for passed in known..size {
         if !marks[first + passed] {

@@ -14,7 +14,7 @@ use Rattle.household.proofs.InputLemmas.{code_known}
 use Rattle.household_session.specs.declared.fault.EditFault.TheVariants.{NotOfType}
 use Rattle.household_session.specs.Commands.{SessionCommand, no_words, sets, clears, shows, too_long, bad}
 use Rattle.household_session.specs.Replies.{command_values, input_named}
-use Rattle.household_session.specs.Sessions.{Showing, clear_said, set_said, values_edited}
+use Rattle.household_session.specs.Sessions.{Showing, parsed_clear, parsed_set, values_edited}
 
 -- what stands at a place is put there once more
 set_same : (l : List Value) (n : ℕ) → set l n (value_at l n) ≡ l
@@ -29,7 +29,7 @@ set_put (x ∷ l) zero v = refl
 set_put (x ∷ l) (suc n) v = ap (λ rest. x ∷ rest) (set_put l n v)
 
 set_kept : (inputs : List Coded) (values : List Value) (input : ℕ) (read : Result ℤ AmountFault)
-    → set values input (value_at (values_edited values (set_said inputs (Some input) read)) input) ≡ values_edited values (set_said inputs (Some input) read)
+    → set values input (value_at (values_edited values (parsed_set inputs (Some input) read)) input) ≡ values_edited values (parsed_set inputs (Some input) read)
 set_kept inputs values input (Err why) = set_same values input
 set_kept inputs values input (Ok z) = by (is_fitting inputs (input, z))
   where
@@ -42,11 +42,11 @@ pub named_edit : (showing : Showing) (values : List Value) (command : SessionCom
     → set values input (value_at (command_values showing values command) input) ≡ command_values showing values command
 named_edit showing values no_words input is = absurd (cc is)
 named_edit showing values (sets code amount) input is =
-    subst (λ (found : Option ℕ). set values input (value_at (values_edited values (set_said showing.inputs found (amount_read (text_value amount)))) input)
-    ≡ values_edited values (set_said showing.inputs found (amount_read (text_value amount)))) (sym is)
+    subst (λ (found : Option ℕ). set values input (value_at (values_edited values (parsed_set showing.inputs found (amount_read (text_value amount)))) input)
+    ≡ values_edited values (parsed_set showing.inputs found (amount_read (text_value amount)))) (sym is)
     (set_kept showing.inputs values input (amount_read (text_value amount)))
 named_edit showing values (clears code) input is =
-    subst (λ (found : Option ℕ). set values input (value_at (values_edited values (clear_said found)) input) ≡ values_edited values (clear_said found)) (sym is)
+    subst (λ (found : Option ℕ). set values input (value_at (values_edited values (parsed_clear found)) input) ≡ values_edited values (parsed_clear found)) (sym is)
     (set_put values input Undef)
 named_edit showing values shows input is = absurd (cc is)
 named_edit showing values too_long input is = absurd (cc is)

@@ -6,27 +6,27 @@ use Rattle.m_fixed.specs.declared.amount.Value.{Value}
 use Rattle.household_session.specs.Commands.{session_command}
 use Rattle.household_session.specs.Replies.{command_reply, command_values, lines_replies}
 use Rattle.household_session.specs.Sessions.{Showing}
-use Rattle.why_session.specs.Explains.{Explaining, explained_replies, explained_reply, explained_values, name_asked}
+use Rattle.why_session.specs.Explains.{Explaining, explained_replies, explained_reply, explained_values, why_name}
 
 -- the replies where this is asked of the first line
-abbrev pub asked_replies : Showing → Explaining → List Value → List ℕ → List (List ℕ) → Option (List ℕ) → List ℕ
-asked_replies showing explains values first lines asked =
-    option_map_or (explains values) asked (command_reply showing values (session_command first))
-    ++ explained_replies showing explains (option_map_or (λ name. values) asked (command_values showing values (session_command first))) lines
+abbrev pub requested_replies : Showing → Explaining → List Value → List ℕ → List (List ℕ) → Option (List ℕ) → List ℕ
+requested_replies showing explains values first lines wanted =
+    option_map_or (explains values) wanted (command_reply showing values (session_command first))
+    ++ explained_replies showing explains (option_map_or (λ name. values) wanted (command_values showing values (session_command first))) lines
 
 -- a line that doesn't ask why has the session's reply
-pub line_then : (showing : Showing) (explains : Explaining) (values : List Value) (first : List ℕ) (lines : List (List ℕ)) → name_asked first ≡ None
+pub line_then : (showing : Showing) (explains : Explaining) (values : List Value) (first : List ℕ) (lines : List (List ℕ)) → why_name first ≡ None
     → explained_replies showing explains values (first ∷ lines)
     ≡ command_reply showing values (session_command first) ++ explained_replies showing explains (command_values showing values (session_command first)) lines
-line_then showing explains values first lines is = ap (asked_replies showing explains values first lines) is
+line_then showing explains values first lines is = ap (requested_replies showing explains values first lines) is
 
 -- a line that asks why is told that, and the values stay
-pub why_then : (showing : Showing) (explains : Explaining) (values : List Value) (first name : List ℕ) (lines : List (List ℕ)) → name_asked first ≡ Some name
+pub why_then : (showing : Showing) (explains : Explaining) (values : List Value) (first name : List ℕ) (lines : List (List ℕ)) → why_name first ≡ Some name
     → explained_replies showing explains values (first ∷ lines) ≡ explains values name ++ explained_replies showing explains values lines
-why_then showing explains values first name lines is = ap (asked_replies showing explains values first lines) is
+why_then showing explains values first name lines is = ap (requested_replies showing explains values first lines) is
 
 -- where no line asks why
-pub without_why : (showing : Showing) (explains : Explaining) (values : List Value) (lines : List (List ℕ)) → AllByRecursion (λ line. name_asked line ≡ None) lines
+pub without_why : (showing : Showing) (explains : Explaining) (values : List Value) (lines : List (List ℕ)) → AllByRecursion (λ line. why_name line ≡ None) lines
     → explained_replies showing explains values lines ≡ lines_replies showing values lines
 without_why showing explains values [] none = refl
 without_why showing explains values (first ∷ lines) none =

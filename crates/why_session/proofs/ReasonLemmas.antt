@@ -16,7 +16,7 @@ use Rattle.household_session.proofs.TypeLemmas.{command_keeps}
 use Rattle.why_report.specs.Reasons.{why_lines}
 use Rattle.why_report.specs.Starts.{IsStart, Reporting, start_env, with_input, with_lines}
 use Rattle.why_report.specs.declared.line.ReportLine.{ReportLine}
-use Rattle.why_session.specs.Explains.{explained_replies, name_asked, told_lines_of}
+use Rattle.why_session.specs.Explains.{explained_replies, why_name, report_lines_of}
 use Rattle.why_session.specs.Joined.{Joined, explains_by, explains_in, joined_replies}
 use Rattle.why_session.specs.inner.Parts.{AreJoined}
 use Rattle.why_session.proofs.LineLemmas.{line_then, why_then}
@@ -25,17 +25,17 @@ use Rattle.why_session.proofs.EditLemmas.{named_edit}
 -- ---- a reason
 
 -- the lines that the reporter finds are what is told of the name
-pub told_why : (joined : Joined) (name : List ℕ) (c : ℕ) (lines : List ReportLine) → AreJoined joined.seated joined.reporting joined.declared → request_cell joined.declared name ≡ Some c
-    → lines ≡ why_lines joined.reporting.ordered (environment joined.reporting.env) c → explains_in joined name ≡ told_lines_of joined.declared lines
-told_why joined name c lines parts is found =
-    ap (λ o. option_map_or (λ d. told_lines_of joined.declared (why_lines joined.reporting.ordered (environment (start_env joined.declared joined.seated.sitting.values)) d)) o (line (codes "refused unknown variable"))) is
-    ∙ ap (λ (env : List Value). told_lines_of joined.declared (why_lines joined.reporting.ordered (environment env) c)) (sym (parts.start.env ∙ ap (start_env joined.declared) parts.same))
-    ∙ ap (told_lines_of joined.declared) (sym found)
+pub reported_why : (joined : Joined) (name : List ℕ) (c : ℕ) (lines : List ReportLine) → AreJoined joined.seated joined.reporting joined.declared → request_cell joined.declared name ≡ Some c
+    → lines ≡ why_lines joined.reporting.ordered (environment joined.reporting.env) c → explains_in joined name ≡ report_lines_of joined.declared lines
+reported_why joined name c lines parts is found =
+    ap (λ o. option_map_or (λ d. report_lines_of joined.declared (why_lines joined.reporting.ordered (environment (start_env joined.declared joined.seated.sitting.values)) d)) o (line (codes "refused unknown variable"))) is
+    ∙ ap (λ (env : List Value). report_lines_of joined.declared (why_lines joined.reporting.ordered (environment env) c)) (sym (parts.start.env ∙ ap (start_env joined.declared) parts.same))
+    ∙ ap (report_lines_of joined.declared) (sym found)
 
 -- of a name that no cell has
-pub told_unknown : (joined : Joined) (name : List ℕ) → request_cell joined.declared name ≡ None → explains_in joined name ≡ line (codes "refused unknown variable")
-told_unknown joined name is =
-    ap (λ o. option_map_or (λ d. told_lines_of joined.declared (why_lines joined.reporting.ordered (environment (start_env joined.declared joined.seated.sitting.values)) d)) o (line (codes "refused unknown variable"))) is
+pub reported_unknown : (joined : Joined) (name : List ℕ) → request_cell joined.declared name ≡ None → explains_in joined name ≡ line (codes "refused unknown variable")
+reported_unknown joined name is =
+    ap (λ o. option_map_or (λ d. report_lines_of joined.declared (why_lines joined.reporting.ordered (environment (start_env joined.declared joined.seated.sitting.values)) d)) o (line (codes "refused unknown variable"))) is
 
 -- lines that were found leave all else
 pub found_stays : (seated : Seated) (reporting new : Reporting) (declared : Declared) (lines : List ReportLine) → AreJoined seated reporting declared → new ≡ with_lines reporting lines
@@ -69,14 +69,14 @@ line_put seated later reporting new declared bytes input parts after named put s
 }
 
 -- the replies go on from the session after a line
-pub line_goes_on : (joined later : Joined) (bytes : List ℕ) → name_asked bytes ≡ None → later.seated.sitting ≡ after_line joined.seated.sitting bytes → later.declared ≡ joined.declared
+pub line_goes_on : (joined later : Joined) (bytes : List ℕ) → why_name bytes ≡ None → later.seated.sitting ≡ after_line joined.seated.sitting bytes → later.declared ≡ joined.declared
     → later.reporting.ordered ≡ joined.reporting.ordered → (lines : List (List ℕ))
     → joined_replies joined (bytes ∷ lines) ≡ reply_of joined.seated.sitting bytes ++ joined_replies later lines
 line_goes_on joined later bytes none after declared ordered lines =
     line_then (showing_of joined.seated.sitting) (explains_by joined.declared joined.reporting.ordered) joined.seated.sitting.values bytes lines none
     ∙ sym (λ i. reply_of joined.seated.sitting bytes ++ explained_replies (showing_of (after i)) (explains_by (declared i) (ordered i)) (after i).values lines)
 
-pub why_goes_on : (joined later : Joined) (bytes name : List ℕ) → name_asked bytes ≡ Some name → joined_replies later ≡ joined_replies joined → (lines : List (List ℕ))
+pub why_goes_on : (joined later : Joined) (bytes name : List ℕ) → why_name bytes ≡ Some name → joined_replies later ≡ joined_replies joined → (lines : List (List ℕ))
     → joined_replies joined (bytes ∷ lines) ≡ explains_in joined name ++ joined_replies later lines
 why_goes_on joined later bytes name is same lines =
     why_then (showing_of joined.seated.sitting) (explains_by joined.declared joined.reporting.ordered) joined.seated.sitting.values bytes name lines is

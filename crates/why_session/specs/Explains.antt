@@ -21,8 +21,8 @@ why_words (word ∷ name ∷ []) = if bytes_eq word (codes "why") then Some name
 why_words _ = None
 
 -- The name that a line asks about, given without its line feed: `why IRN` asks about `IRN`. A line that is longer than lines may be asks about none.
-abbrev pub name_asked : List ℕ → Option (List ℕ)
-name_asked bytes = if nat_le (length bytes) SESSION_LINE_BYTES then why_words (line_words (without_return bytes)) else None
+abbrev pub why_name : List ℕ → Option (List ℕ)
+why_name bytes = if nat_le (length bytes) SESSION_LINE_BYTES then why_words (line_words (without_return bytes)) else None
 
 -- ---- replies
 
@@ -32,11 +32,11 @@ Explaining = List Value → List ℕ → List ℕ
 
 -- the reply to a line: what is told of the name that it asks about, or what a session replies
 abbrev pub explained_reply : Showing → Explaining → List Value → List ℕ → List ℕ
-explained_reply showing explains values bytes = option_map_or (explains values) (name_asked bytes) (command_reply showing values (session_command bytes))
+explained_reply showing explains values bytes = option_map_or (explains values) (why_name bytes) (command_reply showing values (session_command bytes))
 
 -- the values after a line; one that asks why changes none
 abbrev pub explained_values : Showing → List Value → List ℕ → List Value
-explained_values showing values bytes = option_map_or (λ name. values) (name_asked bytes) (command_values showing values (session_command bytes))
+explained_values showing values bytes = option_map_or (λ name. values) (why_name bytes) (command_values showing values (session_command bytes))
 
 -- The replies to lines, in order. Each is that to what the lines before it have made of the values.
 abbrev pub explained_replies : Showing → Explaining → List Value → List (List ℕ) → List ℕ
@@ -47,9 +47,9 @@ explained_replies showing explains values (first ∷ lines) =
 -- ---- what is told of a name
 
 -- lines of a derivation, and then a line with a point
-abbrev pub told_lines_of : Declared → List ReportLine → List ℕ
-told_lines_of declared lines = report_text declared lines ++ line (codes ".")
+abbrev pub report_lines_of : Declared → List ReportLine → List ℕ
+report_lines_of declared lines = report_text declared lines ++ line (codes ".")
 
 -- What is told of a name: the lines of its cell, and then a line with a point; or that no variable that can be asked for has it.
 abbrev pub explanation : Declared → (ℕ → List ReportLine) → List ℕ → List ℕ
-explanation declared lines name = option_map_or (λ c. told_lines_of declared (lines c)) (request_cell declared name) (line (codes "refused unknown variable"))
+explanation declared lines name = option_map_or (λ c. report_lines_of declared (lines c)) (request_cell declared name) (line (codes "refused unknown variable"))

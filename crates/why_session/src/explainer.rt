@@ -8,10 +8,10 @@ ghost use Rattle.micro_m.specs.Bases.{IsValidBase};
 ghost use Rattle.rule_order.specs.Orders.{IsOrder};
 ghost use Rattle.household_session.specs.Replies.{reply_of};
 ghost use Rattle.why_report.specs.Starts.{IsStart};
-ghost use Rattle.why_session.specs.Explains.{name_asked, told_lines_of};
+ghost use Rattle.why_session.specs.Explains.{why_name, report_lines_of};
 ghost use Rattle.why_session.specs.Joined.{explains_in, joined_replies};
 
-use crate::asked::name_asked;
+use crate::why_line::why_name;
 use household_session::{Replier, Session};
 use m_ports::{Failed, Sink, give_pieces};
 use m_symbols::{Symbols, find_request};
@@ -74,7 +74,7 @@ impl Explainer {
     }
 
     // Tells why the variable of a name has its value.
-    fn tell_why<K: Sink>(&mut self, name: &[u8], out: &mut K) -> Result<(), Failed>
+    fn reply_to_why<K: Sink>(&mut self, name: &[u8], out: &mut K) -> Result<(), Failed>
         ensures gives { Gives K.written K.faults out.old out.new result (explains_in self.old name.now) }
         ensures stays { joined_replies self.new ≡ joined_replies self.old }
     {
@@ -94,7 +94,7 @@ impl Explainer {
         out: &mut K,
         steps: &mut Steps<L>,
     ) -> Result<(), Failed>
-        requires { name_asked line.now ≡ None }
+        requires { why_name line.now ≡ None }
         ensures gives { Gives K.written K.faults out.old out.new result (reply_of self.old.seated.sitting line.now) }
         ensures goes_on { (lines : List (List ℕ)) → joined_replies self.old (line.now ∷ lines)
             ≡ reply_of self.old.seated.sitting line.now ++ joined_replies self.new lines }
@@ -121,8 +121,8 @@ impl Replier for Explainer {
         out: &mut K,
         steps: &mut Steps<L>,
     ) -> Result<(), Failed> {
-        match name_asked(line) {
-            Some(name) => self.tell_why(name, out),
+        match why_name(line) {
+            Some(name) => self.reply_to_why(name, out),
             None => self.do_line(line, out, steps),
         }
     }
@@ -151,7 +151,7 @@ fn put_inputs(reporter: &mut Reporter, session: &Session)
 // Writes the lines of a reason, and then a line with a point.
 fn print_lines<K: Sink>(symbols: &Symbols, lines: &[ReportLine], out: &mut K) -> Result<(), Failed>
     requires { All (λ line. line.cell < length (owners_from 0 symbols.now.variables)) lines.now }
-    ensures { Gives K.written K.faults out.old out.new result (told_lines_of symbols.now lines.now) }
+    ensures { Gives K.written K.faults out.old out.new result (report_lines_of symbols.now lines.now) }
 {
     print_report(symbols, lines, out)?;
     give_pieces(out, &[b".\n"])

@@ -5,10 +5,10 @@ ghost use Rattle.std.specs.List.{AllByRecursion};
 ghost use Rattle.m_fixed.specs.declared.amount.Value.{Value};
 ghost use Rattle.household_session.specs.Replies.{lines_replies};
 ghost use Rattle.household_session.specs.Sessions.{Showing};
-ghost use Rattle.why_session.specs.Explains.{Explaining, explained_replies, name_asked};
+ghost use Rattle.why_session.specs.Explains.{Explaining, explained_replies, why_name};
 
 /// Where no line asks why, the replies are those of a session that tells no reasons.
 pub fn replies_without_why()
-    ensures { (showing : Showing) (explains : Explaining) (values : List Value) (lines : List (List ℕ)) → AllByRecursion (λ line. name_asked line ≡ None) lines
+    ensures { (showing : Showing) (explains : Explaining) (values : List Value) (lines : List (List ℕ)) → AllByRecursion (λ line. why_name line ≡ None) lines
         → explained_replies showing explains values lines ≡ lines_replies showing values lines }
 {}

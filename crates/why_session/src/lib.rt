@@ -4,7 +4,7 @@
 //! input is cut into lines. Only the start takes memory.
 #![tactic(auto)]
 
-mod asked;
+mod why_line;
 mod explainer;
 mod laws;
 

@@ -102,7 +102,7 @@ impl<'a> Mishaps<'a> {
             first,
             last,
         };
-        if words.next().is_none() && mishaps.befall(files) {
+        if words.next().is_none() && mishaps.fail_run(files) {
             Some(mishaps)
         } else {
             None
@@ -110,7 +110,7 @@ impl<'a> Mishaps<'a> {
     }
 
     /// Whether they befall runs of a row that has these files: calls count from 1, and a file that is cut has the bytes that are left of it.
-    fn befall(&self, files: &[File]) -> bool {
+    fn fail_run(&self, files: &[File]) -> bool {
         let can = match self.kind {
             Kind::Cut => match file_of(files, self.file) {
                 Some(bytes) => self.last as usize <= bytes.len(),

@@ -63,13 +63,13 @@ zipped_many R n (suc count) [] all = absurd all
 zipped_many R n (suc count) (u ∷ made) all = ap suc (zipped_many R (n + 1) count made all.1)
 
 -- what holds of parts, joined, from the last one to the first: of no item, of a part with a fault, and of a part before what follows it
-pub said_of_parts : {X U E : Type 0} (gives : ℕ → List X → Result (Vec U Global) E → Type 0) (size : ℕ) (Says : ℕ → List X → Result (List U) E → Type 0)
+pub stated_of_parts : {X U E : Type 0} (gives : ℕ → List X → Result (Vec U Global) E → Type 0) (size : ℕ) (Says : ℕ → List X → Result (List U) E → Type 0)
     → ((at : ℕ) → Says at [] (Ok []))
     → ((at : ℕ) (items : List X) (fault : E) → 0 < length items → gives at (take size items) (Err fault) → Says at items (Err fault))
     → ((at : ℕ) (items : List X) (part : Vec U Global) (rest : Result (List U) E) → 0 < length items → gives at (take size items) (Ok part) → Says (at + size) (drop size items) rest
     → Says at items (behind part.items rest))
     → (at : ℕ) (items : List X) (parts : List (Result (Vec U Global) E)) → AreOfParts gives size at items parts → Says at items (joined parts)
-said_of_parts gives size Says none stops goes at items [] h = subst (λ xs. Says at xs (Ok [])) (sym h) (none at)
-said_of_parts gives size Says none stops goes at items (Err fault ∷ parts) h = stops at items fault h.0 h.1
-said_of_parts gives size Says none stops goes at items (Ok part ∷ parts) h =
-    goes at items part (joined parts) h.0 h.1 (said_of_parts gives size Says none stops goes (at + size) (drop size items) parts h.2)
+stated_of_parts gives size Says none stops goes at items [] h = subst (λ xs. Says at xs (Ok [])) (sym h) (none at)
+stated_of_parts gives size Says none stops goes at items (Err fault ∷ parts) h = stops at items fault h.0 h.1
+stated_of_parts gives size Says none stops goes at items (Ok part ∷ parts) h =
+    goes at items part (joined parts) h.0 h.1 (stated_of_parts gives size Says none stops goes (at + size) (drop size items) parts h.2)

@@ -6,6 +6,6 @@ use Rattle.command_plans.specs.declared.status.Status.{Status}
 use Rattle.command_plans.specs.declared.status.Status.TheVariants.{Memory, Refused}
 
 -- The line was printed, if there is one; without one there was no memory, and nothing is printed.
-abbrev pub TellsLine : Option (List ℕ) → OutputView → OutputView → Status → Type 0
-TellsLine None old new status = (new ≡ old) × (status ≡ Memory)
-TellsLine (Some line) old new status = Prints line Refused old new status
+abbrev pub ReportsLine : Option (List ℕ) → OutputView → OutputView → Status → Type 0
+ReportsLine None old new status = (new ≡ old) × (status ≡ Memory)
+ReportsLine (Some line) old new status = Prints line Refused old new status

@@ -87,28 +87,28 @@ one_line_more number line lines (Some found) h k =
     let e = k.number_is in
     record { good = line ∷ k.good; bad = k.bad; others = k.others; parts = ap (λ x. line ∷ x) k.parts; names = (h, k.names); bad_name = k.bad_name; number_is = omega arith }
 
-first_bad_says : (number : ℕ) (lines : List (List ℕ)) → MatchOption (first_bad_from number lines) (AllByRecursion IsFileLine lines) (FirstBadIn number lines)
-first_bad_says number [] = tt
-first_bad_says number (line ∷ lines) = elim (cases_Bool (is_file_line line)) [
-  | inl e ↦ rw e (one_line_more number line lines (first_bad_from (number + 1) lines) (test_file_line line e) (first_bad_says (number + 1) lines))
+first_bad_meaning : (number : ℕ) (lines : List (List ℕ)) → MatchOption (first_bad_from number lines) (AllByRecursion IsFileLine lines) (FirstBadIn number lines)
+first_bad_meaning number [] = tt
+first_bad_meaning number (line ∷ lines) = elim (cases_Bool (is_file_line line)) [
+  | inl e ↦ rw e (one_line_more number line lines (first_bad_from (number + 1) lines) (test_file_line line e) (first_bad_meaning (number + 1) lines))
   | inr e ↦ rw e (record { good = []; bad = line; others = lines; parts = refl; names = tt; bad_name = λ h. both_ways (is_file_line line) e (file_line_test line h); number_is = omega arith })
 ]
 
 -- what the lines after the application say
-files_say : (bytes application : List ℕ) (lines : List (List ℕ)) (found : Option ℕ) → lines_of bytes ≡ application ∷ lines → IsWord application
+files_meaning : (bytes application : List ℕ) (lines : List (List ℕ)) (found : Option ℕ) → lines_of bytes ≡ application ∷ lines → IsWord application
     → MatchOption found (AllByRecursion IsFileLine lines) (FirstBadIn 2 lines) → MatchResult (files_read application lines found) (IsListing bytes) (IsListFault bytes)
-files_say bytes application lines (Some number) e w h = no_name application h.bad h.good h.others (record { parts = refl; word = w; names = h.names }) h.bad_name (e ∙ ap (λ x. application ∷ x) h.parts) h.number_is
-files_say bytes application lines None e w h = elim (cases_lt LIST_FILES (length (files_of lines))) [
+files_meaning bytes application lines (Some number) e w h = no_name application h.bad h.good h.others (record { parts = refl; word = w; names = h.names }) h.bad_name (e ∙ ap (λ x. application ∷ x) h.parts) h.number_is
+files_meaning bytes application lines None e w h = elim (cases_lt LIST_FILES (length (files_of lines))) [
   | inl many ↦ rw (lt-leb (length (files_of lines)) LIST_FILES many) (record { application = application; others = lines; good = record { parts = e; word = w; names = h }; many = many })
   | inr few ↦ rw (le-leb (length (files_of lines)) LIST_FILES few) (record { others = lines; good = record { parts = e; word = w; names = h }; files = refl; few = few })
 ]
 
-lines_say : (bytes : List ℕ) (lines : List (List ℕ)) → lines_of bytes ≡ lines → MatchResult (lines_read lines) (IsListing bytes) (IsListFault bytes)
-lines_say bytes [] e = subst (λ (ls : List (List ℕ)). IsFirstBad ls 1) (sym e) missing
-lines_say bytes (application ∷ lines) e = elim (cases_Bool (is_word application)) [
-  | inl w ↦ rw w (files_say bytes application lines (first_bad_from 2 lines) e (test_word application w) (first_bad_says 2 lines))
+lines_meaning : (bytes : List ℕ) (lines : List (List ℕ)) → lines_of bytes ≡ lines → MatchResult (lines_read lines) (IsListing bytes) (IsListFault bytes)
+lines_meaning bytes [] e = subst (λ (ls : List (List ℕ)). IsFirstBad ls 1) (sym e) missing
+lines_meaning bytes (application ∷ lines) e = elim (cases_Bool (is_word application)) [
+  | inl w ↦ rw w (files_meaning bytes application lines (first_bad_from 2 lines) e (test_word application w) (first_bad_meaning 2 lines))
   | inr w ↦ rw w (subst (λ (ls : List (List ℕ)). IsFirstBad ls 1) (sym e) (no_word (λ h. both_ways (is_word application) w (word_test application h))))
 ]
 
-pub list_says : (bytes : List ℕ) → MatchResult (list_of bytes) (IsListing bytes) (IsListFault bytes)
-list_says bytes = lines_say bytes (lines_of bytes) refl
+pub list_meaning : (bytes : List ℕ) → MatchResult (list_of bytes) (IsListing bytes) (IsListFault bytes)
+list_meaning bytes = lines_meaning bytes (lines_of bytes) refl

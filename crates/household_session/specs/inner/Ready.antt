@@ -5,8 +5,8 @@ use Rattle.flat_code.specs.declared.program.Flat.{Flat}
 use Rattle.observables.specs.declared.inputs.Coded.{Coded}
 use Rattle.flat_code.specs.Faces.{IsFaceOf}
 use Rattle.household_session.specs.Commands.{SessionCommand, no_words, sets, clears, shows, too_long, bad}
-use Rattle.household_session.specs.declared.command.Asked.{Asked}
-use Rattle.household_session.specs.declared.command.Asked.TheVariants.{Nothing, Set, Clear, Show, TooLong, Bad}
+use Rattle.household_session.specs.declared.command.LineCommand.{LineCommand}
+use Rattle.household_session.specs.declared.command.LineCommand.TheVariants.{Nothing, Set, Clear, Show, TooLong, Bad}
 
 -- The parts of a session fit: the face shows the sheet's program, and the inputs that are found by their codes are the face's.
 pub record IsReady (flat : Flat) (face : Face) (inputs : List Coded) : Type 0 where
@@ -14,7 +14,7 @@ pub record IsReady (flat : Flat) (face : Face) (inputs : List Coded) : Type 0 wh
   pub inputs_are : inputs ≡ face.inputs
 
 -- what the code's command asks for
-abbrev pub command_in : Asked → SessionCommand
+abbrev pub command_in : LineCommand → SessionCommand
 command_in Nothing = no_words
 command_in (Set code amount) = sets code.now amount.now
 command_in (Clear code) = clears code.now

@@ -13,7 +13,7 @@ pub record IsTaken {A : Type 0} (old new : List A) (these : List A) (parts befor
 
 -- so many parts more are too many, and the fault says so at the item
 pub record IsTooMuch (parts before : ℕ) (item : Place) (fault : ExpandFault) : Type 0 where
-  pub told : fault ≡ TooManyParts item
+  pub reported : fault ≡ TooManyParts item
   pub many : PARTS < before + parts
 
 -- the parts of instances that have so many each

@@ -13,7 +13,7 @@ abbrev pub mask_at : List ℕ → ℕ → ℕ
 mask_at masks x = slice_index_or masks x 0
 
 abbrev pub number_at : List ℕ → ℕ → ℕ
-number_at asked k = slice_index_or asked k 0
+number_at wanted k = slice_index_or wanted k 0
 
 -- a mask was added to those of the numbers that are read, and to no others
 pub record Adds (read : ℕ → Type 0) (mask : ℕ) (old new : List ℕ) : Type 0 where
@@ -23,18 +23,18 @@ pub record Adds (read : ℕ → Type 0) (mask : ℕ) (old new : List ℕ) : Type
   pub only : (k x : ℕ) → has (mask_at new x) k ≡ true → (has (mask_at old x) k ≡ true) ⊎ (read x × (has mask k ≡ true))
 
 -- of the first i asked nodes, each has its bit, and no other bit is 1
-pub record IsMarked (asked : List ℕ) (i : ℕ) (masks : List ℕ) : Type 0 where
-  pub marks : (k : ℕ) → k < i → has (mask_at masks (number_at asked k)) k ≡ true
-  pub only : (k x : ℕ) → has (mask_at masks x) k ≡ true → (k < i) × (x ≡ number_at asked k)
+pub record IsMarked (wanted : List ℕ) (i : ℕ) (masks : List ℕ) : Type 0 where
+  pub marks : (k : ℕ) → k < i → has (mask_at masks (number_at wanted k)) k ≡ true
+  pub only : (k x : ℕ) → has (mask_at masks x) k ≡ true → (k < i) × (x ≡ number_at wanted k)
 
 -- The nodes from p on were gone through. Where bit k of an input or of a node is 1, the asked node k depends on the input, and on what
 -- the node does; and what it depends on has its bit, or a node below p with the bit depends on it.
-pub record IsSpread (known : List Possible) (nodes : List Node) (asked : List ℕ) (p : ℕ) (masks found : List ℕ) : Type 0 where
-  pub node : (k q n : ℕ) → k < length asked → has (mask_at masks q) k ≡ true → Depends known nodes n q → Depends known nodes n (number_at asked k)
-  pub input : (k n : ℕ) → k < length asked → has (mask_at found n) k ≡ true → Depends known nodes n (number_at asked k)
-  pub left : (k n : ℕ) → k < length asked → Depends known nodes n (number_at asked k)
+pub record IsSpread (known : List Possible) (nodes : List Node) (wanted : List ℕ) (p : ℕ) (masks found : List ℕ) : Type 0 where
+  pub node : (k q n : ℕ) → k < length wanted → has (mask_at masks q) k ≡ true → Depends known nodes n q → Depends known nodes n (number_at wanted k)
+  pub input : (k n : ℕ) → k < length wanted → has (mask_at found n) k ≡ true → Depends known nodes n (number_at wanted k)
+  pub left : (k n : ℕ) → k < length wanted → Depends known nodes n (number_at wanted k)
       → (has (mask_at found n) k ≡ true) ⊎ ((q : ℕ) × (q < p) × (has (mask_at masks q) k ≡ true) × Depends known nodes n q)
 
 -- bit k of an input's mask is 1 where the asked node k may depend on the input
-pub record AreMasks (known : List Possible) (nodes : List Node) (asked found : List ℕ) : Type 0 where
-  pub bit : (k n : ℕ) → k < length asked → has (mask_at found n) k ≡ may_depend known nodes (number_at asked k) n
+pub record AreMasks (known : List Possible) (nodes : List Node) (wanted found : List ℕ) : Type 0 where
+  pub bit : (k n : ℕ) → k < length wanted → has (mask_at found n) k ≡ may_depend known nodes (number_at wanted k) n

@@ -1,7 +1,7 @@
 -- The course that a call of the program took, from which all its clauses follow.
 use Rattle.std.specs.Prelude.{◌≡◌, ℕ, List, Option, Some, None, Ok, Err}
 use Rattle.tax_print.specs.FaultLines.{usage_line}
-use Rattle.command_plans.specs.Printing.{Prints, Tells, IsAnswered}
+use Rattle.command_plans.specs.Printing.{Prints, ReportsEnding, IsAnswered}
 use Rattle.command_plans.specs.Trips.{GoesAlong}
 use Rattle.command_plans.specs.Views.{FilesView, InputView, OutputView}
 use Rattle.command_plans.specs.declared.ending.Ending.{Ending}
@@ -51,26 +51,26 @@ work_form (Cases source table) = Some form.Cases
 
 -- this is what such a command gathers
 abbrev pub IsWorkOf : Command → Work → Type 0
-IsWorkOf asked work = work_form work ≡ command_form asked
+IsWorkOf wanted work = work_form work ≡ command_form wanted
 
 -- what was gathered was answered
-abbrev pub WorkIsAnswered : Work → (heard told : InputView) (old new : OutputView) → Status → Type 0
-WorkIsAnswered (Run source rows) heard told old new status = (told ≡ heard) × IsAnswered (RunReplies source rows) old new status
-WorkIsAnswered (Serve source rows) heard told old new status = IsServed source rows heard told old new status
-WorkIsAnswered (Batch source table) heard told old new status = (told ≡ heard) × IsWrittenInParts (BatchReplies source table) old new status
-WorkIsAnswered (Large n) heard told old new status = (told ≡ heard) × IsAnswered (LargeReplies n) old new status
-WorkIsAnswered (Compile source) heard told old new status = (told ≡ heard) × IsAnswered (CompileReplies source) old new status
-WorkIsAnswered (Exec code rows) heard told old new status = (told ≡ heard) × IsAnswered (ExecReplies code rows) old new status
-WorkIsAnswered (Check source rows report) heard told old new status = (told ≡ heard) × IsAnswered (CheckReplies source rows report) old new status
-WorkIsAnswered (Lint source) heard told old new status = (told ≡ heard) × IsAnswered (LintReplies source) old new status
-WorkIsAnswered (Cases source table) heard told old new status = (told ≡ heard) × IsWrittenInParts (CasesReplies source table) old new status
+abbrev pub WorkIsAnswered : Work → (heard reported : InputView) (old new : OutputView) → Status → Type 0
+WorkIsAnswered (Run source rows) heard reported old new status = (reported ≡ heard) × IsAnswered (RunReplies source rows) old new status
+WorkIsAnswered (Serve source rows) heard reported old new status = IsServed source rows heard reported old new status
+WorkIsAnswered (Batch source table) heard reported old new status = (reported ≡ heard) × IsWrittenInParts (BatchReplies source table) old new status
+WorkIsAnswered (Large n) heard reported old new status = (reported ≡ heard) × IsAnswered (LargeReplies n) old new status
+WorkIsAnswered (Compile source) heard reported old new status = (reported ≡ heard) × IsAnswered (CompileReplies source) old new status
+WorkIsAnswered (Exec code rows) heard reported old new status = (reported ≡ heard) × IsAnswered (ExecReplies code rows) old new status
+WorkIsAnswered (Check source rows report) heard reported old new status = (reported ≡ heard) × IsAnswered (CheckReplies source rows report) old new status
+WorkIsAnswered (Lint source) heard reported old new status = (reported ≡ heard) × IsAnswered (LintReplies source) old new status
+WorkIsAnswered (Cases source table) heard reported old new status = (reported ≡ heard) × IsWrittenInParts (CasesReplies source table) old new status
 
 -- The words were no command, or there was no memory to copy them, or their command's plan ended before its files were
 -- there, or it was gathered and answered.
-pub data Course (words : List (List ℕ)) (before after : FilesView) (heard told : InputView) (old new : OutputView) (status : Status) : Type 0 where
-  is_no_command : command_of words ≡ None → after ≡ before → told ≡ heard → Prints usage_line Usage old new status → Course words before after heard told old new status
-  has_no_memory : after ≡ before → told ≡ heard → new ≡ old → status ≡ Memory → Course words before after heard told old new status
-  ended : (asked : Command) (ending : Ending) → command_of words ≡ Some asked → GoesAlong (plan_of asked) before after (Err ending) → told ≡ heard → Tells ending old new status
-      → Course words before after heard told old new status
-  answered : (asked : Command) (work : Work) → command_of words ≡ Some asked → GoesAlong (plan_of asked) before after (Ok work) → IsWorkOf asked work
-      → WorkIsAnswered work heard told old new status → Course words before after heard told old new status
+pub data Course (words : List (List ℕ)) (before after : FilesView) (heard reported : InputView) (old new : OutputView) (status : Status) : Type 0 where
+  is_no_command : command_of words ≡ None → after ≡ before → reported ≡ heard → Prints usage_line Usage old new status → Course words before after heard reported old new status
+  has_no_memory : after ≡ before → reported ≡ heard → new ≡ old → status ≡ Memory → Course words before after heard reported old new status
+  ended : (wanted : Command) (ending : Ending) → command_of words ≡ Some wanted → GoesAlong (plan_of wanted) before after (Err ending) → reported ≡ heard → ReportsEnding ending old new status
+      → Course words before after heard reported old new status
+  answered : (wanted : Command) (work : Work) → command_of words ≡ Some wanted → GoesAlong (plan_of wanted) before after (Ok work) → IsWorkOf wanted work
+      → WorkIsAnswered work heard reported old new status → Course words before after heard reported old new status

@@ -11,7 +11,7 @@ use Rattle.m_symbols.specs.Declarations.{Declared, owners_from, codes_of}
 use Rattle.index_expand.specs.Expansion.{expansion}
 use Rattle.micro_m.specs.declared.base.Base.{Base}
 use Rattle.m_symbols.specs.Cells.{cell_name}
-use Rattle.m_symbols.specs.Requests.{requests_said}
+use Rattle.m_symbols.specs.Requests.{parsed_requests}
 use Rattle.mpp_inline.specs.Inlined.{IsDriverLine}
 use Rattle.rule_base.specs.Base.{IsBaseOf}
 use Rattle.rule_base.proofs.Steps.{declared_placed}
@@ -62,18 +62,18 @@ cells_all declared (c ∷ cells) most h a = (h c a.0, cells_all declared cells m
 
 -- ---- the whole
 
-pub printable_face : (texts : List Text) (application : List ℕ) (given : Option (List ℕ)) (declared : Declared) (base : Base) (requests : List ℕ) (face : Face) → IsBaseOf texts application declared base → requests_said given declared ≡ Ok requests
+pub printable_face : (texts : List Text) (application : List ℕ) (given : Option (List ℕ)) (declared : Declared) (base : Base) (requests : List ℕ) (face : Face) → IsBaseOf texts application declared base → parsed_requests given declared ≡ Ok requests
     → AreDistinct (codes_of declared.variables) → codes_shown face.inputs ≡ codes_of declared.variables → names_of face.outputs ≡ map (cell_name declared) requests → take (length base.labels) face.labels ≡ map Verif base.labels
     → AllByRecursion IsDriverLine (drop (length base.labels) face.labels) → IsPrintable face
 printable_face texts application given declared base requests face b q d i o f l =
-    let worded = files_worded b.declares.said in
+    let worded = files_worded b.declares.stated in
     let faultless = b.declares.faultless in
-    let said = b.symbols in
-    let variables = subst (λ (x : Declared). AllByRecursion (λ (v : Variable). IsGood v.item) x.variables) (sym said) (variables_good b.items worded faultless) in
-    let errors = subst (λ (x : Declared). AllByRecursion IsWordedError x.errors) (sym said) (errors_good b.items worded) in
+    let stated = b.symbols in
+    let variables = subst (λ (x : Declared). AllByRecursion (λ (v : Variable). IsGood v.item) x.variables) (sym stated) (variables_good b.items worded faultless) in
+    let errors = subst (λ (x : Declared). AllByRecursion IsWordedError x.errors) (sym stated) (errors_good b.items worded) in
     let verifs = base_printable declared (expansion b.items application declared) base errors (all_numbered application b.items worded) b.resolves in
-    let known = requests_known declared given requests (declared_placed b.items declared said) q in
-    let cell : (c : ℕ) → c < length (owners_from 0 declared.variables) → IsCellName (cell_name declared c) = λ c h. cell_named (variables_of b.items) declared c (ap (λ (x : Declared). x.variables) said) (items_good b.items worded faultless) h in
+    let known = requests_known declared given requests (declared_placed b.items declared stated) q in
+    let cell : (c : ℕ) → c < length (owners_from 0 declared.variables) → IsCellName (cell_name declared c) = λ c h. cell_named (variables_of b.items) declared c (ap (λ (x : Declared). x.variables) stated) (items_good b.items worded faultless) h in
     record {
       inputs = subst (AllByRecursion IsFreeWord) (sym i) (codes_free declared.variables variables);
       apart = subst AreApart (sym i) (are_apart (codes_of declared.variables) d);

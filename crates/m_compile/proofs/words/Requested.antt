@@ -11,7 +11,7 @@ use Rattle.m_symbols.specs.declared.variable.Variable.{Variable}
 use Rattle.m_symbols.specs.Declarations.{Declared, names_of, owners_from}
 use Rattle.m_symbols.specs.Cells.{cell_by, request_cell, returned_by, returned_cells, split_at_bracket}
 use Rattle.m_symbols.specs.Placed.{IsPlaced}
-use Rattle.m_symbols.specs.Requests.{lines_said, few, requests_said}
+use Rattle.m_symbols.specs.Requests.{parsed_lines, few, parsed_requests}
 use Rattle.m_symbols.specs.declared.request_fault.RequestFault.{RequestFault}
 use Rattle.m_symbols.specs.declared.request_fault.RequestFault.TheVariants.{BadRequest, TooManyRequests}
 use Rattle.m_symbols.proofs.Placing.{placed_ends, known_by}
@@ -37,18 +37,18 @@ request_known : (declared : Declared) (line : List ℕ) → IsPlaced declared �
 request_known declared line p = at_number declared (split_at_bracket line).1 (index_of (split_at_bracket line).0 (names_of declared.variables)) p
 
 line_known : (declared : Declared) (number : ℕ) (before cells : List ℕ) (lines : List (List ℕ)) (o : Option ℕ) → IsCell declared o → AreCells declared before
-    → ((more : List ℕ) → AreCells declared more → lines_said declared (number + 1) more lines ≡ Ok cells → AreCells declared cells)
-    → option_map_or (λ cell. lines_said declared (number + 1) (before ++ cell ∷ []) lines) o (Err (BadRequest number)) ≡ Ok cells → AreCells declared cells
+    → ((more : List ℕ) → AreCells declared more → parsed_lines declared (number + 1) more lines ≡ Ok cells → AreCells declared cells)
+    → option_map_or (λ cell. parsed_lines declared (number + 1) (before ++ cell ∷ []) lines) o (Err (BadRequest number)) ≡ Ok cells → AreCells declared cells
 line_known declared number before cells lines None i b rest e = absurd (cc)
 line_known declared number before cells lines (Some cell) i b rest e = rest (before ++ cell ∷ []) (all_append _ before (cell ∷ []) b (i, tt)) e
 
 by : (declared : Declared) (number : ℕ) (before cells : List ℕ) (lines : List (List ℕ)) (o : Option ℕ) (empty : Bool) → IsCell declared o → AreCells declared before
-    → ((more : List ℕ) → AreCells declared more → lines_said declared (number + 1) more lines ≡ Ok cells → AreCells declared cells)
-    → cond empty (lines_said declared (number + 1) before lines) (option_map_or (λ cell. lines_said declared (number + 1) (before ++ cell ∷ []) lines) o (Err (BadRequest number))) ≡ Ok cells → AreCells declared cells
+    → ((more : List ℕ) → AreCells declared more → parsed_lines declared (number + 1) more lines ≡ Ok cells → AreCells declared cells)
+    → cond empty (parsed_lines declared (number + 1) before lines) (option_map_or (λ cell. parsed_lines declared (number + 1) (before ++ cell ∷ []) lines) o (Err (BadRequest number))) ≡ Ok cells → AreCells declared cells
 by declared number before cells lines o true i b rest e = rest before b e
 by declared number before cells lines o false i b rest e = line_known declared number before cells lines o i b rest e
 
-lines_known : (declared : Declared) (number : ℕ) (before cells : List ℕ) (lines : List (List ℕ)) → IsPlaced declared → AreCells declared before → lines_said declared number before lines ≡ Ok cells → AreCells declared cells
+lines_known : (declared : Declared) (number : ℕ) (before cells : List ℕ) (lines : List (List ℕ)) → IsPlaced declared → AreCells declared before → parsed_lines declared number before lines ≡ Ok cells → AreCells declared cells
 lines_known declared number before cells [] p b e = let same : before ≡ cells = cc in subst (AreCells declared) same b
 lines_known declared number before cells (line ∷ lines) p b e =
     by declared number before cells lines (request_cell declared line) (length line == 0) (request_known declared line p) b (λ more m g. lines_known declared (number + 1) more cells lines p m g) e
@@ -81,10 +81,10 @@ few_of : (all cells : List ℕ) (many : Bool) → cond many (Err TooManyRequests
 few_of all cells true e = absurd (cc)
 few_of all cells false e = cc
 
-kept : (declared : Declared) (said : Result (List ℕ) RequestFault) (cells : List ℕ) → ((all : List ℕ) → said ≡ Ok all → AreCells declared all) → few said ≡ Ok cells → AreCells declared cells
+kept : (declared : Declared) (stated : Result (List ℕ) RequestFault) (cells : List ℕ) → ((all : List ℕ) → stated ≡ Ok all → AreCells declared all) → few stated ≡ Ok cells → AreCells declared cells
 kept declared (Ok all) cells h e = subst (AreCells declared) (few_of all cells (nat_lt REQUESTS (length all)) e) (h all refl)
 kept declared (Err fault) cells h e = absurd (cc)
 
-pub requests_known : (declared : Declared) (given : Option (List ℕ)) (cells : List ℕ) → IsPlaced declared → requests_said given declared ≡ Ok cells → AllByRecursion (λ c. c < length (owners_from 0 declared.variables)) cells
+pub requests_known : (declared : Declared) (given : Option (List ℕ)) (cells : List ℕ) → IsPlaced declared → parsed_requests given declared ≡ Ok cells → AllByRecursion (λ c. c < length (owners_from 0 declared.variables)) cells
 requests_known declared None cells p e = kept declared (Ok (returned_cells declared)) cells (λ all f. let same : returned_cells declared ≡ all = cc in subst (AreCells declared) same (all_returned_known declared p)) e
-requests_known declared (Some bytes) cells p e = kept declared (lines_said declared 1 [] (lines_of bytes)) cells (λ all f. lines_known declared 1 [] all (lines_of bytes) p tt f) e
+requests_known declared (Some bytes) cells p e = kept declared (parsed_lines declared 1 [] (lines_of bytes)) cells (λ all f. lines_known declared 1 [] all (lines_of bytes) p tt f) e

@@ -12,18 +12,18 @@ use Rattle.flat_code.specs.declared.program.Flat.{Flat}
 use Rattle.flat_code.specs.Faces.{IsFaceOf}
 use Rattle.flat_code.specs.Runs.{IsFlat, flat_run}
 use Rattle.flat_code.specs.Tidy.{IsTidy}
-use Rattle.observables.specs.Answers.{told_of}
+use Rattle.observables.specs.Answers.{observation}
 use Rattle.observables.specs.Inputs.{AreValuesOf}
 use Rattle.observables.specs.Outputs.{names_of, notes_of}
 use Rattle.reg_machine.specs.Flow.{Listing}
 use Rattle.register_alloc.specs.Allocation.{IsAllocation, IsSmall}
 use Rattle.driver_core.specs.declared.program.Core.{Core}
 use Rattle.driver_core.specs.Answers.{answer_of}
-use Rattle.driver_core.specs.Inputs.{inputs_said}
+use Rattle.driver_core.specs.Inputs.{inputs_declared}
 use Rattle.driver_core.specs.Weights.{weight_of}
 use Rattle.m_symbols.specs.Cells.{cell_name}
 use Rattle.m_symbols.specs.declared.request_fault.RequestFault.{RequestFault}
-use Rattle.m_symbols.specs.Requests.{requests_said}
+use Rattle.m_symbols.specs.Requests.{parsed_requests}
 use Rattle.mpp_inline.specs.Inlined.{most_nodes, IsDriverLine}
 use Rattle.mpp_lexer.specs.declared.fault.DriverFault.{DriverFault}
 use Rattle.mpp_parser.specs.declared.command.Driver.{Driver}
@@ -34,7 +34,7 @@ use Rattle.m_compile.specs.declared.compiling.Compiled.{Compiled}
 use Rattle.m_compile.specs.declared.fault.SourceFault.{SourceFault}
 use Rattle.m_compile.specs.declared.fault.SourceFault.TheVariants.{Driver as DriverIs, Core as CoreIs, Requests, DriverTooLarge}
 use Rattle.m_compile.specs.Sources.{IsWritten, running}
-use Rattle.m_compile.specs.Faults.{told_weight}
+use Rattle.m_compile.specs.Faults.{observation_weight}
 use Rattle.m_compile.specs.Compiled.{IsCompiled, IsRunnable}
 
 -- Why a driver is refused over what is declared: its lines, or else its names. Where there is none there is no fault.
@@ -44,16 +44,16 @@ pub data IsDriverFault (declared : Declared) : Option (List ℕ) → SourceFault
       → IsDriverFault declared (Some bytes) (CoreIs fault)
 
 -- what a source asks for, over what its rules declare: this driver runs, and these cells are asked for
-pub record IsAsked (declared : Declared) (source : Source) (core : Core) (requests : List ℕ) : Type 0 where
+pub record AreRequests (declared : Declared) (source : Source) (core : Core) (requests : List ℕ) : Type 0 where
   pub written : Option Core
   pub driven : IsWritten declared source.driver written
-  pub requested : requests_said source.requests declared ≡ Ok requests
+  pub requested : parsed_requests source.requests declared ≡ Ok requests
   pub runs : core ≡ running written requests declared
 
 -- Why that can't be told: the fault of the driver, or else that of the requests.
-pub data IsAskedFault (declared : Declared) (source : Source) : SourceFault → Type 0 where
-  in_driver : {fault : SourceFault} → IsDriverFault declared source.driver fault → IsAskedFault declared source fault
-  in_requests : {written : Option Core} {fault : RequestFault} → IsWritten declared source.driver written → requests_said source.requests declared ≡ Err fault → IsAskedFault declared source (Requests fault)
+pub data IsRequestsFault (declared : Declared) (source : Source) : SourceFault → Type 0 where
+  in_driver : {fault : SourceFault} → IsDriverFault declared source.driver fault → IsRequestsFault declared source fault
+  in_requests : {written : Option Core} {fault : RequestFault} → IsWritten declared source.driver written → parsed_requests source.requests declared ≡ Err fault → IsRequestsFault declared source (Requests fault)
 
 -- what a driver over rules in an order is compiled to, where these cells are asked for
 pub record IsProgram (declared : Declared) (base : Base) (core : Core) (requests : List ℕ) (flat : Flat) (face : Face) : Type 0 where
@@ -61,7 +61,7 @@ pub record IsProgram (declared : Declared) (base : Base) (core : Core) (requests
   pub valid : IsFlat flat
   pub tidy : IsTidy flat
   pub shown : IsFaceOf face flat
-  pub inputs : face.inputs ≡ inputs_said declared
+  pub inputs : face.inputs ≡ inputs_declared declared
   pub names : names_of face.outputs ≡ map (cell_name declared) requests
   pub notes : AllByRecursion (λ number. number < length base.labels) (notes_of face.outputs)
   pub first_labels : take (length base.labels) face.labels ≡ map Verif base.labels
@@ -71,7 +71,7 @@ pub record IsProgram (declared : Declared) (base : Base) (core : Core) (requests
   pub labels_fit : length face.labels ≤ length base.labels + most_nodes
   pub few_outputs : length face.outputs ≤ most_nodes + REQUESTS
   pub answers : (inputs : List Value) → AreValuesOf face.inputs inputs
-      → told_of face.labels (notes_of face.outputs) (flat_run flat inputs) ≡ Some (answer_of core base declared requests inputs)
+      → observation face.labels (notes_of face.outputs) (flat_run flat inputs) ≡ Some (answer_of core base declared requests inputs)
 
 -- a program, its face and its code
 abbrev pub compiled_of : Flat → Face → Listing → Compiled
@@ -86,4 +86,4 @@ pub record IsReady (source : Source) (flat : Flat) (face : Face) : Type 0 where
 
 -- a driver that costs too much
 pub data IsHeavy (core : Core) (base : Base) : SourceFault → Type 0 where
-  heavy : DRIVER_WEIGHT < weight_of core base → IsHeavy core base (DriverTooLarge (told_weight core base))
+  heavy : DRIVER_WEIGHT < weight_of core base → IsHeavy core base (DriverTooLarge (observation_weight core base))

@@ -17,6 +17,6 @@ abbrev pub label_with : List ℕ → ErrorWords → Label
 label_with verif words = record { verif = verif; error = words.name; kind = words.kind; text = words.text }
 
 -- what a check tells whose error has these words
-abbrev pub said_with : Condition → Option ErrorWords → Result Label ResolveFault
-said_with condition None = Err (UnknownError condition.error condition.place)
-said_with condition (Some words) = Ok (label_with condition.verif words)
+abbrev pub resolved_with : Condition → Option ErrorWords → Result Label ResolveFault
+resolved_with condition None = Err (UnknownError condition.error condition.place)
+resolved_with condition (Some words) = Ok (label_with condition.verif words)

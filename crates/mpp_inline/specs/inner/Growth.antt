@@ -26,13 +26,13 @@ use Rattle.observables.specs.declared.face.FaceLabel.{FaceLabel}
 use Rattle.observables.specs.declared.face.FaceLabel.TheVariants.{Verif, DriverLine}
 use Rattle.observables.specs.declared.inputs.InputType.{InputType}
 use Rattle.observables.specs.declared.inputs.InputType.TheVariants.{Any, Whole, Truth}
-use Rattle.observables.specs.Answers.{Cause, over_driver, label_number, cause_of, is_told}
+use Rattle.observables.specs.Answers.{Cause, over_driver, label_number, cause_of, is_reported}
 use Rattle.observables.specs.Outputs.{verif_of}
 use Rattle.flat_code.specs.Runs.{AreNodes, node_values, first_stop}
 use Rattle.driver_core.specs.declared.program.Core.{Core}
 use Rattle.driver_core.specs.Actions.{Action, Block}
 use Rattle.driver_core.specs.Answers.{first_value, next_input}
-use Rattle.driver_core.specs.Inputs.{type_said}
+use Rattle.driver_core.specs.Inputs.{type_declared}
 use Rattle.driver_core.specs.Meaning.{Env, RunState, goes, stops, then_do, with_values, unless_stopped, failure_cause, action_run, block_run, called}
 use Rattle.mpp_inline.specs.Inlined.{IsDriverLine, IsTruthInput}
 use Rattle.mpp_inline.specs.inner.Cells.{written}
@@ -60,7 +60,7 @@ stop_of b inputs = stop_read b.labels.items (first_stop (node_values inputs b.no
 
 -- the verification that a note of this label tells by its node's value, if it tells one
 abbrev pub note_read : FaceLabel → Value → Option Label
-note_read label value = if is_told value then verif_of label else None
+note_read label value = if is_reported value then verif_of label else None
 
 -- the verifications that notes tell, in order: each is a node and the number of a label
 abbrev pub notes_read : List FaceLabel → (ℕ → Value) → List (ℕ × ℕ) → List Label
@@ -76,8 +76,8 @@ abbrev pub so_far : Builder → List Value → SoFar
 so_far b inputs = record { stop = stop_of b inputs; notes = notes_read b.labels.items (at b inputs) b.notes.items }
 
 -- the same, and then a stop and notes
-abbrev pub told_more : SoFar → Option Cause → List Label → SoFar
-told_more s cause notes = record { stop = option_or s.stop cause; notes = s.notes ++ notes }
+abbrev pub observed_more : SoFar → Option Cause → List Label → SoFar
+observed_more s cause notes = record { stop = option_or s.stop cause; notes = s.notes ++ notes }
 
 -- the values of the cells
 abbrev pub denoted : Builder → List Value → List ℕ → Env
@@ -215,7 +215,7 @@ pub record Longer (b c : Builder) : Type 0 where
 -- more nodes, and neither a check nor a note
 pub record Grows (b c : Builder) : Type 0 where
   pub base : Longer b c
-  pub told : (inputs : List Value) → so_far c inputs ≡ so_far b inputs
+  pub reported : (inputs : List Value) → so_far c inputs ≡ so_far b inputs
 
 -- a node whose value, once the rest is computed, is that of the whole
 pub record Along (b c : Builder) (rest : List Value → Value → Value) (whole : List Value → Value) (k : ℕ) : Type 0 where
@@ -295,7 +295,7 @@ pub record HasLiterals (labels : List Label) (b : Builder) : Type 0 where
   pub sane : Sane b
   pub labelled : HasFaces labels b
   pub one : (inputs : List Value) → at b inputs 2 ≡ Num (pos 1000000)
-  pub told : (inputs : List Value) → so_far b inputs ≡ record { stop = None; notes = [] }
+  pub reported : (inputs : List Value) → so_far b inputs ≡ record { stop = None; notes = [] }
 
 -- a node for each cell, with the values that the cells begin with
 pub record Begun (b c : Builder) (start : List Value → Env) (env : List ℕ) : Type 0 where
@@ -312,7 +312,7 @@ typed_value Truth value = op_value And value value value
 
 abbrev pub begun_value : List Value → ℕ → VariableItem → Value
 begun_value inputs n item =
-    if is_input item.role then typed_value (type_said item.value_word) (slice_index_or inputs n Undef) else first_value inputs n item.role
+    if is_input item.role then typed_value (type_declared item.value_word) (slice_index_or inputs n Undef) else first_value inputs n item.role
 
 -- what the first nodes of the cells of variables are worth, where the first input among them has this number
 abbrev pub begun_from : List Value → ℕ → List Variable → Env
@@ -339,7 +339,7 @@ IsAnInput inputs next (Constant amount) = Unit {0}
 -- the types of the inputs among variables
 abbrev pub kinds_from : List Variable → List InputType
 kinds_from [] = []
-kinds_from (v ∷ vs) = if is_input v.item.role then type_said v.item.value_word ∷ kinds_from vs else kinds_from vs
+kinds_from (v ∷ vs) = if is_input v.item.role then type_declared v.item.value_word ∷ kinds_from vs else kinds_from vs
 
 -- ---- tables
 

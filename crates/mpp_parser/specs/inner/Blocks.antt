@@ -37,17 +37,17 @@ unfoldable pub otherwise_at : (ℕ → List Line → Option (List Act × List Li
 otherwise_at b i ls = choose (else_at i ls) ([], ls) (λ rest. choose (b i rest) ([], ls) (λ y. y))
 
 -- what a line that says so begins, on line n
-unfoldable pub said_at : (ℕ → List Line → Option (List Act × List Line)) → ℕ → ℕ → Sentence → List Line → Option (Act × List Line)
-said_at b i n (sentences.Set c t) ls = Some (set n c t, ls)
-said_at b i n (sentences.Del c) ls = Some (del n c, ls)
-said_at b i n (sentences.Call cs f) ls = Some (call n cs f, ls)
-said_at b i n (sentences.Partition k) ls = b i ls >>= λ x. Some (partition n k (block_of x.0), x.1)
-said_at b i n (sentences.If t) ls = b i ls >>= λ x. Some (when n t (block_of x.0) (block_of (otherwise_at b i x.1).0), (otherwise_at b i x.1).1)
-said_at b i n _ ls = None
+unfoldable pub stated_at : (ℕ → List Line → Option (List Act × List Line)) → ℕ → ℕ → Sentence → List Line → Option (Act × List Line)
+stated_at b i n (sentences.Set c t) ls = Some (set n c t, ls)
+stated_at b i n (sentences.Del c) ls = Some (del n c, ls)
+stated_at b i n (sentences.Call cs f) ls = Some (call n cs f, ls)
+stated_at b i n (sentences.Partition k) ls = b i ls >>= λ x. Some (partition n k (block_of x.0), x.1)
+stated_at b i n (sentences.If t) ls = b i ls >>= λ x. Some (when n t (block_of x.0) (block_of (otherwise_at b i x.1).0), (otherwise_at b i x.1).1)
+stated_at b i n _ ls = None
 
 unfoldable pub command_at : (ℕ → List Line → Option (List Act × List Line)) → ℕ → List Line → Option (Act × List Line)
 command_at b i [] = None
-command_at b i (l ∷ ls) = cond (l.indent == i) (line_at l.tokens >>= λ s. said_at b i l.number s ls) None
+command_at b i (l ∷ ls) = cond (l.indent == i) (line_at l.tokens >>= λ s. stated_at b i l.number s ls) None
 
 abbrev pub commands_at : (ℕ → List Line → Option (List Act × List Line)) → ℕ → List Line → List Act × List Line
 commands_at b i ls = many_at (command_at b i) (length ls) [] ls

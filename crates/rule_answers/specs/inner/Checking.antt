@@ -9,10 +9,10 @@ use Rattle.micro_m.specs.declared.base.Base.{Base}
 use Rattle.micro_m.specs.Values.{Environment}
 use Rattle.driver_core.specs.Answers.{start_of}
 use Rattle.why_report.specs.Derivations.{IsFirstUnsound, IsSound}
-use Rattle.why_report.specs.Reports.{report_said}
+use Rattle.why_report.specs.Reports.{parsed_report}
 use Rattle.why_report.specs.declared.fault.ReportFault.{ReportFault}
 use Rattle.why_report.specs.declared.line.ReportLine.{ReportLine}
-use Rattle.driver_core.specs.Inputs.{inputs_said}
+use Rattle.driver_core.specs.Inputs.{inputs_declared}
 use Rattle.command_plans.specs.declared.status.Status.{Status}
 use Rattle.command_plans.specs.declared.status.Status.TheVariants.{Done, Refused}
 use Rattle.rule_answers.specs.Checks.{report_fault_line, sound_line}
@@ -20,8 +20,8 @@ use Rattle.rule_answers.specs.Checks.{report_fault_line, sound_line}
 -- the household of these bytes has no fault, and the cells begin with these values for it
 pub record IsStart (declared : Declared) (rows : List ℕ) (env : List Value) : Type 0 where
   pub pairs : List (ℕ × ℤ)
-  pub given : household_of (inputs_said declared) rows ≡ Ok pairs
-  pub begins : env ≡ start_of declared (values_of pairs (length (inputs_said declared)))
+  pub given : household_of (inputs_declared declared) rows ≡ Ok pairs
+  pub begins : env ≡ start_of declared (values_of pairs (length (inputs_declared declared)))
 
 -- what is told of what is found of lines: the number of the first that isn't sound, or that they are sound
 abbrev pub found_text : Option ℕ → List ℕ
@@ -39,6 +39,6 @@ pub data LinesReplies (base : Base) (given : Environment) (lines : List ReportLi
 
 -- what is answered to a report
 pub data SaidReplies (declared : Declared) (base : Base) (given : Environment) (report : List ℕ) : List ℕ → Status → Type 0 where
-  refused : {line : List ℕ} (fault : ReportFault) → report_said declared report ≡ Err fault → report_fault_line fault ≡ Some line → SaidReplies declared base given report line Refused
-  told : {text : List ℕ} {status : Status} (lines : List ReportLine) → report_said declared report ≡ Ok lines → LinesReplies base given lines text status
+  refused : {line : List ℕ} (fault : ReportFault) → parsed_report declared report ≡ Err fault → report_fault_line fault ≡ Some line → SaidReplies declared base given report line Refused
+  reported : {text : List ℕ} {status : Status} (lines : List ReportLine) → parsed_report declared report ≡ Ok lines → LinesReplies base given lines text status
       → SaidReplies declared base given report text status

@@ -1,6 +1,6 @@
 -- The course that a call of the program took, from which all its clauses follow.
 use Rattle.std.specs.Prelude.{◌≡◌, ℕ, Bool, true, false, List, Some, None, Ok, Err}
-use Rattle.command_plans.specs.Printing.{IsAnswered, Prints, Tells}
+use Rattle.command_plans.specs.Printing.{IsAnswered, Prints, ReportsEnding}
 use Rattle.command_plans.specs.Trips.{GoesAlong}
 use Rattle.command_plans.specs.Views.{FilesView, OutputView}
 use Rattle.command_plans.specs.declared.ending.Ending.{Ending}
@@ -24,7 +24,7 @@ work_in_parts Version = false
 
 -- this is what such a command gathers
 abbrev pub IsWorkOf : Command → Work → Type 0
-IsWorkOf asked work = work_in_parts work ≡ writes_in_parts asked
+IsWorkOf wanted work = work_in_parts work ≡ writes_in_parts wanted
 
 -- what was gathered was answered
 abbrev pub WorkIsAnswered : Work → OutputView → OutputView → Status → Type 0
@@ -38,7 +38,7 @@ WorkIsAnswered Version old new status = Prints version_line Done old new status
 pub data Course (words : List (List ℕ)) (before after : FilesView) (old new : OutputView) (status : Status) : Type 0 where
   is_no_command : command_of words ≡ None → after ≡ before → Prints usage_line Usage old new status → Course words before after old new status
   has_no_memory : after ≡ before → new ≡ old → status ≡ Memory → Course words before after old new status
-  ended : (asked : Command) (ending : Ending) → command_of words ≡ Some asked → GoesAlong (plan_of asked) before after (Err ending) → Tells ending old new status
+  ended : (wanted : Command) (ending : Ending) → command_of words ≡ Some wanted → GoesAlong (plan_of wanted) before after (Err ending) → ReportsEnding ending old new status
       → Course words before after old new status
-  answered : (asked : Command) (work : Work) → command_of words ≡ Some asked → GoesAlong (plan_of asked) before after (Ok work) → IsWorkOf asked work
+  answered : (wanted : Command) (work : Work) → command_of words ≡ Some wanted → GoesAlong (plan_of wanted) before after (Ok work) → IsWorkOf wanted work
       → WorkIsAnswered work old new status → Course words before after old new status

@@ -5,7 +5,7 @@ use Rattle.std.specs.Option.{option_map_or}
 use Rattle.m_text.specs.Pieces.{joined}
 use Rattle.m_fixed.specs.declared.amount.Value.{Value}
 use Rattle.m_places.specs.declared.verification.Label.{Label}
-use Rattle.observables.specs.Answers.{cause_of, label_number, note_told, told_of}
+use Rattle.observables.specs.Answers.{cause_of, label_number, reported_note, observation}
 use Rattle.observables.specs.Outputs.{names_of, notes_of}
 use Rattle.observables.specs.declared.answer.Answer.{Answer}
 use Rattle.observables.specs.declared.answer.Stop.{Stop}
@@ -13,7 +13,7 @@ use Rattle.observables.specs.declared.face.Face.{Face}
 use Rattle.observables.specs.declared.face.FaceLabel.{FaceLabel}
 use Rattle.observables.specs.declared.face.FaceOutput.{FaceOutput}
 use Rattle.observables.specs.declared.face.FaceOutput.TheVariants.{Named, Noted}
-use Rattle.survey_commands.specs.Records.{between, cause_field, told_fields, value_field}
+use Rattle.survey_commands.specs.Records.{between, cause_field, observation_fields, value_field}
 
 -- the name of an output, after a comma
 abbrev pub output_name : FaceOutput → List ℕ
@@ -44,7 +44,7 @@ output_empties outputs = flat_map output_empty outputs
 -- the verification that an output with this value notes, if it notes one
 abbrev pub output_note : List FaceLabel → FaceOutput → Value → Option Label
 output_note labels (Named name) v = None
-output_note labels (Noted number) v = note_told labels number v
+output_note labels (Noted number) v = reported_note labels number v
 
 -- a note, where there are some before it or none
 abbrev pub note_text : Bool → Option Label → List ℕ
@@ -64,4 +64,4 @@ stop_field labels stop = option_map_or (λ label. cause_field (cause_of stop lab
 
 -- an answer, read through the face, as the fields of a record
 abbrev pub answer_fields : Face → Answer → List ℕ
-answer_fields face answer = option_map_or (told_fields (names_of face.outputs)) (told_of face.labels (notes_of face.outputs) answer) []
+answer_fields face answer = option_map_or (observation_fields (names_of face.outputs)) (observation face.labels (notes_of face.outputs) answer) []

@@ -8,8 +8,8 @@ use Rattle.micro_m.specs.Bases.{is_among, term_at, definition_of}
 use Rattle.micro_m.specs.Values.{Environment, environment, term_value}
 use Rattle.why_report.specs.declared.line.ReportLine.{ReportLine}
 use Rattle.why_report.specs.declared.check.Checked.{Checked}
-use Rattle.why_report.specs.Derivations.{cells_told, values_told}
-use Rattle.why_report.specs.inner.Standing.{stands, KnowsStanding, term_stands}
+use Rattle.why_report.specs.Derivations.{reported_cells, reported_values}
+use Rattle.why_report.specs.inner.Standing.{is_set, KnowsStanding, term_is_marked}
 
 -- ---- places of definitions
 
@@ -27,7 +27,7 @@ pub record ArePlaces (base : Base) (places : List ℕ) : Type 0 where
 
 -- the value that a definition's term has, if all cells stand that it reads
 abbrev pub standing_value : List Bool → List Value → Tree → Option Value
-standing_value marks values term = if term_stands marks term then Some (term_value (environment values) term) else None
+standing_value marks values term = if term_is_marked marks term then Some (term_value (environment values) term) else None
 
 -- the value that a cell has by what was checked
 abbrev pub derived_value : Base → Environment → List Bool → List Value → ℕ → Option Value
@@ -38,6 +38,6 @@ pub record Keeps (cells : ℕ) (lines : List ReportLine) (checked : Checked) : T
   pub values_size : length checked.values.items ≡ cells
   pub marks_size : length checked.marks.items ≡ cells
   pub known_size : length checked.known.items ≡ cells
-  pub values : (c : ℕ) → environment checked.values.items c ≡ values_told lines c
-  pub marks : (c : ℕ) → stands checked.marks.items c ≡ is_among c (cells_told lines)
+  pub values : (c : ℕ) → environment checked.values.items c ≡ reported_values lines c
+  pub marks : (c : ℕ) → is_set checked.marks.items c ≡ is_among c (reported_cells lines)
   pub known : KnowsStanding checked.marks.items checked.known.items

@@ -11,7 +11,7 @@ use Rattle.household_session.specs.Seats.{Seated}
 use Rattle.household_session.specs.Sessions.{Showing, showing_of}
 use Rattle.m_symbols.specs.Declarations.{Declared, owners_from}
 use Rattle.why_report.specs.Starts.{IsStart, Reporting}
-use Rattle.why_session.specs.Explains.{Explaining, explained_replies, name_asked}
+use Rattle.why_session.specs.Explains.{Explaining, explained_replies, why_name}
 use Rattle.why_session.specs.Joined.{Joined, explains_by, joined_replies}
 
 -- The parts fit: the reporter is over what is declared, and has the values of the session's inputs, which these may have.
@@ -22,23 +22,23 @@ pub record AreJoined (seated : Seated) (reporting : Reporting) (declared : Decla
   pub cells : reporting.ordered.base.cells ≡ length (owners_from 0 declared.variables)
 
 -- what is too long asks for nothing that can be done, and not why
-too_long_asks : (bytes : List ℕ) → SESSION_LINE_BYTES < length bytes → session_command bytes ≡ too_long
-too_long_asks bytes long = rw (lt-leb (length bytes) SESSION_LINE_BYTES long) refl
+too_long_is : (bytes : List ℕ) → SESSION_LINE_BYTES < length bytes → session_command bytes ≡ too_long
+too_long_is bytes long = rw (lt-leb (length bytes) SESSION_LINE_BYTES long) refl
 
-too_long_asks_none : (bytes : List ℕ) → SESSION_LINE_BYTES < length bytes → name_asked bytes ≡ None
-too_long_asks_none bytes long = rw (lt-leb (length bytes) SESSION_LINE_BYTES long) refl
+too_long_names_none : (bytes : List ℕ) → SESSION_LINE_BYTES < length bytes → why_name bytes ≡ None
+too_long_names_none bytes long = rw (lt-leb (length bytes) SESSION_LINE_BYTES long) refl
 
 -- the replies to a line of which this is asked, and to further lines
-abbrev replies_asked : Showing → Explaining → List Value → List (List ℕ) → Option (List ℕ) → SessionCommand → List ℕ
-replies_asked showing explains values lines asked command =
-    option_map_or (explains values) asked (command_reply showing values command)
-    ++ explained_replies showing explains (option_map_or (λ name. values) asked (command_values showing values command)) lines
+abbrev replies_to_why : Showing → Explaining → List Value → List (List ℕ) → Option (List ℕ) → SessionCommand → List ℕ
+replies_to_why showing explains values lines wanted command =
+    option_map_or (explains values) wanted (command_reply showing values command)
+    ++ explained_replies showing explains (option_map_or (λ name. values) wanted (command_values showing values command)) lines
 
 replies_long : (showing : Showing) (explains : Explaining) (values : List Value) (one other : List ℕ) (lines : List (List ℕ)) → SESSION_LINE_BYTES < length one → SESSION_LINE_BYTES < length other
     → explained_replies showing explains values (one ∷ lines) ≡ explained_replies showing explains values (other ∷ lines)
 replies_long showing explains values one other lines long longer =
-    ap (λ asked. replies_asked showing explains values lines asked (session_command one)) (too_long_asks_none one long ∙ sym (too_long_asks_none other longer))
-    ∙ ap (λ command. replies_asked showing explains values lines (name_asked other) command) (too_long_asks one long ∙ sym (too_long_asks other longer))
+    ap (λ wanted. replies_to_why showing explains values lines wanted (session_command one)) (too_long_names_none one long ∙ sym (too_long_names_none other longer))
+    ∙ ap (λ command. replies_to_why showing explains values lines (why_name other) command) (too_long_is one long ∙ sym (too_long_is other longer))
 
 pub long_alike : (joined : Joined) (one other : List ℕ) (lines : List (List ℕ)) → SESSION_LINE_BYTES < length one → SESSION_LINE_BYTES < length other
     → joined_replies joined (one ∷ lines) ≡ joined_replies joined (other ∷ lines)

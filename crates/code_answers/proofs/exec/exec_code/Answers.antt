@@ -1,5 +1,5 @@
 use Rattle.code_answers.proofs.ExecLemmas.{code_scheme, code_shows, form_runs}
-use Rattle.code_answers.proofs.Refusals.{code_told}
+use Rattle.code_answers.proofs.Refusals.{code_reported}
 use Rattle.code_answers.proofs.Ways.{exec_answered, exec_refused}
 use Rattle.code_answers.proofs.exec.exec_code.Goals as goal
 
@@ -14,4 +14,4 @@ returns-in-Ok g c =
 pub returns-in-Err : goal.returns-in-Err
 returns-in-Err g c =
     exec_refused c.args.code.now c.args.household.now c.in-Err.fault _ _ _
-    (code_told c.args.code.now c.in-Err.fault _ _ _ c.in-Err.ensures (rw c.told_code.ensures at c.tell_refusal.ensures))
+    (code_reported c.args.code.now c.in-Err.fault _ _ _ c.in-Err.ensures (rw c.code_entry.ensures at c.report_refusal.ensures))

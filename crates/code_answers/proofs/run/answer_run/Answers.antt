@@ -22,4 +22,4 @@ pub returns : goal.returns
 returns g c = λ scheme shown.
     rows_refused [] scheme c.args.loaded.now.face (machine_run c.args.loaded.now.code) c.args.household.now c.in-Err.fault _ _ _ shown
     (household_refused c.in-Err.fault {IsFault = household_of c.args.loaded.now.face.inputs c.args.household.now ≡ Err c.in-Err.fault} _ _ _ c.in-Err.ensures
-    (rw c.told_household.ensures at c.tell_refusal.ensures))
+    (rw c.household_entry.ensures at c.report_refusal.ensures))

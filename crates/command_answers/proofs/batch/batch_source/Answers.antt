@@ -1,5 +1,5 @@
 use Rattle.household.specs.Table.{table_of}
-use Rattle.command_answers.proofs.Refusals.{source_told}
+use Rattle.command_answers.proofs.Refusals.{source_reported}
 use Rattle.command_answers.proofs.Ways.{batch_answered, batch_refused}
 use Rattle.command_answers.proofs.batch.batch_source.Goals as goal
 
@@ -11,4 +11,4 @@ returns-in-Ok g c =
 pub returns-in-Err : goal.returns-in-Err
 returns-in-Err g c =
     batch_refused c.args.source.now c.args.table.now _ _ _
-    (source_told c.args.source.now (λ inputs. table_of inputs c.args.table.now) c.in-Err.fault _ _ _ c.in-Err.ensures.outcome c.tell_source.ensures)
+    (source_reported c.args.source.now (λ inputs. table_of inputs c.args.table.now) c.in-Err.fault _ _ _ c.in-Err.ensures.outcome c.report_source.ensures)

@@ -1,5 +1,5 @@
 use Rattle.command_answers.proofs.Ways.{cases_answered, cases_refused}
-use Rattle.command_answers.proofs.Refusals.{fault_told}
+use Rattle.command_answers.proofs.Refusals.{fault_reported}
 use Rattle.command_answers.proofs.cases.cases_source.Goals as goal
 
 pub answer_cases-requires-clause-few : goal.answer_cases-requires-clause-few
@@ -13,4 +13,4 @@ returns-in-Ok g c =
 pub returns-in-Err : goal.returns-in-Err
 returns-in-Err g c =
     cases_refused c.args.source.now c.args.table.now c.in-Err.fault _ _ _
-    (fault_told c.args.source.now c.in-Err.fault _ _ _ c.in-Err.ensures.outcome c.tell_source.ensures)
+    (fault_reported c.args.source.now c.in-Err.fault _ _ _ c.in-Err.ensures.outcome c.report_source.ensures)

@@ -1,4 +1,4 @@
-use Rattle.command_answers.proofs.Refusals.{fault_told}
+use Rattle.command_answers.proofs.Refusals.{fault_reported}
 use Rattle.command_answers.proofs.Ways.{compile_answered, compile_refused}
 use Rattle.command_answers.proofs.compile.compile_source.Goals as goal
 
@@ -8,4 +8,4 @@ returns-in-Ok g c = compile_answered c.args.source.now c.in-Ok.loaded _ _ _ c.in
 pub returns-in-Err : goal.returns-in-Err
 returns-in-Err g c =
     compile_refused c.args.source.now c.in-Err.fault _ _ _
-    (fault_told c.args.source.now c.in-Err.fault _ _ _ c.in-Err.ensures.outcome c.tell_source.ensures)
+    (fault_reported c.args.source.now c.in-Err.fault _ _ _ c.in-Err.ensures.outcome c.report_source.ensures)

@@ -1,5 +1,5 @@
 use Rattle.household.specs.Household.{household_of}
-use Rattle.command_answers.proofs.Refusals.{source_told}
+use Rattle.command_answers.proofs.Refusals.{source_reported}
 use Rattle.command_answers.proofs.Ways.{run_answered, run_refused}
 use Rattle.command_answers.proofs.run.run_source.Goals as goal
 
@@ -11,4 +11,4 @@ returns-in-Ok g c =
 pub returns-in-Err : goal.returns-in-Err
 returns-in-Err g c =
     run_refused c.args.source.now c.args.household.now _ _ _
-    (source_told c.args.source.now (λ inputs. household_of inputs c.args.household.now) c.in-Err.fault _ _ _ c.in-Err.ensures.outcome c.tell_source.ensures)
+    (source_reported c.args.source.now (λ inputs. household_of inputs c.args.household.now) c.in-Err.fault _ _ _ c.in-Err.ensures.outcome c.report_source.ensures)

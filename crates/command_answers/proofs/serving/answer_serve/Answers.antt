@@ -14,4 +14,4 @@ pub returns-in-Err : goal.returns-in-Err
 returns-in-Err g c = λ scheme shown.
     session_refused scheme (explains_by c.args.made.symbols c.args.made.ordered) c.args.program.face (flat_run c.args.program.tidy) c.args.household.now c.in-Err.fault _ _ _ _ shown
     (household_refused c.in-Err.fault {IsFault = household_of c.args.program.face.inputs c.args.household.now ≡ Err c.in-Err.fault} _ _ _ c.in-Err.ensures
-    (rw c.told_household.ensures at c.tell_refusal.ensures))
+    (rw c.household_entry.ensures at c.report_refusal.ensures))

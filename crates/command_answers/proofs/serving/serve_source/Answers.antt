@@ -2,7 +2,7 @@ use Rattle.household.specs.Household.{household_of}
 use Rattle.why_session.specs.Joined.{explains_by}
 use Rattle.command_answers.specs.inner.Answers.{IsPrepared}
 use Rattle.command_answers.proofs.ExplainedLemmas.{as_many_inputs, is_explained}
-use Rattle.command_answers.proofs.Refusals.{source_told}
+use Rattle.command_answers.proofs.Refusals.{source_reported}
 use Rattle.command_answers.proofs.Ways.{is_prepared, serve_answered, serve_refused}
 use Rattle.command_answers.proofs.serving.serve_source.Goals as goal
 
@@ -21,4 +21,4 @@ returns-in-Ok g c =
 pub returns-in-Err : goal.returns-in-Err
 returns-in-Err g c =
     serve_refused c.args.source.now c.args.household.now _ _ _ _
-    (source_told c.args.source.now (λ inputs. household_of inputs c.args.household.now) c.in-Err.fault _ _ _ c.in-Err.ensures.outcome c.tell_source.ensures)
+    (source_reported c.args.source.now (λ inputs. household_of inputs c.args.household.now) c.in-Err.fault _ _ _ c.in-Err.ensures.outcome c.report_source.ensures)

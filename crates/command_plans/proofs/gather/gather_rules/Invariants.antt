@@ -8,8 +8,8 @@ use Rattle.command_plans.proofs.gather.gather_rules.Given as goal
 
 abbrev pub invariant-loop-name : goal.invariant-loop-name
 invariant-loop-name g l = record {
-  resumes : Resumes (rules_plan RULE_BYTES l.names) (files_view g.F.Files.told g.F.Files.attempts g.F.Files.taken l.fn.files)
-      (rules_plan l.left (drop l.name-index l.names)) (files_view g.F.Files.told g.F.Files.attempts g.F.Files.taken l.files) l.texts.items;
+  resumes : Resumes (rules_plan RULE_BYTES l.names) (files_view g.F.Files.known_files g.F.Files.attempts g.F.Files.taken l.fn.files)
+      (rules_plan l.left (drop l.name-index l.names)) (files_view g.F.Files.known_files g.F.Files.attempts g.F.Files.taken l.files) l.texts.items;
   each : EachIsWithin l.texts.items;
   spent : all_bytes l.texts.items + l.left ≡ RULE_BYTES;
   counted : length l.texts.items ≡ l.name-index;

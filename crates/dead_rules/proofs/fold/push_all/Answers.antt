@@ -3,7 +3,7 @@ use Rattle.flat_code.specs.Runs.{IsNode}
 use Rattle.flat_code.specs.Entries.{node_at}
 use Rattle.flat_code.specs.inner.Renumber.{renamed}
 use Rattle.flat_code.proofs.ReadLemmas.{are-valid}
-use Rattle.fold_terms.specs.Drafts.{StandsFor}
+use Rattle.fold_terms.specs.Drafts.{Denotes}
 use Rattle.dead_rules.specs.inner.Steps.{ReadsBelow, look, IsCarried}
 use Rattle.dead_rules.proofs.MarkLemmas.{reads-below, node-read}
 use Rattle.dead_rules.proofs.MoveLemmas.{renamed-node, carried-step, grows-inputs}
@@ -46,6 +46,6 @@ loop-i-preserved c =
     record {
       carried = subst (IsCarried nodes (i + 1) new.nodes) (sym pushed)
           (carried-step c.args.inputs nodes i old new numbers number (are-valid c.args.inputs nodes c.requires.valid) lt c.loop-i.invariant.carried c.in_ok-number.ensures.grows
-          (subst (λ n. StandsFor new.nodes n number) node c.in_ok-number.ensures.stands));
+          (subst (λ n. Denotes new.nodes n number) node c.in_ok-number.ensures.stands));
       inputs = grows-inputs old new c.in_ok-number.ensures.grows ∙ c.loop-i.invariant.inputs;
     }

@@ -11,18 +11,18 @@ pub returns-in_err-reply-clause-prefix : goal.returns-in_err-reply-clause-prefix
 returns-in_err-reply-clause-prefix g c =
     let p = err_from_is_err_and c.from_residual.result c.from_residual.ensures.1 in
     let runs = c.loop-end.invariant.runs in
-    let told = c.in_err-reply.ensures in
+    let reported = c.in_err-reply.ensures in
     rw p.1 (goes_broken _ _ _ _ _ _ _ _ _ _ _ _ _ c.loop-end.invariant.goes (run_cut c.args.bytes.now c.loop-end.from c.loop-end.end runs c.loop-end-test.true)
-    (run_unended c.args.bytes.now c.loop-end.from c.loop-end.end runs) told.goes_on told.gives.prefix)
+    (run_unended c.args.bytes.now c.loop-end.from c.loop-end.end runs) reported.goes_on reported.gives.prefix)
 
 pub loop-end-preserved : goal.loop-end-preserved
 loop-end-preserved g c =
     let runs = c.loop-end.invariant.runs in
-    let told = c.in_ok-reply.ensures in
+    let reported = c.in_ok-reply.ensures in
     record {
       runs = c.line_end-end-in-loop-end.ensures;
       goes = goes_line _ _ _ _ _ _ _ _ _ _ _ _ _ c.loop-end.invariant.goes (run_cut c.args.bytes.now c.loop-end.from c.loop-end.end runs c.loop-end-test.true)
-          (run_unended c.args.bytes.now c.loop-end.from c.loop-end.end runs) told.goes_on told.gives.all told.gives.faultless;
+          (run_unended c.args.bytes.now c.loop-end.from c.loop-end.end runs) reported.goes_on reported.gives.all reported.gives.faultless;
     }
 
 pub returns-clause-place : goal.returns-clause-place

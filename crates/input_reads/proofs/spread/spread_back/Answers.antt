@@ -11,7 +11,7 @@ loop-p-preserved c =
       within = omega (arith, c.loop-p.invariant.within);
       masks = c.add_from.ensures.masks.size ∙ c.loop-p.invariant.masks;
       found = c.add_from.ensures.found.size ∙ c.loop-p.invariant.found;
-      spread = λ asked start.
-          spread-step c.args.known.now c.args.nodes.now (length c.args.found.now) asked p (p - 1) c.loop-p.masks c.loop-p.found c.add_from.new.masks c.add_from.new.found
-          c.requires.nodes next c.add_from.ensures.masks c.add_from.ensures.found (c.loop-p.invariant.spread asked start);
+      spread = λ wanted start.
+          spread-step c.args.known.now c.args.nodes.now (length c.args.found.now) wanted p (p - 1) c.loop-p.masks c.loop-p.found c.add_from.new.masks c.add_from.new.found
+          c.requires.nodes next c.add_from.ensures.masks c.add_from.ensures.found (c.loop-p.invariant.spread wanted start);
     }

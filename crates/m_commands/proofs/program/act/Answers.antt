@@ -6,4 +6,4 @@ pub returns-in-Ok : goal.returns-in-Ok
 returns-in-Ok g c words e = answered c.args.command.now c.in-Ok.work e c.in-Ok.ensures.along c.in-Ok.ensures.kind c.answer-status.ensures
 
 pub returns-in-Err : goal.returns-in-Err
-returns-in-Err g c words e = ended c.args.command.now c.in-Err.ending e c.in-Err.ensures.along refl c.tell-status.ensures
+returns-in-Err g c words e = ended c.args.command.now c.in-Err.ending e c.in-Err.ensures.along refl c.report_ending-status.ensures

@@ -4,7 +4,7 @@ use Rattle.m_commands.proofs.Bounds.{bounded_of}
 use Rattle.m_commands.proofs.Clauses.{text_of, writing_of, stopping_of}
 use Rattle.m_commands.proofs.Compiling.{writes_of}
 use Rattle.m_commands.proofs.Ends.{ends_of}
-use Rattle.m_commands.proofs.Faults.{counted_of, memory_of, quiet_of, left_of, told_of, usage_of}
+use Rattle.m_commands.proofs.Faults.{counted_of, memory_of, quiet_of, left_of, observation, usage_of}
 use Rattle.m_commands.proofs.Reading.{reading_of}
 use Rattle.m_commands.proofs.Taken.{taken_of}
 use Rattle.m_commands.proofs.Valid.{complete_of}
@@ -34,14 +34,14 @@ returns-clause-input_end g c = ends_of _ _ _ _ _ _ _ _ c.perform.ensures
 pub returns-clause-input_taken : goal.returns-clause-input_taken
 returns-clause-input_taken g c = bounded_of _ _ _ _ _ _ _ _ c.perform.ensures
 
-pub returns-clause-read_told : goal.returns-clause-read_told
-returns-clause-read_told g c = told_of _ _ _ _ _ _ _ _ c.perform.ensures
+pub returns-clause-read_reported : goal.returns-clause-read_reported
+returns-clause-read_reported g c = observation _ _ _ _ _ _ _ _ c.perform.ensures
 
 pub returns-clause-write_fault : goal.returns-clause-write_fault
 returns-clause-write_fault g c = (counted_of _ _ _ _ _ _ _ _ c.perform.ensures).only
 
-pub returns-clause-write_told : goal.returns-clause-write_told
-returns-clause-write_told g c = (counted_of _ _ _ _ _ _ _ _ c.perform.ensures).always
+pub returns-clause-write_reported : goal.returns-clause-write_reported
+returns-clause-write_reported g c = (counted_of _ _ _ _ _ _ _ _ c.perform.ensures).always
 
 pub returns-clause-writing : goal.returns-clause-writing
 returns-clause-writing g c = writing_of _ _ _ _ _ _ _ _ c.perform.ensures

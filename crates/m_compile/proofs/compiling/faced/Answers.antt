@@ -1,11 +1,11 @@
 use Rattle.std.proofs.Common.{arith}
-use Rattle.m_symbols.proofs.Outcomes.{told}
+use Rattle.m_symbols.proofs.Outcomes.{reported}
 use Rattle.m_compile.proofs.Noted.{verifs_there}
-use Rattle.m_compile.proofs.Steps.{weight_told, program_made}
+use Rattle.m_compile.proofs.Steps.{weight_reported, program_made}
 use Rattle.m_compile.proofs.compiling.faced.Goals as goal
 
 pub returns-in_err-flat : goal.returns-in_err-flat
-returns-in_err-flat c = told _ _ _ _ _ c.from_residual.ensures.1 (weight_told c.args.core.now c.args.made.now.ordered.base _ c.in_err-flat.ensures.outcome)
+returns-in_err-flat c = reported _ _ _ _ _ c.from_residual.ensures.1 (weight_reported c.args.core.now c.args.made.now.ordered.base _ c.in_err-flat.ensures.outcome)
 
 pub returns : goal.returns
 returns c =

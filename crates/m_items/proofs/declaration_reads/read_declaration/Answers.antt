@@ -1,4 +1,4 @@
-use Rattle.m_items.proofs.Answered.{failed, declaration_stands, no_declaration}
+use Rattle.m_items.proofs.Answered.{failed, declaration_found, no_declaration}
 use Rattle.m_items.proofs.declaration_reads.read_declaration.Goals as goal
 
 pub returns-in_err-item : goal.returns-in_err-item
@@ -8,5 +8,5 @@ returns-in_err-item c = record {
 
 pub returns : goal.returns
 returns c = record {
-  outcome = rw c.len.ensures (declaration_stands c.args.tokens.now (rw c.new-cursor.ensures at c.in_ok-item.ensures.reads));
+  outcome = rw c.len.ensures (declaration_found c.args.tokens.now (rw c.new-cursor.ensures at c.in_ok-item.ensures.reads));
 }

@@ -9,7 +9,7 @@ invariant-loop-bytes g l = record {
   counted : l.taken ≡ min (l.initial.taken + length l.bytes.items) last_count;
   moved : Consumes (g.O.Opener.remaining l.initial.opener) (g.O.Opener.remaining l.opener) l.bytes.items;
   failures : g.O.Opener.failures l.opener ≡ g.O.Opener.failures l.initial.opener;
-  told : g.O.Opener.told l.opener ≡ g.O.Opener.told l.initial.opener;
+  known_files : g.O.Opener.known_files l.opener ≡ g.O.Opener.known_files l.initial.opener;
 }
 
 abbrev pub decreases-loop-bytes : goal.decreases-loop-bytes

@@ -2,7 +2,7 @@ use Rattle.std.proofs.Common.{◌≡◌, ◌+◌, ◌*◌, [], ◌∷◌, drop}
 use Rattle.m_ast.specs.Syntax.{nodes, nodes_of_terms, nodes_of_links, nodes_of_members}
 use Rattle.m_ast.specs.View.{terms_of}
 use Rattle.m_ast.specs.PlainView.{links_of, members_of}
-use Rattle.m_resolve.specs.Terms.{if_said, term_said, terms_said, links_said, members_said}
+use Rattle.m_resolve.specs.Terms.{if_resolved, resolved_term, resolved_terms, resolved_links, resolved_members}
 use Rattle.m_resolve.proofs.terms.+term.Given as goal
 
 abbrev pub decreases-term : goal.decreases-term
@@ -30,12 +30,12 @@ abbrev pub decreases-member : goal.decreases-member
 decreases-member l = 3 * (nodes l.x.now + nodes l.member.now.low + nodes l.member.now.high) + 1
 
 abbrev pub invariant-terms-loop-one : goal.invariant-terms-loop-one
-invariant-terms-loop-one l = terms_said l.symbols l.trees.items (terms_of (drop l.one-index l.all)) ≡ terms_said l.symbols [] (terms_of l.all)
+invariant-terms-loop-one l = resolved_terms l.symbols l.trees.items (terms_of (drop l.one-index l.all)) ≡ resolved_terms l.symbols [] (terms_of l.all)
 
 abbrev pub invariant-chained-loop-link : goal.invariant-chained-loop-link
-invariant-chained-loop-link l = links_said l.symbols l.steps.items (links_of (drop l.link-index l.links)) ≡ links_said l.symbols [] (links_of l.links)
+invariant-chained-loop-link l = resolved_links l.symbols l.steps.items (links_of (drop l.link-index l.links)) ≡ resolved_links l.symbols [] (links_of l.links)
 
 abbrev pub invariant-member_steps-loop-one : goal.invariant-member_steps-loop-one
 invariant-member_steps-loop-one l =
-    if_said (λ t. members_said l.symbols t l.steps.items (members_of (drop l.one-index l.others))) (term_said l.symbols l.x)
-    ≡ if_said (λ t. members_said l.symbols t [] (members_of (l.first ∷ l.others))) (term_said l.symbols l.x)
+    if_resolved (λ t. resolved_members l.symbols t l.steps.items (members_of (drop l.one-index l.others))) (resolved_term l.symbols l.x)
+    ≡ if_resolved (λ t. resolved_members l.symbols t [] (members_of (l.first ∷ l.others))) (resolved_term l.symbols l.x)

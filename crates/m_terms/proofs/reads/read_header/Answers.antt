@@ -1,5 +1,5 @@
 use Rattle.std.proofs.Common.{sym}
-use Rattle.m_terms.proofs.Answered.{failed, to_the_end, header_stands, no_header_read, no_header_ends}
+use Rattle.m_terms.proofs.Answered.{failed, to_the_end, header_found, no_header_read, no_header_ends}
 use Rattle.m_terms.proofs.reads.read_header.Goals as goal
 
 pub returns-in_err-header : goal.returns-in_err-header
@@ -14,5 +14,5 @@ returns-then-not-is_at c = record {
 
 pub returns : goal.returns
 returns c = record {
-  outcome = rw c.len.ensures (header_stands c.args.tokens.now c.args.from c.requires (rw (c.new-cursor.ensures, to_the_end c.args.tokens.now c.args.from) at c.in_ok-header.ensures.reads) (sym c.if-not-is_at.ensures));
+  outcome = rw c.len.ensures (header_found c.args.tokens.now c.args.from c.requires (rw (c.new-cursor.ensures, to_the_end c.args.tokens.now c.args.from) at c.in_ok-header.ensures.reads) (sym c.if-not-is_at.ensures));
 }

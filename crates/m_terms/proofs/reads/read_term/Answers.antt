@@ -1,5 +1,5 @@
 use Rattle.std.proofs.Common.{sym}
-use Rattle.m_terms.proofs.Answered.{failed, to_the_end, term_stands, no_term_read, no_term_ends}
+use Rattle.m_terms.proofs.Answered.{failed, to_the_end, term_is_marked, no_term_read, no_term_ends}
 use Rattle.m_terms.proofs.reads.read_term.Goals as goal
 
 pub returns-in_err-term : goal.returns-in_err-term
@@ -14,5 +14,5 @@ returns-then-not-is_at_follower c = record {
 
 pub returns : goal.returns
 returns c = record {
-  outcome = rw (c.into_inner.ensures, c.len.ensures) (term_stands c.args.tokens.now c.args.from c.requires (rw (c.new-cursor.ensures, to_the_end c.args.tokens.now c.args.from) at c.in_ok-term.ensures.reads) (sym c.if-not-is_at_follower.ensures));
+  outcome = rw (c.into_inner.ensures, c.len.ensures) (term_is_marked c.args.tokens.now c.args.from c.requires (rw (c.new-cursor.ensures, to_the_end c.args.tokens.now c.args.from) at c.in_ok-term.ensures.reads) (sym c.if-not-is_at_follower.ensures));
 }

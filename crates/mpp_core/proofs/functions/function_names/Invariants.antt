@@ -1,6 +1,6 @@
 use Rattle.std.proofs.Common.{◌≡◌, [], drop}
-use Rattle.mpp_core.specs.Names.{names_said}
+use Rattle.mpp_core.specs.Names.{resolved_names}
 use Rattle.mpp_core.proofs.functions.function_names.Given as goal
 
 abbrev pub invariant-loop-function : goal.invariant-loop-function
-invariant-loop-function l = names_said l.names (drop l.function-index l.functions) ≡ names_said [] l.functions
+invariant-loop-function l = resolved_names l.names (drop l.function-index l.functions) ≡ resolved_names [] l.functions

@@ -1,7 +1,7 @@
 use Rattle.std.proofs.Common.{◌≡◌, ◌+◌, ◌*◌, [], drop}
 use Rattle.mpp_parser.specs.Trees.{term_nodes, nodes_of_terms, nodes_of_links}
 use Rattle.mpp_parser.specs.TermView.{terms_of, links_of}
-use Rattle.mpp_core.specs.Bodies.{terms_said, links_said}
+use Rattle.mpp_core.specs.Bodies.{resolved_terms, resolved_links}
 use Rattle.mpp_core.proofs.terms.+term.Given as goal
 
 abbrev pub decreases-term : goal.decreases-term
@@ -17,7 +17,7 @@ abbrev pub decreases-chained : goal.decreases-chained
 decreases-chained l = 3 * (term_nodes l.first.now + nodes_of_links (links_of l.links.now)) + 1
 
 abbrev pub invariant-terms-loop-one : goal.invariant-terms-loop-one
-invariant-terms-loop-one l = terms_said l.scope l.line l.said.items (terms_of (drop l.one-index l.all)) ≡ terms_said l.scope l.line [] (terms_of l.all)
+invariant-terms-loop-one l = resolved_terms l.scope l.line l.stated.items (terms_of (drop l.one-index l.all)) ≡ resolved_terms l.scope l.line [] (terms_of l.all)
 
 abbrev pub invariant-chained-loop-link : goal.invariant-chained-loop-link
-invariant-chained-loop-link l = links_said l.scope l.line l.steps.items (links_of (drop l.link-index l.links)) ≡ links_said l.scope l.line [] (links_of l.links)
+invariant-chained-loop-link l = resolved_links l.scope l.line l.steps.items (links_of (drop l.link-index l.links)) ≡ resolved_links l.scope l.line [] (links_of l.links)

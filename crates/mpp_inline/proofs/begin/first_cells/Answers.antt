@@ -1,7 +1,7 @@
 use Rattle.std.proofs.Common.{◌≡◌, ◌+◌, ◌≤◌, ◌∷◌, drop, length, sym, ap, ◌∙◌, subst, arith, add-one}
 use Rattle.m_symbols.specs.Declarations.{inputs_from, owners_from}
 use Rattle.driver_core.specs.Answers.{next_input}
-use Rattle.driver_core.specs.Inputs.{type_said}
+use Rattle.driver_core.specs.Inputs.{type_declared}
 use Rattle.mpp_inline.specs.inner.Growth.{InputIsThere, kinds_from}
 use Rattle.mpp_inline.proofs.BeginLemmas.{Starting, starting-next, drop-get, inputs-next, input-there}
 use Rattle.mpp_inline.proofs.TruthLemmas.{typed-next}
@@ -23,7 +23,7 @@ loop-v-preserved c =
     let here : drop i vars ≡ v ∷ rest = drop-get vars i v c.variable-variable.ensures ∙ ap (λ n. v ∷ drop n vars) (sym (add-one i)) in
     let counted : next + length (inputs_from 0 (v ∷ rest)) ≡ total = subst (λ l. next + length (inputs_from 0 l) ≡ total) here c.loop-v.invariant.counted in
     let few : total ≤ c.inputs-inputs.result = omega (arith, c.inputs-inputs.ensures) in
-    let kind = type_said v.item.value_word in
+    let kind = type_declared v.item.value_word in
     let typed = typed-next (kinds_from vars) next v rest (c.loop-v.invariant.typed ∙ ap kinds_from here) in
     let there : InputIsThere b.inputs next kind role = subst (λ ks. InputIsThere ks next kind role) (sym c.requires.inputs) typed.0 in
     let behind : c.input_behind-next.result ≡ next_input next role = c.input_behind-next.ensures (input-there next total c.inputs-inputs.result v rest counted few) in

@@ -5,7 +5,7 @@ use Rattle.m_fixed.specs.declared.amount.Value.TheVariants.{Undef, Num}
 use Rattle.m_ast.specs.Items.{is_input}
 use Rattle.flat_code.specs.declared.program.Node.TheVariants.{Lit}
 use Rattle.driver_core.specs.Answers.{first_value}
-use Rattle.driver_core.specs.Inputs.{type_said}
+use Rattle.driver_core.specs.Inputs.{type_declared}
 use Rattle.mpp_inline.specs.inner.Growth.{Pushed, Gives, Sane, HasInput, InputIsThere, typed_value}
 use Rattle.mpp_inline.proofs.GrowthLemmas.{gives-lit}
 use Rattle.mpp_inline.proofs.begin.first_node.Goals as goal
@@ -18,7 +18,7 @@ returns-in-Input-clause-step c =
     let word = c.args.item.now.value_word in
     let is = c.in-Input.is in
     IfOk-weaker _ (λ k. Sane b → HasInput b.inputs next c.kind_of.result → Gives b d (λ inputs. typed_value c.kind_of.result (slice_index_or inputs next Undef)) k) _
-    (λ k step s. subst (λ r. InputIsThere b.inputs next (type_said word) r → Gives b d (λ inputs. cond (is_input r) (typed_value (type_said word) (slice_index_or inputs next Undef)) (first_value inputs next r)) k) (sym is)
+    (λ k step s. subst (λ r. InputIsThere b.inputs next (type_declared word) r → Gives b d (λ inputs. cond (is_input r) (typed_value (type_declared word) (slice_index_or inputs next Undef)) (first_value inputs next r)) k) (sym is)
     (λ low. subst (λ kind. Gives b d (λ inputs. typed_value kind (slice_index_or inputs next Undef)) k) c.kind_of.ensures (step s (subst (HasInput b.inputs next) (sym c.kind_of.ensures) low))))
     c.input_node.ensures.step
 
@@ -29,5 +29,5 @@ returns-in-Constant-clause-step c =
     let next = c.args.next in
     let word = c.args.item.now.value_word in
     IfOk-weaker _ (λ k. Pushed b d (Lit (Num c.in-Constant.amount)) k) _
-    (λ k p s h. subst (λ r. Gives b d (λ inputs. cond (is_input r) (typed_value (type_said word) (slice_index_or inputs next Undef)) (first_value inputs next r)) k) (sym c.in-Constant.is) (gives-lit (Num c.in-Constant.amount) p s))
+    (λ k p s h. subst (λ r. Gives b d (λ inputs. cond (is_input r) (typed_value (type_declared word) (slice_index_or inputs next Undef)) (first_value inputs next r)) k) (sym c.in-Constant.is) (gives-lit (Num c.in-Constant.amount) p s))
     c.push.ensures

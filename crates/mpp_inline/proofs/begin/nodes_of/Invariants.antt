@@ -1,5 +1,5 @@
 use Rattle.std.proofs.Common.{◌≡◌, ◌++◌, drop}
-use Rattle.mpp_inline.specs.inner.Told.{nodes_of}
+use Rattle.mpp_inline.specs.inner.Observation.{nodes_of}
 use Rattle.mpp_inline.proofs.begin.nodes_of.Given as goal
 
 abbrev pub invariant-loop-node : goal.invariant-loop-node

@@ -1,5 +1,5 @@
 use Rattle.std.proofs.Common.{◌≡◌, ◌++◌, drop}
-use Rattle.mpp_inline.specs.inner.Told.{numbers_of}
+use Rattle.mpp_inline.specs.inner.Observation.{numbers_of}
 use Rattle.mpp_inline.proofs.begin.numbers_of.Given as goal
 
 abbrev pub invariant-loop-number : goal.invariant-loop-number

@@ -1,10 +1,10 @@
 use Rattle.std.proofs.Common.{◌+◌, ◌++◌, map, length, get_or, sym, ap, ◌∙◌, arith}
 use Rattle.std.proofs.lemmas.Result.{IfOk-weaker}
 use Rattle.std.proofs.lemmas.List.{length-map}
-use Rattle.driver_core.specs.Answers.{start_from, told_by}
+use Rattle.driver_core.specs.Answers.{start_from, observation_by}
 use Rattle.driver_core.specs.Meaning.{called}
 use Rattle.mpp_inline.specs.inner.Growth.{Ready, HasLiterals, Begun, begun_from, rules_in_turn}
-use Rattle.mpp_inline.specs.inner.Told.{nodes_of}
+use Rattle.mpp_inline.specs.inner.Observation.{nodes_of}
 use Rattle.mpp_inline.specs.inner.Work.{Step}
 use Rattle.mpp_inline.proofs.GrowthLemmas.{faces-on}
 use Rattle.mpp_inline.proofs.BeginLemmas.{last-answer, last-known, whole-run, begun-same, start-long}
@@ -29,18 +29,18 @@ returns-clause-answers c =
     let begun : Begun b0 b1 (λ inputs. begun_from inputs 0 vars) e = c.in_ok-env.ensures.step literal.sane in
     let ready : Ready base.labels b1 e 2 = record { placed = record { sane = begun.grows.base.sane; known = begun.known; guard = begun.grows.base.sane.literal 2 (omega arith) }; labelled = faces-on begun.grows.base literal.labelled } in
     let step : Step b1 b2 2 e f next = c.in_ok-emit_all.ensures.step ready in
-    let asked = map (λ x. get_or f x 0) requests in
+    let wanted = map (λ x. get_or f x 0) requests in
     record {
       sane = step.base.sane;
       labelled = faces-on step.base ready.labelled;
       inputs = step.base.inputs ∙ begun.grows.base.inputs ∙ c.requires.inputs;
-      asked = asked;
+      wanted = wanted;
       outputs_are = given ∙ (λ i. nodes_of (c.deref.ensures.value i) ++ map (λ x. get_or (c.deref-2.ensures.value i) x 0) requests);
-      asked_known = last-known b2 f requests step.base.sane step.known;
-      asked_long = length-map requests (λ x. get_or f x 0);
+      requested_known = last-known b2 f requests step.base.sane step.known;
+      requested_long = length-map requests (λ x. get_or f x 0);
       answer = λ inputs typed.
           last-answer b2 f requests inputs step.base.sane
-          ∙ ap (told_by requests) (whole-run inputs literal begun step
+          ∙ ap (observation_by requests) (whole-run inputs literal begun step
           ∙ ap next (begun-same c.args.symbols.now inputs typed)
           ∙ run-same core base sequence (start_from inputs 0 vars) c.requires.base c.requires.order (start-long inputs 0 0 vars ∙ sym c.requires.cells));
     })

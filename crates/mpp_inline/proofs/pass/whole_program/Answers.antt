@@ -1,5 +1,5 @@
 use Rattle.std.proofs.Common.{ap, arith, ◌∙◌}
-use Rattle.mpp_inline.specs.inner.Told.{numbers_of}
+use Rattle.mpp_inline.specs.inner.Observation.{numbers_of}
 use Rattle.mpp_inline.proofs.pass.whole_program.Goals as goal
 
 pub emit_driver-requires : goal.emit_driver-requires

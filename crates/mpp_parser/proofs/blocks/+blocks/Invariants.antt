@@ -9,8 +9,8 @@ decreases-read_block l = 8 * l.depth
 abbrev pub decreases-read_otherwise : goal.decreases-read_otherwise
 decreases-read_otherwise l = 8 * l.depth + 1
 
-abbrev pub decreases-read_said : goal.decreases-read_said
-decreases-read_said l = 8 * l.depth + 2
+abbrev pub decreases-read_written : goal.decreases-read_written
+decreases-read_written l = 8 * l.depth + 2
 
 abbrev pub decreases-read_command : goal.decreases-read_command
 decreases-read_command l = 8 * l.depth + 3

@@ -1,6 +1,6 @@
 use Rattle.std.proofs.Common.{◌≡◌, Err, ◌∙◌, sym}
 use Rattle.household.specs.Household.{household_of}
-use Rattle.driver_core.specs.Inputs.{inputs_said}
+use Rattle.driver_core.specs.Inputs.{inputs_declared}
 use Rattle.rule_answers.proofs.CheckLemmas.{rows_are_refused, start_answered, start_many}
 use Rattle.code_answers.proofs.Refusals.{household_refused}
 use Rattle.rule_answers.proofs.check.answer_check.Goals as goal
@@ -14,5 +14,5 @@ returns-in-Ok g c = start_answered c.args.made.now.symbols c.args.made.now.order
 pub returns-in-Err : goal.returns-in-Err
 returns-in-Err g c =
     rows_are_refused c.args.made.now.symbols c.args.made.now.ordered.base c.args.household.now c.args.report.now c.in-Err.fault _ _ _
-    (household_refused c.in-Err.fault {IsFault = household_of (inputs_said c.args.made.now.symbols) c.args.household.now ≡ Err c.in-Err.fault} _ _ _ c.in-Err.ensures
-    (rw c.told_household.ensures at c.tell_refusal.ensures))
+    (household_refused c.in-Err.fault {IsFault = household_of (inputs_declared c.args.made.now.symbols) c.args.household.now ≡ Err c.in-Err.fault} _ _ _ c.in-Err.ensures
+    (rw c.household_entry.ensures at c.report_refusal.ensures))

@@ -1,5 +1,5 @@
 use Rattle.rule_answers.proofs.CheckLemmas.{report_answered, report_refused}
-use Rattle.rule_answers.proofs.Refusals.{report_told}
+use Rattle.rule_answers.proofs.Refusals.{report_reported}
 use Rattle.rule_answers.proofs.check.answer_report.Goals as goal
 
 pub answer_lines-requires-clause-cells : goal.answer_lines-requires-clause-cells
@@ -12,4 +12,4 @@ returns-in-Ok g c =
 pub returns-in-Err : goal.returns-in-Err
 returns-in-Err g c =
     report_refused c.args.made.now.symbols c.args.made.now.ordered.base _ c.args.report.now c.in-Err.fault _ _ _
-    (report_told c.in-Err.fault _ _ _ c.in-Err.ensures.outcome (rw c.told_report.ensures at c.tell_refusal.ensures))
+    (report_reported c.in-Err.fault _ _ _ c.in-Err.ensures.outcome (rw c.report_entry.ensures at c.report_refusal.ensures))

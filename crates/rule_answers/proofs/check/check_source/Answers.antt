@@ -1,5 +1,5 @@
 use Rattle.rule_answers.proofs.CheckLemmas.{check_answered, check_refused}
-use Rattle.rule_answers.proofs.Refusals.{base_told}
+use Rattle.rule_answers.proofs.Refusals.{base_reported}
 use Rattle.m_compile.proofs.Distinct.{distinct_inputs}
 use Rattle.rule_base.proofs.Small.{few-cells}
 use Rattle.rule_answers.proofs.check.check_source.Goals as goal
@@ -18,4 +18,4 @@ returns-in-Ok g c =
 pub returns-in-Err : goal.returns-in-Err
 returns-in-Err g c =
     check_refused c.args.source.now c.args.household.now c.args.report.now c.in-Err.fault _ _ _
-    (base_told c.args.source.now c.in-Err.fault _ _ _ (rw (c.as_slice.ensures, c.bytes.ensures) at c.in-Err.ensures.outcome) c.tell_source.ensures)
+    (base_reported c.args.source.now c.in-Err.fault _ _ _ (rw (c.as_slice.ensures, c.bytes.ensures) at c.in-Err.ensures.outcome) c.report_source.ensures)

@@ -1,7 +1,7 @@
 use Rattle.std.proofs.Common.{arith}
 use Rattle.rule_base.proofs.Small.{few-checks}
 use Rattle.rule_answers.proofs.LintLemmas.{inputs_counted, labels_first, lint_answered, lint_refused}
-use Rattle.rule_answers.proofs.Refusals.{fault_told}
+use Rattle.rule_answers.proofs.Refusals.{fault_reported}
 use Rattle.rule_answers.proofs.lint.lint_source.Goals as goal
 
 pub answer_lint-status-requires-clause-few : goal.answer_lint-status-requires-clause-few
@@ -25,4 +25,4 @@ returns-in-Ok g c =
 pub returns-in-Err : goal.returns-in-Err
 returns-in-Err g c =
     lint_refused c.args.source.now c.in-Err.fault _ _ _
-    (fault_told c.args.source.now c.in-Err.fault _ _ _ c.in-Err.ensures.outcome c.tell_source.ensures)
+    (fault_reported c.args.source.now c.in-Err.fault _ _ _ c.in-Err.ensures.outcome c.report_source.ensures)

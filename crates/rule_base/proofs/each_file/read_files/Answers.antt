@@ -1,12 +1,12 @@
 use Rattle.std.proofs.Common.{arith, refl, ◌≡◌, ◌+◌}
-use Rattle.rule_base.proofs.FileSteps.{told}
+use Rattle.rule_base.proofs.FileSteps.{reported}
 use Rattle.rule_base.proofs.Rows.{goes_first, goes_at, goes_next, goes_through}
 use Rattle.rule_base.specs.Files.{here}
 use Rattle.rule_base.proofs.each_file.read_files.Goals as goal
 
 pub returns-in_err-items : goal.returns-in_err-items
 returns-in_err-items c =
-    told _ _ _ _ _ c.from_residual.ensures.1
+    reported _ _ _ _ _ c.from_residual.ensures.1
     (λ n. (goes_at _ c.args.texts.now c.loop-text.text-index _ _ _ c.loop-text-test.true c.text-item.is c.loop-text.invariant.goes).bad _ (here (c.in_err-items.ensures n)))
 
 pub loop-text-preserved : goal.loop-text-preserved

@@ -1,9 +1,9 @@
 use Rattle.std.proofs.Common.{◌≡◌, ◌≤◌, ◌+◌, ◌*◌, List, get_or, length, subst, sym, arith}
 use Rattle.m_places.specs.SourceLimits.{EachIsWithin}
 use Rattle.m_places.specs.declared.source.Text.{Text}
-use Rattle.rule_base.proofs.FileSteps.{told}
+use Rattle.rule_base.proofs.FileSteps.{reported}
 use Rattle.rule_base.proofs.Rows.{within_drop, within_take}
-use Rattle.rule_base.proofs.Pieces.{IsGiven, SaysFiles, files_said}
+use Rattle.rule_base.proofs.Pieces.{IsGiven, SaysFiles, parsed_files}
 use Rattle.rule_base.proofs.read.read_all.Goals as goal
 
 pub join_parts-requires-clause-accepts : goal.join_parts-requires-clause-accepts
@@ -15,15 +15,15 @@ join_parts-requires-clause-accepts g c κs held = λ at lent part. (
 pub returns-in_err-files : goal.returns-in_err-files
 returns-in_err-files g c =
     let all = c.in_ok-join_parts.ensures in
-    let said = files_said c.part_size-size.result c.args.texts.now all.parts
+    let stated = parsed_files c.part_size-size.result c.args.texts.now all.parts
     (λ n d h. let gave = all.made.each n d h in subst (λ (texts : List Text). IsGiven (n * c.part_size-size.result) texts (get_or all.parts n d)) gave.1 gave.2)
     all.made.inside all.made.reach in
-    told _ _ _ _ _ c.from_residual-in_err-files.ensures.1 (rw c.in_err-files.was at (rw (sym all.all_is) at said))
+    reported _ _ _ _ _ c.from_residual-in_err-files.ensures.1 (rw c.in_err-files.was at (rw (sym all.all_is) at stated))
 
 pub returns : goal.returns
 returns g c =
     let all = c.in_ok-join_parts.ensures in
-    let said = files_said c.part_size-size.result c.args.texts.now all.parts
+    let stated = parsed_files c.part_size-size.result c.args.texts.now all.parts
     (λ n d h. let gave = all.made.each n d h in subst (λ (texts : List Text). IsGiven (n * c.part_size-size.result) texts (get_or all.parts n d)) gave.1 gave.2)
     all.made.inside all.made.reach in
-    rw c.from_vec.ensures (rw c.in_ok-files.was at (rw (sym all.all_is) at said))
+    rw c.from_vec.ensures (rw c.in_ok-files.was at (rw (sym all.all_is) at stated))

@@ -1,5 +1,5 @@
 use Rattle.code_answers.proofs.ExecLemmas.{code_scheme, code_shows, form_runs}
-use Rattle.code_answers.proofs.Refusals.{code_told}
+use Rattle.code_answers.proofs.Refusals.{code_reported}
 use Rattle.survey_commands.proofs.Ways.{code_answered, code_refused}
 use Rattle.survey_commands.proofs.code.table_code.Goals as goal
 
@@ -14,4 +14,4 @@ returns-in-Ok g c =
 pub returns-in-Err : goal.returns-in-Err
 returns-in-Err g c =
     code_refused c.args.code.now c.args.table.now c.in-Err.fault _ _ _
-    (code_told c.args.code.now c.in-Err.fault _ _ _ c.in-Err.ensures (rw c.told_code.ensures at c.tell_refusal.ensures))
+    (code_reported c.args.code.now c.in-Err.fault _ _ _ c.in-Err.ensures (rw c.code_entry.ensures at c.report_refusal.ensures))

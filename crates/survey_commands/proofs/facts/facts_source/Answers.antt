@@ -1,6 +1,6 @@
 use Rattle.std.proofs.Common.{arith}
 use Rattle.rule_base.proofs.Small.{few-checks}
-use Rattle.command_answers.proofs.Refusals.{fault_told}
+use Rattle.command_answers.proofs.Refusals.{fault_reported}
 use Rattle.survey_commands.proofs.FactsLemmas.{facts_answered, facts_refused, labels_first}
 use Rattle.survey_commands.proofs.facts.facts_source.Goals as goal
 
@@ -19,4 +19,4 @@ returns-in-Ok g c =
 pub returns-in-Err : goal.returns-in-Err
 returns-in-Err g c =
     facts_refused c.args.source.now c.args.ranges.now c.in-Err.fault _ _ _
-    (fault_told c.args.source.now c.in-Err.fault _ _ _ c.in-Err.ensures.outcome c.tell_source.ensures)
+    (fault_reported c.args.source.now c.in-Err.fault _ _ _ c.in-Err.ensures.outcome c.report_source.ensures)

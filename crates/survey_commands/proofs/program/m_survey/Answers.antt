@@ -17,8 +17,8 @@ returns-clause-taken g c = taken_of _ _ _ _ _ _ c.perform.ensures
 pub returns-clause-write_fault : goal.returns-clause-write_fault
 returns-clause-write_fault g c = (counted_of _ _ _ _ _ _ c.perform.ensures).only
 
-pub returns-clause-write_told : goal.returns-clause-write_told
-returns-clause-write_told g c = (counted_of _ _ _ _ _ _ c.perform.ensures).always
+pub returns-clause-write_reported : goal.returns-clause-write_reported
+returns-clause-write_reported g c = (counted_of _ _ _ _ _ _ c.perform.ensures).always
 
 pub returns-clause-writing : goal.returns-clause-writing
 returns-clause-writing g c = writing_of _ _ _ _ _ _ c.perform.ensures

@@ -1,4 +1,4 @@
-use Rattle.command_answers.proofs.Refusals.{fault_told}
+use Rattle.command_answers.proofs.Refusals.{fault_reported}
 use Rattle.survey_commands.proofs.Ways.{source_answered, source_refused}
 use Rattle.survey_commands.proofs.source.table_source.Goals as goal
 
@@ -10,4 +10,4 @@ returns-in-Ok g c =
 pub returns-in-Err : goal.returns-in-Err
 returns-in-Err g c =
     source_refused c.args.source.now c.args.table.now c.in-Err.fault _ _ _
-    (fault_told c.args.source.now c.in-Err.fault _ _ _ c.in-Err.ensures.outcome c.tell_source.ensures)
+    (fault_reported c.args.source.now c.in-Err.fault _ _ _ c.in-Err.ensures.outcome c.report_source.ensures)

@@ -6,8 +6,8 @@ use Rattle.m_batch.proofs.RowLemmas.{rows_below}
 use Rattle.code_answers.proofs.Refusals.{household_refused}
 use Rattle.code_answers.proofs.Shown.{code_many, many_inputs}
 use Rattle.code_answers.proofs.Ways.{batch_written}
-use Rattle.survey_commands.specs.Tables.{SchemeReplies, rows_are_told}
-use Rattle.survey_commands.proofs.RecordLemmas.{text_told}
+use Rattle.survey_commands.specs.Tables.{SchemeReplies, rows_are_answered}
+use Rattle.survey_commands.proofs.RecordLemmas.{text_reported}
 use Rattle.survey_commands.proofs.Ways.{table_refused}
 use Rattle.survey_commands.proofs.table.answer_table.Goals as goal
 
@@ -20,12 +20,12 @@ pub returns-in-Ok-rows_of : goal.returns-in-Ok-rows_of
 returns-in-Ok-rows_of g c = λ scheme shown.
     let rows = c.in-Ok-rows_of.rows in
     let given = subst (λ inputs. table_of inputs c.args.table.now ≡ Ok rows) shown.inputs c.in-Ok-rows_of.ensures.outcome in
-    batch_written _ _ _ _ _ _ (SchemeReplies scheme c.args.table.now) _ (rows_are_told rows given)
+    batch_written _ _ _ _ _ _ (SchemeReplies scheme c.args.table.now) _ (rows_are_answered rows given)
     c.status_of.ensures
-    (rw (text_told scheme c.args.loaded.now rows shown (code_many scheme c.args.loaded.now shown) (table_gives scheme.inputs c.args.table.now rows given)) at (rw c.as_slice-rows.ensures at c.print_table.ensures))
+    (rw (text_reported scheme c.args.loaded.now rows shown (code_many scheme c.args.loaded.now shown) (table_gives scheme.inputs c.args.table.now rows given)) at (rw c.as_slice-rows.ensures at c.print_table.ensures))
 
 pub returns : goal.returns
 returns g c = λ scheme shown.
     table_refused scheme c.args.loaded.now.face (machine_run c.args.loaded.now.code) c.args.table.now c.in-Err.fault _ _ _ shown
     (household_refused c.in-Err.fault {IsFault = table_of c.args.loaded.now.face.inputs c.args.table.now ≡ Err c.in-Err.fault} _ _ _ c.in-Err.ensures.outcome
-    (rw c.told_household.ensures at c.tell_refusal.ensures))
+    (rw c.household_entry.ensures at c.report_refusal.ensures))

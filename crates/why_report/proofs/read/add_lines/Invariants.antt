@@ -1,12 +1,12 @@
 use Rattle.std.proofs.Common.{◌≡◌, ◌≤◌, ◌<◌, ◌+◌, [], length, All}
 use Rattle.m_text.specs.Lines.{exact_lines_of}
 use Rattle.m_symbols.specs.Declarations.{owners_from}
-use Rattle.why_report.specs.Reports.{lines_said}
+use Rattle.why_report.specs.Reports.{parsed_lines}
 use Rattle.why_report.proofs.read.add_lines.Given as goal
 
 abbrev pub invariant-loop-line : goal.invariant-loop-line
 invariant-loop-line l = record {
-  same : lines_said l.symbols l.number l.lines.items (exact_lines_of l.left) ≡ lines_said l.symbols 1 [] (exact_lines_of l.bytes);
+  same : parsed_lines l.symbols l.number l.lines.items (exact_lines_of l.left) ≡ parsed_lines l.symbols 1 [] (exact_lines_of l.bytes);
   known : All (λ line. line.cell < length (owners_from 0 l.symbols.variables)) l.lines.items;
   few : l.number + length l.left ≤ length l.bytes + 1;
 }

@@ -1,5 +1,5 @@
 use Rattle.std.proofs.Common.{◌∙◌}
-use Rattle.fold_terms.proofs.GrowLemmas.{IsCut, built-push, cut-either, asked-entered, err-then}
+use Rattle.fold_terms.proofs.GrowLemmas.{IsCut, built-push, cut-either, wanted-entered, err-then}
 use Rattle.fold_terms.proofs.parts.Parts.enter.Goals as goal
 
 whole : (c : goal.After-cut) → IsCut c.args.self.now.inputs c.args.self.now.nodes c.cut.new.self.nodes c.cut.new.self.facts
@@ -17,8 +17,8 @@ returns-clause-built c = (whole c).built
 pub returns-clause-grows : goal.returns-clause-grows
 returns-clause-grows c = (whole c).grows
 
-pub returns-clause-asked : goal.returns-clause-asked
-returns-clause-asked c = asked-entered c.note-number.result c.args.self.now.nodes c.note-number.new.self.nodes c.cut.new.self.nodes c.args.node c.cut.ensures.nodes c.note-number.ensures.entered
+pub returns-clause-wanted : goal.returns-clause-wanted
+returns-clause-wanted c = wanted-entered c.note-number.result c.args.self.now.nodes c.note-number.new.self.nodes c.cut.new.self.nodes c.args.node c.cut.ensures.nodes c.note-number.ensures.entered
 
 pub returns-clause-err : goal.returns-clause-err
 returns-clause-err c =

@@ -6,13 +6,13 @@ use Rattle.why_session.proofs.ReasonLemmas.{why_goes_on}
 use Rattle.why_session.proofs.explainer.ExplainerReplier.reply.Goals as goal
 
 pub do_line-requires : goal.do_line-requires
-do_line-requires g c = sym c.name_asked.ensures ∙ ap option_copied c.in-None.is
+do_line-requires g c = sym c.why_name.ensures ∙ ap option_copied c.in-None.is
 
 pub returns-in-Some : goal.returns-in-Some
 returns-in-Some g c = record {
   text = explains_in c.args.self.now c.in-Some.name.now;
-  gives = c.tell_why.ensures.gives;
-  goes_on = why_goes_on c.args.self.now c.tell_why.new.self c.args.line.now c.in-Some.name.now (sym c.name_asked.ensures ∙ ap option_copied c.in-Some.is) c.tell_why.ensures.stays;
+  gives = c.reply_to_why.ensures.gives;
+  goes_on = why_goes_on c.args.self.now c.reply_to_why.new.self c.args.line.now c.in-Some.name.now (sym c.why_name.ensures ∙ ap option_copied c.in-Some.is) c.reply_to_why.ensures.stays;
 }
 
 pub returns-in-None : goal.returns-in-None

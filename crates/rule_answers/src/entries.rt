@@ -1,0 +1,36 @@
+//! What is told of a source that has a fault, and what a fault of a report is told as.
+ghost use Rattle.std.specs.Prelude.{◌≡◌};
+ghost use Rattle.std.specs.Option.{option_map};
+ghost use Rattle.tax_print.specs.FaultLines.{fault_line};
+ghost use Rattle.m_compile.specs.Lines.{source_line};
+ghost use Rattle.command_plans.specs.Views.{output_view};
+ghost use Rattle.code_answers.specs.inner.Refusals.{ReportsLine};
+ghost use Rattle.rule_answers.specs.Checks.{report_fault_line};
+
+use code_answers::report_refusal;
+use command_plans::Status;
+use m_compile::{SourceFault, fault_entry};
+use m_places::Source;
+use m_ports::Sink;
+use tax_print::{Fault, ReportFault as ReportWords};
+use why_report::ReportFault;
+
+/// Tells the fault of a source by its line, or that there was no memory. The fault ends here, and not in an arm of each caller, whose borrows would take half
+/// a minute to check.
+pub(crate) fn report_source<K: Sink>(source: &Source, fault: SourceFault, out: &mut K) -> Status
+    ensures { ReportsLine (source_line source.now.texts fault) (output_view K.written K.faults out.old) (output_view K.written K.faults out.new) result }
+{
+    let status = report_refusal(out, fault_entry(source.texts.as_slice(), &fault));
+    drop(fault);
+    status
+}
+
+/// What the fault of a report is told as. Nothing is told of running out of memory.
+pub(crate) fn report_entry<'a>(fault: ReportFault) -> Option<Fault<'a>>
+    ensures { option_map fault_line result ≡ report_fault_line fault }
+{
+    match fault {
+        ReportFault::BadLine(line) => Some(Fault::ReportLine(line, ReportWords::BadLine)),
+        ReportFault::Memory => None,
+    }
+}
