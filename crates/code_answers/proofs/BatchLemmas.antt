@@ -19,15 +19,18 @@ use Rattle.code_answers.specs.inner.Printers.{lines_by}
 use Rattle.code_answers.proofs.Shown.{answer_within, lines_reported}
 
 -- rows by code are rows by its scheme, where they give the inputs values that it may be asked for
-pub rows_reported : (scheme : Scheme) (loaded : Loaded) (at : ℕ) (rows : List Row) → Shows scheme loaded.face (machine_run loaded.code) → loaded.code.counts.inputs ≡ length scheme.inputs
+pub rows_reported : (scheme : Scheme) (loaded : Loaded) (at : ℕ) (rows : List Row) → Shows scheme loaded.face (machine_run loaded.code)
+    → loaded.code.counts.inputs ≡ length scheme.inputs
     → AllByRecursion (λ row. AreValuesOf scheme.inputs (values_of row.household.pairs (length scheme.inputs))) rows
     → printed_text (lines_by loaded.face) at rows (answers_of loaded.code rows) ≡ rows_lines scheme rows
 rows_reported scheme loaded at [] shown many given = refl
 rows_reported scheme loaded at (row ∷ rows) shown many given =
-    ap (λ text. (joined (codes "household " ∷ row.label ∷ new_line ∷ []) ++ text) ++ printed_text (lines_by loaded.face) (at + 1) rows (answers_of loaded.code rows))
+    ap (λ text. (joined (codes "household " ∷ row.label ∷ new_line ∷ []) ++ text) ++ printed_text (lines_by loaded.face) (at + 1) rows
+    (answers_of loaded.code rows))
     (ap (λ n. answer_lines loaded.face (machine_run loaded.code (values_of row.household.pairs n))) many
     ∙ lines_reported scheme loaded.face (machine_run loaded.code) (values_of row.household.pairs (length scheme.inputs)) shown given.0)
-    ∙ ap (λ rest. (joined (codes "household " ∷ row.label ∷ new_line ∷ []) ++ observation_lines scheme.names (scheme.observe (values_of row.household.pairs (length scheme.inputs)))) ++ rest)
+    ∙ ap (λ rest. (joined (codes "household " ∷ row.label ∷ new_line ∷ []) ++ observation_lines scheme.names
+    (scheme.observe (values_of row.household.pairs (length scheme.inputs)))) ++ rest)
     (rows_reported scheme loaded (at + 1) rows shown many given.1)
 
 -- their lines may be printed: the answers are within the face

@@ -1,5 +1,6 @@
 -- Cases by code, one after another, are those by its scheme.
-use Rattle.std.proofs.Common.{◌≡◌, ℕ, zero, suc, ◌+◌, ◌-◌, ◌*◌, ◌^◌, ◌<◌, ◌≤◌, length, get_or, drop, map, List, [], ◌∷◌, ◌++◌, Option, Some, Result, Ok, Err, true, false, Bool, refl, sym, ◌∙◌, ap, subst, arith, inl, inr}
+use Rattle.std.proofs.Common.{◌≡◌, ℕ, zero, suc, ◌+◌, ◌-◌, ◌*◌, ◌^◌, ◌<◌, ◌≤◌, length, get_or, drop, map, List, [], ◌∷◌, ◌++◌, Option, Some, Result, Ok, Err}
+use Rattle.std.proofs.Common.{true, false, Bool, refl, sym, ◌∙◌, ap, subst, arith, inl, inr}
 use Rattle.std.specs.Prelude.{IfOk, if◌then◌else◌}
 use Rattle.std.specs.Io.KnownBytes.{append_known}
 use Rattle.m_ports.proofs.SinkLemmas.{append_known-append}
@@ -43,7 +44,8 @@ use Rattle.code_answers.proofs.Refusals.{ReportsRefusal}
 -- ---- what is expected of the row at a place
 
 -- what stands first of what is left
-at_place : {X : Type 0} (all : List X) (at : ℕ) (x : X) (left : List X) (d : X) → drop at all ≡ x ∷ left → (at < length all) × (get_or all at d ≡ x) × (drop (at + 1) all ≡ left)
+at_place : {X : Type 0} (all : List X) (at : ℕ) (x : X) (left : List X) (d : X) → drop at all ≡ x ∷ left → (at < length all) × (get_or all at d ≡ x)
+    × (drop (at + 1) all ≡ left)
 at_place all at x left d is =
     let long = length-drop at all in
     let some : length (drop at all) ≡ suc (length left) = ap length is in
@@ -61,7 +63,8 @@ mismatches_few : (vs : Option (List Value)) (es : List (ℕ × Expected)) → mi
 mismatches_few vs [] = omega arith
 mismatches_few vs (e ∷ es) = one_few (is_met e.1 (got_of vs e.0)) (mismatch_count vs es) (length es) (mismatches_few vs es)
 
-pub misses_few : (face : Face) (all : List (List (ℕ × Expected))) (at : ℕ) (rows : List Row) (answers : List Answer) → MayPrintEach (MayBeCompared face all) at rows answers
+pub misses_few : (face : Face) (all : List (List (ℕ × Expected))) (at : ℕ) (rows : List Row) (answers : List Answer)
+    → MayPrintEach (MayBeCompared face all) at rows answers
     → printed_count (misses_by face all) at rows answers ≤ length rows * 4_294_967_296
 misses_few face all at [] answers may = omega arith
 misses_few face all at (row ∷ rows) [] may = omega arith
@@ -90,9 +93,11 @@ cases_may loaded all at (row ∷ rows) (es ∷ expected) is many each =
 -- ---- what the scheme tells
 
 -- the values of a row by code are those that its scheme tells
-row_named : (scheme : Scheme) (loaded : Loaded) (row : Row) → Shows scheme loaded.face (machine_run loaded.code) → loaded.code.counts.inputs ≡ length scheme.inputs
+row_named : (scheme : Scheme) (loaded : Loaded) (row : Row) → Shows scheme loaded.face (machine_run loaded.code)
+    → loaded.code.counts.inputs ≡ length scheme.inputs
     → AreValuesOf scheme.inputs (values_of row.household.pairs (length scheme.inputs))
-    → named_values (length (notes_of loaded.face.outputs)) (answer_values (row_answer loaded.code row)) ≡ observation_values (observation_for scheme row.household.pairs)
+    → named_values (length (notes_of loaded.face.outputs)) (answer_values (row_answer loaded.code row)) ≡ observation_values
+    (observation_for scheme row.household.pairs)
 row_named scheme loaded row shown many given =
     reported_is loaded.face.labels (notes_of loaded.face.outputs) (row_answer loaded.code row) (observation_for scheme row.household.pairs)
     (ap (λ n. observation loaded.face.labels (notes_of loaded.face.outputs) (machine_run loaded.code (values_of row.household.pairs n))) many
@@ -106,7 +111,8 @@ AreGiven scheme rows = AllByRecursion (λ row. AreValuesOf scheme.inputs (values
 abbrev by_face : Loaded → List (List (ℕ × Expected)) → List (List (ℕ × Expected))
 by_face loaded expected = map (numbered (length (notes_of loaded.face.outputs))) expected
 
-lines_reported : (scheme : Scheme) (loaded : Loaded) (all : List (List (ℕ × Expected))) (at : ℕ) (rows : List Row) (expected : List (List (ℕ × Expected))) → Shows scheme loaded.face (machine_run loaded.code)
+lines_reported : (scheme : Scheme) (loaded : Loaded) (all : List (List (ℕ × Expected))) (at : ℕ) (rows : List Row) (expected : List (List (ℕ × Expected)))
+    → Shows scheme loaded.face (machine_run loaded.code)
     → loaded.code.counts.inputs ≡ length scheme.inputs → AreGiven scheme rows → drop at all ≡ by_face loaded expected → length expected ≡ length rows
     → printed_text (mismatches_by loaded.face all) at rows (answers_of loaded.code rows) ≡ cases_lines scheme rows expected
 lines_reported scheme loaded all at [] expected shown many given is long = refl
@@ -120,7 +126,8 @@ lines_reported scheme loaded all at (row ∷ rows) (es ∷ expected) shown many 
     let rest = lines_reported scheme loaded all (at + 1) rows expected shown many given.1 here.2 (omega (arith, long)) in
     λ i. line i ++ rest i
 
-count_reported : (scheme : Scheme) (loaded : Loaded) (all : List (List (ℕ × Expected))) (at : ℕ) (rows : List Row) (expected : List (List (ℕ × Expected))) → Shows scheme loaded.face (machine_run loaded.code)
+count_reported : (scheme : Scheme) (loaded : Loaded) (all : List (List (ℕ × Expected))) (at : ℕ) (rows : List Row) (expected : List (List (ℕ × Expected)))
+    → Shows scheme loaded.face (machine_run loaded.code)
     → loaded.code.counts.inputs ≡ length scheme.inputs → AreGiven scheme rows → drop at all ≡ by_face loaded expected → length expected ≡ length rows
     → printed_count (misses_by loaded.face all) at rows (answers_of loaded.code rows) ≡ cases_count scheme rows expected
 count_reported scheme loaded all at [] expected shown many given is long = refl
@@ -129,7 +136,8 @@ count_reported scheme loaded all at (row ∷ rows) (es ∷ expected) shown many 
     let face = loaded.face in
     let vs = answer_values (row_answer loaded.code row) in
     let here = at_place all at (numbered (length (notes_of face.outputs)) es) (by_face loaded expected) [] is in
-    let one = ap (mismatch_count vs) here.1 ∙ count_numbered (length (notes_of face.outputs)) vs es ∙ ap (λ reported. mismatch_count reported es) (row_named scheme loaded row shown many given.0) in
+    let one = ap (mismatch_count vs) here.1 ∙ count_numbered (length (notes_of face.outputs)) vs es
+    ∙ ap (λ reported. mismatch_count reported es) (row_named scheme loaded row shown many given.0) in
     let rest = count_reported scheme loaded all (at + 1) rows expected shown many given.1 here.2 (omega (arith, long)) in
     λ i. one i + rest i
 
@@ -145,12 +153,15 @@ count_ends : (count : ℕ) → IsOfEnd (count_status count)
 count_ends zero = tt
 count_ends (suc count) = tt
 
-pub cases_written : {S : Type 0} (written : S → Option (List ℕ)) (faults : S → ℕ) (old new : S) (result : Result ℕ PrintFault) (text : List ℕ) (count : ℕ) (Replies : List ℕ → Status → Type 0) (status : Status)
-    → Replies text (count_status count) → ((n : ℕ) → result ≡ Ok n → n ≡ count) → status ≡ compared_status result → WritesRows written faults old new result text
+pub cases_written : {S : Type 0} (written : S → Option (List ℕ)) (faults : S → ℕ) (old new : S) (result : Result ℕ PrintFault) (text : List ℕ) (count : ℕ)
+    (Replies : List ℕ → Status → Type 0) (status : Status)
+    → Replies text (count_status count) → ((n : ℕ) → result ≡ Ok n → n ≡ count) → status ≡ compared_status result
+    → WritesRows written faults old new result text
     → IsWrittenInParts Replies (output_view written faults old) (output_view written faults new) status
 cases_written written faults old new (Ok n) text count Replies status replied counted is wrote =
     parts.printed text (count_status count) replied (count_ends count) (inl ((wrote.all, wrote.counted), is ∙ ap count_status (counted n refl)))
-cases_written written faults old new (Err Memory) text count Replies status replied counted is wrote = broke_off text (count_status count) replied wrote.prefix wrote.counted is
+cases_written written faults old new (Err Memory) text count Replies status replied counted is wrote = broke_off text (count_status count) replied wrote.prefix
+    wrote.counted is
 cases_written written faults old new (Err Failed) text count Replies status replied counted is wrote =
     parts.printed text (count_status count) replied (count_ends count) (inr ((wrote.prefix, wrote.counted), is))
 
@@ -173,29 +184,35 @@ given_rows scheme loaded cases given read =
     (subst (λ rows. AllByRecursion (λ row. AreOfTypes scheme.inputs row.household.pairs) rows) (sym (ap (λ (g : Cases). g.rows) read.same))
     (subst (λ inputs. AllByRecursion (λ row. AreOfTypes inputs row.household.pairs) given.rows) read.shown.inputs read.types))
 
-as_many : (notes : ℕ) (cases given : Cases) → numbered_cases notes cases ≡ given → length given.expected ≡ length given.rows → length cases.expected ≡ length cases.rows
+as_many : (notes : ℕ) (cases given : Cases) → numbered_cases notes cases ≡ given → length given.expected ≡ length given.rows
+    → length cases.expected ≡ length cases.rows
 as_many notes cases given same many =
     sym (length-map cases.expected (numbered notes)) ∙ ap (λ (g : Cases). length g.expected) same ∙ many ∙ ap (λ (g : Cases). length g.rows) (sym same)
 
 -- the text by code is that by its scheme
-pub text_reported : (scheme : Scheme) (loaded : Loaded) (cases given : Cases) → AreRead scheme loaded cases given → case_text loaded given.rows given.expected ≡ cases_text scheme cases
+pub text_reported : (scheme : Scheme) (loaded : Loaded) (cases given : Cases) → AreRead scheme loaded cases given
+    → case_text loaded given.rows given.expected ≡ cases_text scheme cases
 text_reported scheme loaded cases given read =
     let rows = given_rows scheme loaded cases given read in
     let long = as_many _ cases given read.same read.many in
     ap (λ (g : Cases). case_text loaded g.rows g.expected) (sym read.same)
     ∙ (λ i. lines_reported scheme loaded (by_face loaded cases.expected) 0 cases.rows cases.expected read.shown read.inputs rows refl long i
-    ++ count_line (length cases.rows) (count_reported scheme loaded (by_face loaded cases.expected) 0 cases.rows cases.expected read.shown read.inputs rows refl long i))
+    ++ count_line (length cases.rows) (count_reported scheme loaded (by_face loaded cases.expected) 0 cases.rows cases.expected read.shown read.inputs rows refl
+    long i))
 
 -- and so is the count
-pub counted_reported : (scheme : Scheme) (loaded : Loaded) (cases given : Cases) → AreRead scheme loaded cases given → case_count loaded given.rows given.expected ≡ cases_count scheme cases.rows cases.expected
+pub counted_reported : (scheme : Scheme) (loaded : Loaded) (cases given : Cases) → AreRead scheme loaded cases given
+    → case_count loaded given.rows given.expected ≡ cases_count scheme cases.rows cases.expected
 counted_reported scheme loaded cases given read =
     ap (λ (g : Cases). case_count loaded g.rows g.expected) (sym read.same)
-    ∙ count_reported scheme loaded (by_face loaded cases.expected) 0 cases.rows cases.expected read.shown read.inputs (given_rows scheme loaded cases given read) refl (as_many _ cases given read.same read.many)
+    ∙ count_reported scheme loaded (by_face loaded cases.expected) 0 cases.rows cases.expected read.shown read.inputs
+    (given_rows scheme loaded cases given read) refl (as_many _ cases given read.same read.many)
 
 -- ---- texts in parts
 
 -- one text was written, and then another
-pub two_written : {S U : Type 0} (written : S → Option (List ℕ)) (faults : S → ℕ) (old now new : S) (one other : List ℕ) (value : U) → written now ≡ append_known (written old) one → faults now ≡ faults old
+pub two_written : {S U : Type 0} (written : S → Option (List ℕ)) (faults : S → ℕ) (old now new : S) (one other : List ℕ) (value : U)
+    → written now ≡ append_known (written old) one → faults now ≡ faults old
     → written new ≡ append_known (written now) other → faults new ≡ faults now → WritesRows written faults old new (Ok value) (one ++ other)
 two_written written faults old now new one other value first calm second still = record {
   all = second ∙ ap (λ known. append_known known other) first ∙ append_known-append (written old) one other;

@@ -60,12 +60,14 @@ labelled n s (Lit r v) h = tt
 labelled n s (Do op r a b c) h = tt
 labelled n s (Store k r) h = tt
 labelled n s (Load r k) h = tt
-labelled n s (Test g r over_only label) h = ltb-true label n.labels (both (is_register r) (nat_lt label n.labels) (both (is_register g) (is_register r && nat_lt label n.labels) h).1).1
+labelled n s (Test g r over_only label) h = ltb-true label n.labels
+    (both (is_register r) (nat_lt label n.labels) (both (is_register g) (is_register r && nat_lt label n.labels) h).1).1
 labelled n s (Output k r) h = tt
 
 one_labelled : (n : Counts) (s : State) (k : ℕ) (i : Instr) (instrs : List Instr) (right : Bool) (next : Option State)
     → ((t : State) → fault_from n t (suc k) instrs ≡ None → AllByRecursion (IsLabelled n.labels) instrs) → has_numbers n s i ≡ right
-    → (if right then option_map_or (λ t. fault_from n t (suc k) instrs) next (Some (BadOrder k)) else Some (BadNumber k)) ≡ None → AllByRecursion (IsLabelled n.labels) (i ∷ instrs)
+    → (if right then option_map_or (λ t. fault_from n t (suc k) instrs) next (Some (BadOrder k)) else Some (BadNumber k)) ≡ None
+    → AllByRecursion (IsLabelled n.labels) (i ∷ instrs)
 one_labelled n s k i instrs true (Some t) later r e = (labelled n s i r, later t e)
 one_labelled n s k i instrs true None later r e = cc
 one_labelled n s k i instrs false next later r e = cc
@@ -107,11 +109,13 @@ act_below n inputs (Load r k) m is h = h
 act_below n inputs (Test g r over_only label) m is h = tested_below n label over_only (m.registers g) (m.registers r) is
 act_below n inputs (Output k r) m is h = h
 
-at_below : (n : ℕ) (inputs : List Value) (i : Instr) (m : Machine) (ended : Option Stop) → IsLabelled n i → IsStopBelow n m.ended → IsStopBelow n (act_at inputs ended i m).ended
+at_below : (n : ℕ) (inputs : List Value) (i : Instr) (m : Machine) (ended : Option Stop) → IsLabelled n i → IsStopBelow n m.ended
+    → IsStopBelow n (act_at inputs ended i m).ended
 at_below n inputs i m (Some stop) is h = h
 at_below n inputs i m None is h = act_below n inputs i m is h
 
-acts_below : (n : ℕ) (inputs : List Value) (instrs : List Instr) (m : Machine) → AllByRecursion (IsLabelled n) instrs → IsStopBelow n m.ended → IsStopBelow n (acts inputs m instrs).ended
+acts_below : (n : ℕ) (inputs : List Value) (instrs : List Instr) (m : Machine) → AllByRecursion (IsLabelled n) instrs → IsStopBelow n m.ended
+    → IsStopBelow n (acts inputs m instrs).ended
 acts_below n inputs [] m all h = h
 acts_below n inputs (i ∷ instrs) m all h = acts_below n inputs instrs (act_at inputs m.ended i m) all.1 (at_below n inputs i m m.ended all.0 h)
 
@@ -137,11 +141,13 @@ length-undef : (n : ℕ) → length {A = Value} (replicate n Undef) ≡ n
 length-undef zero = refl
 length-undef (suc n) = ap suc (length-undef n)
 
-end_within : (face : Face) (ended : Option Stop) (outputs : List Value) → IsStopBelow (length face.labels) ended → length outputs ≤ length face.outputs → AnswerIsWithin face (answer_of ended outputs)
+end_within : (face : Face) (ended : Option Stop) (outputs : List Value) → IsStopBelow (length face.labels) ended → length outputs ≤ length face.outputs
+    → AnswerIsWithin face (answer_of ended outputs)
 end_within face None outputs stop few = few
 end_within face (Some s) outputs stop few = stop
 
-code_stop : (code : Listing) (inputs : List Value) → code_fault code ≡ None → IsStopBelow code.counts.labels (acts inputs (fresh code.counts.outputs) code.instrs).ended
+code_stop : (code : Listing) (inputs : List Value) → code_fault code ≡ None
+    → IsStopBelow code.counts.labels (acts inputs (fresh code.counts.outputs) code.instrs).ended
 code_stop code inputs whole =
     acts_below code.counts.labels inputs code.instrs (fresh code.counts.outputs) (all_labelled code.counts (start code.counts.outputs) 0 code.instrs whole) tt
 
@@ -152,11 +158,13 @@ no_more : (m n k : ℕ) → m ≡ n → k ≡ n → m ≤ k
 no_more m n k a b = omega (arith, a, b)
 
 -- What code answers is within a face that agrees with it.
-pub code_within : (code : Listing) (face : Face) → code_fault code ≡ None → Agrees code face → (inputs : List Value) → AnswerIsWithin face (machine_run code inputs)
+pub code_within : (code : Listing) (face : Face) → code_fault code ≡ None → Agrees code face → (inputs : List Value)
+    → AnswerIsWithin face (machine_run code inputs)
 code_within code face whole a inputs =
     end_within face (acts inputs (fresh code.counts.outputs) code.instrs).ended (acts inputs (fresh code.counts.outputs) code.instrs).outputs
     (subst (λ n. IsStopBelow n (acts inputs (fresh code.counts.outputs) code.instrs).ended) (sym a.labels) (code_stop code inputs whole))
-    (no_more (length (acts inputs (fresh code.counts.outputs) code.instrs).outputs) code.counts.outputs (length face.outputs) (code_outputs code inputs) a.outputs)
+    (no_more (length (acts inputs (fresh code.counts.outputs) code.instrs).outputs) code.counts.outputs (length face.outputs) (code_outputs code inputs)
+    a.outputs)
 
 each_valued : (face : Face) (ended : Option Stop) (outputs : List Value) → length outputs ≡ length face.outputs → HasValueEach face (answer_of ended outputs)
 each_valued face None outputs many = many
@@ -165,11 +173,13 @@ each_valued face (Some s) outputs many = tt
 -- And it has a value for each output of such a face, where it doesn't stop.
 pub code_each : (code : Listing) (face : Face) → Agrees code face → (inputs : List Value) → HasValueEach face (machine_run code inputs)
 code_each code face a inputs =
-    each_valued face (acts inputs (fresh code.counts.outputs) code.instrs).ended (acts inputs (fresh code.counts.outputs) code.instrs).outputs (code_outputs code inputs ∙ sym a.outputs)
+    each_valued face (acts inputs (fresh code.counts.outputs) code.instrs).ended (acts inputs (fresh code.counts.outputs) code.instrs).outputs
+    (code_outputs code inputs ∙ sym a.outputs)
 
 -- ---- code that spells a program
 
-given : (inputs : ℕ) (s : State) (flat : Flat) (outputs : Option (List ℕ)) → option_map (λ xs. record { inputs = inputs; nodes = s.nodes; checks = s.checks; outputs = xs }) outputs ≡ Some flat
+given : (inputs : ℕ) (s : State) (flat : Flat) (outputs : Option (List ℕ))
+    → option_map (λ xs. record { inputs = inputs; nodes = s.nodes; checks = s.checks; outputs = xs }) outputs ≡ Some flat
     → true ≡ is_some outputs
 given inputs s flat None e = cc
 given inputs s flat (Some xs) e = refl

@@ -28,7 +28,8 @@ reported_or None = values [] []
 reported_or (Some reported) = reported
 
 -- an answer within a face tells something
-observe : (face : Face) (answer : Answer) → AnswerIsWithin face answer → observation face.labels (notes_of face.outputs) answer ≡ Some (reported_or (observation face.labels (notes_of face.outputs) answer))
+observe : (face : Face) (answer : Answer) → AnswerIsWithin face answer
+    → observation face.labels (notes_of face.outputs) answer ≡ Some (reported_or (observation face.labels (notes_of face.outputs) answer))
 observe face (Values vs) is = refl
 observe face (Stopped stop) is = by (slice_get face.labels (label_number stop)) (slice_get-get_or face.labels (label_number stop) (DriverLine 0) is)
   where
@@ -54,7 +55,8 @@ code_shows loaded runs = record {
 
 -- ---- what is read of a code file can be run
 
-at_or_later : (name n : List ℕ) (names : List (List ℕ)) (first : Bool) → (has name names ≡ true → (i : ℕ) × (i < length names) × (slice_index_or names i [] ≡ name))
+at_or_later : (name n : List ℕ) (names : List (List ℕ)) (first : Bool)
+    → (has name names ≡ true → (i : ℕ) × (i < length names) × (slice_index_or names i [] ≡ name))
     → bytes_eq name n ≡ first → (first || has name names) ≡ true → (i : ℕ) × (i < length (n ∷ names)) × (slice_index_or (n ∷ names) i [] ≡ name)
 at_or_later name n names true later e t = (0, omega arith, sym (same name n e))
 at_or_later name n names false later e t = let found = later t in let within = found.1 in (suc found.0, omega (arith, within), found.2)
@@ -66,14 +68,19 @@ has_at name (n ∷ names) h = at_or_later name n names (bytes_eq name n) (λ t. 
 -- names of which no two are equal are distinct
 apart_distinct : (names : List (List ℕ)) → AreApart names → AreDistinct names
 apart_distinct [] h = tt
-apart_distinct (n ∷ names) h = (by (has n names) refl, apart_distinct names (λ i j a b e. fewer i j (h (suc i) (suc j) (omega (arith, a)) (omega (arith, b)) e)))
+apart_distinct (n ∷ names) h = (
+  by (has n names) refl,
+  apart_distinct names
+      (λ i j a b e. fewer i j (h (suc i) (suc j) (omega (arith, a)) (omega (arith, b)) e)),
+)
   where
     fewer : (i j : ℕ) → suc i ≡ suc j → i ≡ j
     fewer i j e = omega (arith, e)
 
     by : (again : Bool) → has n names ≡ again → again ≡ false
     by false e = refl
-    by true e = let later = has_at n names e in let within = later.1 in let none : 0 ≡ suc later.0 = h 0 (suc later.0) (omega arith) (omega (arith, within)) (sym later.2) in absurd (omega (arith, none))
+    by true e = let later = has_at n names e in let within = later.1 in let none : 0 ≡ suc later.0 = h 0 (suc later.0) (omega arith) (omega (arith, within))
+        (sym later.2) in absurd (omega (arith, none))
 
 pub form_runs : (bytes : List ℕ) (loaded : Loaded) → IsFormOf bytes loaded → IsRunnableCode loaded
 form_runs bytes loaded is = record { whole = is.right; distinct = apart_distinct (codes_of loaded.face.inputs) is.printable.apart }

@@ -10,7 +10,8 @@ use Rattle.m_ports.specs.Giving.{Gives}
 use Rattle.command_plans.specs.declared.status.Status.{Status}
 use Rattle.command_plans.specs.declared.status.Status.TheVariants.{WriteFault}
 
-pub prints_behind : (old mid new : OutputView) (first line : List ℕ) (own status : Status) → mid.written ≡ append_known old.written first → mid.faults ≡ old.faults
+pub prints_behind : (old mid new : OutputView) (first line : List ℕ) (own status : Status) → mid.written ≡ append_known old.written first
+    → mid.faults ≡ old.faults
     → Prints line own mid new status → Prints (first ++ line) own old new status
 prints_behind old mid new first line own status w f (inl p) =
     inl ((p.0.0 ∙ ap (λ known. append_known known line) w ∙ append_known-append old.written first line, p.0.1 ∙ f), p.1)

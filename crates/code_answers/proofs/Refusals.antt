@@ -22,7 +22,8 @@ abbrev pub ReportsRefusal : (List ℕ → Type 0) → OutputView → OutputView 
 ReportsRefusal IsLine old new status = ((line : List ℕ) × IsLine line × Prints line Refused old new status) ⊎ ((new ≡ old) × (status ≡ Memory))
 
 -- something was refused by a fault, which has a line but for running out of memory
-pub reported_either : {IsFault IsMemory : Type 0} (whole found : Option (List ℕ)) (old new : OutputView) (status : Status) → whole ≡ found → ((IsMemory → ⊥) → IsFault) → (IsMemory → whole ≡ None)
+pub reported_either : {IsFault IsMemory : Type 0} (whole found : Option (List ℕ)) (old new : OutputView) (status : Status) → whole ≡ found
+    → ((IsMemory → ⊥) → IsFault) → (IsMemory → whole ≡ None)
     → ReportsLine found old new status → ReportsRefusal (λ line. IsFault × (whole ≡ Some line)) old new status
 reported_either whole None old new status is h none reported = inr reported
 reported_either whole (Some line) old new status is h none reported = inl (line, (h (λ m. let gone : whole ≡ None = none m in cc (gone, is)), is), reported)
@@ -30,15 +31,18 @@ reported_either whole (Some line) old new status is h none reported = inl (line,
 -- a table of cases was refused by a fault
 pub cases_reported : {IsFault : Type 0} (fault : CasesFault) (old new : OutputView) (status : Status) → (fault ≢ cases.Memory → IsFault)
     → ReportsLine (cases_fault_line fault) old new status → ReportsRefusal (λ line. IsFault × (cases_fault_line fault ≡ Some line)) old new status
-cases_reported fault old new status h reported = reported_either (cases_fault_line fault) (cases_fault_line fault) old new status refl h (λ m. ap cases_fault_line m) reported
+cases_reported fault old new status h reported = reported_either (cases_fault_line fault) (cases_fault_line fault) old new status refl h
+    (λ m. ap cases_fault_line m) reported
 
 -- a code file was refused by a fault
 pub code_reported : (bytes : List ℕ) (fault : CodeFault) (old new : OutputView) (status : Status) → (fault ≢ code.Memory → IsCodeFault bytes fault)
     → ReportsLine (code_fault_line fault) old new status → ReportsRefusal (λ line. IsCodeFault bytes fault × (code_fault_line fault ≡ Some line)) old new status
-code_reported bytes fault old new status h reported = reported_either (code_fault_line fault) (code_fault_line fault) old new status refl h (λ m. ap code_fault_line m) reported
+code_reported bytes fault old new status h reported = reported_either (code_fault_line fault) (code_fault_line fault) old new status refl h
+    (λ m. ap code_fault_line m) reported
 
 -- a household or a table was refused, by codes
-pub household_refused : (fault : HouseholdFault) {IsFault : Type 0} (old new : OutputView) (status : Status) → (fault ≢ household.Memory → IsFault) → ReportsLine (household_fault_line fault) old new status
+pub household_refused : (fault : HouseholdFault) {IsFault : Type 0} (old new : OutputView) (status : Status) → (fault ≢ household.Memory → IsFault)
+    → ReportsLine (household_fault_line fault) old new status
     → ReportsRefusal (λ line. IsFault × (household_fault_line fault ≡ Some line)) old new status
 household_refused household.BadHeader old new status h reported = inl (_, (h (λ m. cc m), refl), reported)
 household_refused household.TooManyRows old new status h reported = inl (_, (h (λ m. cc m), refl), reported)

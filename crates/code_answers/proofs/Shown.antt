@@ -53,23 +53,28 @@ pub answer_within : (loaded : Loaded) (inputs : List Value) → IsRunnableCode l
 answer_within loaded inputs runs = code_within loaded.code loaded.face runs.whole (agrees loaded.code loaded.face loaded.agree) inputs
 
 -- a household has no fault by the scheme
-pub given_by : (scheme : Scheme) (loaded : Loaded) (rows : List ℕ) (answer : Answer) → Shows scheme loaded.face (machine_run loaded.code) → (of : IsAnswerOf loaded rows answer)
+pub given_by : (scheme : Scheme) (loaded : Loaded) (rows : List ℕ) (answer : Answer) → Shows scheme loaded.face (machine_run loaded.code)
+    → (of : IsAnswerOf loaded rows answer)
     → household_of scheme.inputs rows ≡ Ok of.pairs
 given_by scheme loaded rows answer shown of = subst (λ inputs. household_of inputs rows ≡ Ok of.pairs) shown.inputs of.given
 
 -- what it is told
-pub household_reported : (scheme : Scheme) (loaded : Loaded) (rows : List ℕ) (answer : Answer) → Shows scheme loaded.face (machine_run loaded.code) → (of : IsAnswerOf loaded rows answer)
+pub household_reported : (scheme : Scheme) (loaded : Loaded) (rows : List ℕ) (answer : Answer) → Shows scheme loaded.face (machine_run loaded.code)
+    → (of : IsAnswerOf loaded rows answer)
     → observation loaded.face.labels (notes_of loaded.face.outputs) answer ≡ Some (observation_for scheme of.pairs)
 household_reported scheme loaded rows answer shown of =
-    ap (observation loaded.face.labels (notes_of loaded.face.outputs)) (of.ran ∙ ap (λ n. machine_run loaded.code (values_of of.pairs n)) (code_many scheme loaded shown))
+    ap (observation loaded.face.labels (notes_of loaded.face.outputs)) (of.ran
+    ∙ ap (λ n. machine_run loaded.code (values_of of.pairs n)) (code_many scheme loaded shown))
     ∙ shown.answers (values_of of.pairs (length scheme.inputs)) (household_gives scheme.inputs rows of.pairs (given_by scheme loaded rows answer shown of))
 
-stopped_status : (found : Option FaceLabel) (stop : Stop) (reported : Observation) → option_map (λ label. stopped (cause_of stop label)) found ≡ Some reported → status.Stopped ≡ observation_status reported
+stopped_status : (found : Option FaceLabel) (stop : Stop) (reported : Observation) → option_map (λ label. stopped (cause_of stop label)) found ≡ Some reported
+    → status.Stopped ≡ observation_status reported
 stopped_status None stop reported is = absurd (cc is)
 stopped_status (Some label) stop reported is = let same : stopped (cause_of stop label) ≡ reported = cc is in ap observation_status same
 
 -- the status of an answer is that of what it tells
-pub status_reported : (labels : List FaceLabel) (notes : List ℕ) (answer : Answer) (reported : Observation) → observation labels notes answer ≡ Some reported → answer_status answer ≡ observation_status reported
+pub status_reported : (labels : List FaceLabel) (notes : List ℕ) (answer : Answer) (reported : Observation) → observation labels notes answer ≡ Some reported
+    → answer_status answer ≡ observation_status reported
 status_reported labels notes (Values vs) reported is = ap (λ (t : Option Observation). status_of t) is
   where
     status_of : Option Observation → Status

@@ -40,12 +40,14 @@ of_end (values notes vs) = tt
 of_end (stopped cause) = tt
 
 -- an answer by one way to reply is an answer by another that replies the same
-pub answered_as : (One Other : List ℕ → Status → Type 0) (old new : OutputView) (status : Status) → ((text : List ℕ) (own : Status) → One text own → Other text own)
+pub answered_as : (One Other : List ℕ → Status → Type 0) (old new : OutputView) (status : Status)
+    → ((text : List ℕ) (own : Status) → One text own → Other text own)
     → IsAnswered One old new status → IsAnswered Other old new status
 answered_as One Other old new status turn (printed text own replied end shown) = printed text own (turn text own replied) end shown
 answered_as One Other old new status turn (no_memory same memory) = no_memory same memory
 
-pub parts_as : (One Other : List ℕ → Status → Type 0) (old new : OutputView) (status : Status) → ((text : List ℕ) (own : Status) → One text own → Other text own)
+pub parts_as : (One Other : List ℕ → Status → Type 0) (old new : OutputView) (status : Status)
+    → ((text : List ℕ) (own : Status) → One text own → Other text own)
     → IsWrittenInParts One old new status → IsWrittenInParts Other old new status
 parts_as One Other old new status turn (parts.printed text own replied end shown) = parts.printed text own (turn text own replied) end shown
 parts_as One Other old new status turn (parts.no_memory same memory) = parts.no_memory same memory
@@ -54,7 +56,8 @@ parts_as One Other old new status turn (broke_off text own replied prefix none m
 -- ---- households
 
 -- the household of these bytes was refused, by a program's codes
-pub rows_refused : (front : List ℕ) (scheme : Scheme) (face : Face) (runs : List Value → Answer) (rows : List ℕ) (fault : HouseholdFault) (old new : OutputView) (status : Status) → Shows scheme face runs
+pub rows_refused : (front : List ℕ) (scheme : Scheme) (face : Face) (runs : List Value → Answer) (rows : List ℕ) (fault : HouseholdFault) (old new : OutputView)
+    (status : Status) → Shows scheme face runs
     → ReportsRefusal (λ line. (household_of face.inputs rows ≡ Err fault) × (household_fault_line fault ≡ Some line)) old new status
     → IsAnswered (HouseholdReplies front scheme rows) old new status
 rows_refused front scheme face runs rows fault old new status shown (inl (line, refused, p)) =
@@ -67,34 +70,43 @@ pub rows_printed : (front : List ℕ) (scheme : Scheme) (loaded : Loaded) (rows 
 rows_printed front scheme loaded rows answer old new status shown of p =
     let reported = observation_for scheme of.pairs in
     let is = household_reported scheme loaded rows answer shown of in
-    printed (front ++ observation_lines scheme.names reported) (observation_status reported) (households.is_reported of.pairs (given_by scheme loaded rows answer shown of)) (of_end reported)
-    (subst (λ own. Prints (front ++ observation_lines scheme.names reported) own old new status) (status_reported loaded.face.labels (notes_of loaded.face.outputs) answer reported is)
-    (subst (λ text. Prints (front ++ text) (answer_status answer) old new status) (reported_answer scheme loaded.face (machine_run loaded.code) answer reported shown is) p))
+    printed (front ++ observation_lines scheme.names reported) (observation_status reported)
+    (households.is_reported of.pairs (given_by scheme loaded rows answer shown of)) (of_end reported)
+    (subst (λ own. Prints (front ++ observation_lines scheme.names reported) own old new status)
+    (status_reported loaded.face.labels (notes_of loaded.face.outputs) answer reported is)
+    (subst (λ text. Prints (front ++ text) (answer_status answer) old new status) (reported_answer scheme loaded.face (machine_run loaded.code) answer reported
+    shown is) p))
 
 -- ---- tables
 
-pub table_refused : (scheme : Scheme) (face : Face) (runs : List Value → Answer) (table : List ℕ) (fault : HouseholdFault) (old new : OutputView) (status : Status) → Shows scheme face runs
+pub table_refused : (scheme : Scheme) (face : Face) (runs : List Value → Answer) (table : List ℕ) (fault : HouseholdFault) (old new : OutputView)
+    (status : Status) → Shows scheme face runs
     → ReportsRefusal (λ line. (table_of face.inputs table ≡ Err fault) × (household_fault_line fault ≡ Some line)) old new status
     → IsWrittenInParts (TableReplies scheme table) old new status
 table_refused scheme face runs table fault old new status shown (inl (line, refused, p)) =
     parts.printed line Refused (households.table_is_refused fault (subst (λ inputs. table_of inputs table ≡ Err fault) shown.inputs refused.0) refused.1) tt p
 table_refused scheme face runs table fault old new status shown (inr (same, memory)) = parts.no_memory same memory
 
-pub batch_written : {S T : Type 0} (written : S → Option (List ℕ)) (faults : S → ℕ) (old new : S) (result : Result T PrintFault) (text : List ℕ) (Replies : List ℕ → Status → Type 0) (status : Status)
+pub batch_written : {S T : Type 0} (written : S → Option (List ℕ)) (faults : S → ℕ) (old new : S) (result : Result T PrintFault) (text : List ℕ)
+    (Replies : List ℕ → Status → Type 0) (status : Status)
     → Replies text Done → status ≡ rows_status result → WritesRows written faults old new result text
     → IsWrittenInParts Replies (output_view written faults old) (output_view written faults new) status
 batch_written written faults old new (Ok value) text Replies status replied is wrote = parts.printed text Done replied tt (inl ((wrote.all, wrote.counted), is))
 batch_written written faults old new (Err rows.Memory) text Replies status replied is wrote = broke_off text Done replied wrote.prefix wrote.counted is
-batch_written written faults old new (Err rows.Failed) text Replies status replied is wrote = parts.printed text Done replied tt (inr ((wrote.prefix, wrote.counted), is))
+batch_written written faults old new (Err rows.Failed) text Replies status replied is wrote = parts.printed text Done replied tt
+    (inr ((wrote.prefix, wrote.counted), is))
 
 -- ---- code files that are read
 
-pub exec_refused : (code rows : List ℕ) (fault : CodeFault) (old new : OutputView) (status : Status) → ReportsRefusal (λ line. IsCodeFault code fault × (code_fault_line fault ≡ Some line)) old new status
+pub exec_refused : (code rows : List ℕ) (fault : CodeFault) (old new : OutputView) (status : Status)
+    → ReportsRefusal (λ line. IsCodeFault code fault × (code_fault_line fault ≡ Some line)) old new status
     → IsAnswered (ExecReplies code rows) old new status
 exec_refused code rows fault old new status (inl (line, refused, shown)) = printed line Refused (exec.code_is_refused fault refused.0 refused.1) tt shown
 exec_refused code rows fault old new status (inr (same, memory)) = no_memory same memory
 
-pub exec_answered : (code rows : List ℕ) (loaded : Loaded) (scheme : Scheme) (old new : OutputView) (status : Status) → IsFormOf code loaded → Shows scheme loaded.face (machine_run loaded.code)
+pub exec_answered : (code rows : List ℕ) (loaded : Loaded) (scheme : Scheme) (old new : OutputView) (status : Status) → IsFormOf code loaded
+    → Shows scheme loaded.face (machine_run loaded.code)
     → IsAnswered (HouseholdReplies [] scheme rows) old new status → IsAnswered (ExecReplies code rows) old new status
 exec_answered code rows loaded scheme old new status form shown a =
-    answered_as (HouseholdReplies [] scheme rows) (ExecReplies code rows) old new status (λ text own replied. exec.is_answered loaded scheme form shown replied) a
+    answered_as (HouseholdReplies [] scheme rows) (ExecReplies code rows) old new status (λ text own replied. exec.is_answered loaded scheme form shown replied)
+    a

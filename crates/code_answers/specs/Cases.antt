@@ -8,7 +8,8 @@ use Rattle.m_cases.specs.Mismatches.{count_line, mismatch_count, mismatch_lines,
 use Rattle.m_cases.specs.declared.cases.Cases.{Cases}
 use Rattle.m_cases.specs.declared.expected.Expected.{Expected}
 use Rattle.m_cases.specs.declared.fault.CasesFault.{CasesFault}
-use Rattle.m_cases.specs.declared.fault.CasesFault.TheVariants.{BadHeader, TooManyRows, BadRow, UnknownCode, UnknownOutput, CodeTwice, BadAmount, NotOfType, BadExpected, Memory}
+use Rattle.m_cases.specs.declared.fault.CasesFault.TheVariants.{BadHeader, TooManyRows, BadRow, UnknownCode, UnknownOutput, CodeTwice, BadAmount, NotOfType}
+use Rattle.m_cases.specs.declared.fault.CasesFault.TheVariants.{BadExpected, Memory}
 use Rattle.command_plans.specs.declared.status.Status.{Status}
 use Rattle.command_plans.specs.declared.status.Status.TheVariants.{Done, Refused, Stopped}
 use Rattle.code_answers.specs.Schemes.{Scheme, observation_for}
@@ -29,12 +30,14 @@ cases_fault_line Memory = None
 
 -- the lines of cases, in their order: of each those of what it expects and isn't told
 abbrev pub cases_lines : Scheme → List Row → List (List (ℕ × Expected)) → List ℕ
-cases_lines scheme (row ∷ rows) (es ∷ expected) = mismatch_lines scheme.names row.label (observation_values (observation_for scheme row.household.pairs)) es ++ cases_lines scheme rows expected
+cases_lines scheme (row ∷ rows) (es ∷ expected) = mismatch_lines scheme.names row.label (observation_values (observation_for scheme row.household.pairs)) es
+    ++ cases_lines scheme rows expected
 cases_lines scheme _ _ = []
 
 -- how much isn't told that cases expect
 abbrev pub cases_count : Scheme → List Row → List (List (ℕ × Expected)) → ℕ
-cases_count scheme (row ∷ rows) (es ∷ expected) = mismatch_count (observation_values (observation_for scheme row.household.pairs)) es + cases_count scheme rows expected
+cases_count scheme (row ∷ rows) (es ∷ expected) = mismatch_count (observation_values (observation_for scheme row.household.pairs)) es + cases_count scheme rows
+    expected
 cases_count scheme _ _ = 0
 
 -- The text of a table of cases: their lines, and then how many cases and how many mismatches there are.
@@ -48,6 +51,7 @@ count_status (suc count) = Stopped
 
 -- What is answered to the table of these bytes by a scheme: the line by which it is refused, or the text of its cases.
 pub data ComparedReplies (scheme : Scheme) (table : List ℕ) : List ℕ → Status → Type 0 where
-  table_is_refused : {line : List ℕ} (fault : CasesFault) → cases_of scheme.inputs scheme.names table ≡ Err fault → cases_fault_line fault ≡ Some line → ComparedReplies scheme table line Refused
+  table_is_refused : {line : List ℕ} (fault : CasesFault) → cases_of scheme.inputs scheme.names table ≡ Err fault → cases_fault_line fault ≡ Some line
+      → ComparedReplies scheme table line Refused
   is_compared : (cases : Cases) → cases_of scheme.inputs scheme.names table ≡ Ok cases
       → ComparedReplies scheme table (cases_text scheme cases) (count_status (cases_count scheme cases.rows cases.expected))

@@ -25,7 +25,8 @@ code_fault_line Memory = None
 -- is what that is to households, and this is the scheme's answer.
 pub data ExecReplies (code rows : List ℕ) : List ℕ → Status → Type 0 where
   code_is_refused : {line : List ℕ} (fault : CodeFault) → IsCodeFault code fault → code_fault_line fault ≡ Some line → ExecReplies code rows line Refused
-  is_answered : {text : List ℕ} {status : Status} (loaded : Loaded) (scheme : Scheme) → IsFormOf code loaded → Shows scheme loaded.face (machine_run loaded.code)
+  is_answered : {text : List ℕ} {status : Status} (loaded : Loaded) (scheme : Scheme) → IsFormOf code loaded
+      → Shows scheme loaded.face (machine_run loaded.code)
       → HouseholdReplies [] scheme rows text status → ExecReplies code rows text status
 
 -- a code file without a fault, and a household without a fault by its inputs

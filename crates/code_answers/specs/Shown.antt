@@ -38,7 +38,8 @@ pub data HouseholdReplies (front : List ℕ) (scheme : Scheme) (rows : List ℕ)
   is_refused : {line : List ℕ} (fault : HouseholdFault) → household_of scheme.inputs rows ≡ Err fault → household_fault_line fault ≡ Some line
       → HouseholdReplies front scheme rows line Refused
   is_reported : (pairs : List (ℕ × ℤ)) → household_of scheme.inputs rows ≡ Ok pairs
-      → HouseholdReplies front scheme rows (front ++ observation_lines scheme.names (observation_for scheme pairs)) (observation_status (observation_for scheme pairs))
+      → HouseholdReplies front scheme rows (front ++ observation_lines scheme.names (observation_for scheme pairs))
+      (observation_status (observation_for scheme pairs))
 
 -- What is answered to the table of these bytes: the line by which it is refused, or the lines of all its rows.
 pub data TableReplies (scheme : Scheme) (table : List ℕ) : List ℕ → Status → Type 0 where

@@ -12,9 +12,9 @@ ghost use Rattle.code_answers.specs.Shown.{IsRunnableCode, Shows, TableReplies};
 ghost use Rattle.code_answers.specs.Schemes.{Scheme};
 ghost use Rattle.code_answers.specs.inner.Printers.{rows_status};
 
+use crate::entries::{household_entry, report_refusal};
 use crate::given::codes_by;
 use crate::printers::AnswerLines;
-use crate::entries::{report_refusal, household_entry};
 use code_file::Loaded;
 use command_plans::Status;
 use household::{HouseholdFault, Row, read_table};

@@ -15,8 +15,8 @@ ghost use Rattle.code_answers.specs.Schemes.{Scheme};
 ghost use Rattle.code_answers.specs.inner.Printers.{compared_status};
 
 use crate::compared::print_cases;
+use crate::entries::{cases_entry, report_refusal};
 use crate::given::codes_by;
-use crate::entries::{report_refusal, cases_entry};
 use code_file::Loaded;
 use command_plans::Status;
 use m_batch::PrintFault;

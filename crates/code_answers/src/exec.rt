@@ -5,8 +5,8 @@ ghost use Rattle.command_plans.specs.Printing.{IsAnswered};
 ghost use Rattle.command_plans.specs.Views.{output_view};
 ghost use Rattle.code_answers.specs.Execs.{ExecReplies};
 
+use crate::entries::{code_entry, report_refusal};
 use crate::run::answer_run;
-use crate::entries::{report_refusal, code_entry};
 use code_file::read_code;
 use command_plans::Status;
 use m_ports::Sink;

@@ -14,9 +14,9 @@ ghost use Rattle.code_answers.specs.Larges.{ReadsLarge};
 ghost use Rattle.code_answers.specs.Shown.{HouseholdReplies, IsRunnableCode, Shows};
 ghost use Rattle.code_answers.specs.Schemes.{Scheme};
 
+use crate::entries::status_of;
 use crate::run::answer_of;
 use crate::texts::{ANSWER_ROOM, give_large};
-use crate::entries::status_of;
 use code_file::Loaded;
 use command_plans::{Status, printed};
 use household::HouseholdFault;

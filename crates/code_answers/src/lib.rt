@@ -8,19 +8,19 @@
 mod batch;
 mod cases;
 mod compared;
+mod entries;
 mod exec;
 mod given;
 mod large;
 mod printers;
 mod run;
 mod texts;
-mod entries;
 
 pub use batch::answer_batch;
 pub use cases::answer_cases;
+pub use entries::{household_entry, report_refusal};
 pub use exec::exec_code;
 pub use given::read_given;
 pub use large::answer_large;
 pub use run::answer_run;
 pub use texts::give_code;
-pub use entries::{report_refusal, household_entry};

@@ -10,9 +10,9 @@ ghost use Rattle.code_answers.specs.Shown.{HouseholdReplies, IsRunnableCode, Sho
 ghost use Rattle.code_answers.specs.Schemes.{Scheme};
 ghost use Rattle.code_answers.specs.inner.Answers.{IsAnswerOf};
 
+use crate::entries::{household_entry, report_refusal, status_of};
 use crate::given::codes_by;
 use crate::texts::{ANSWER_ROOM, give_answer};
-use crate::entries::{status_of, report_refusal, household_entry};
 use code_file::Loaded;
 use command_plans::{Status, printed};
 use household::{Household, HouseholdFault, read_household};

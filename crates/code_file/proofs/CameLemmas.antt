@@ -1,5 +1,6 @@
 -- Lines that came one after the other, and the first that can't.
-use Rattle.std.proofs.Common.{◌≡◌, ◌≢◌, ◌<◌, ◌≤◌, ◌+◌, ◌==◌, ℕ, suc, Bool, false, true, not, cond, IsTrue, is_some, List, [], ◌∷◌, ◌++◌, length, fold, refl, sym, ap, ◌∙◌, subst, arith, append_assoc, append-nil, length-append}
+use Rattle.std.proofs.Common.{◌≡◌, ◌≢◌, ◌<◌, ◌≤◌, ◌+◌, ◌==◌, ℕ, suc, Bool, false, true, not, cond, IsTrue, is_some, List, [], ◌∷◌, ◌++◌, length, fold, refl}
+use Rattle.std.proofs.Common.{sym, ap, ◌∙◌, subst, arith, append_assoc, append-nil, length-append}
 use Rattle.std.specs.List.{AllByRecursion}
 use Rattle.std.proofs.lemmas.Bool.{and_parts, and_from, false≢true, not_from_false, false_from_ne_true}
 use Rattle.std.proofs.lemmas.List.Sums.{fold-append}
@@ -17,7 +18,8 @@ use Rattle.observables.specs.Inputs.{codes_of}
 use Rattle.observables.specs.Outputs.{are_named, notes_stand_first, verif_at}
 use Rattle.code_file.specs.declared.fault.CodeFault.TheVariants.{BadLine, BadOrder}
 use Rattle.code_file.specs.Text.{lines, slots_line, input_line, label_line, output_line}
-use Rattle.code_file.specs.Reading.{Entry, version, slot_count, an_input, a_label, an_output, code_start, an_instr, code_end, entry_line, IsEntry, IsShort, Draft, blank, due, stated, AreDue, Ends, ReadsUnwritten, IsCodeFault}
+use Rattle.code_file.specs.Reading.{Entry, version, slot_count, an_input, a_label, an_output, code_start, an_instr, code_end, entry_line, IsEntry, IsShort}
+use Rattle.code_file.specs.Reading.{Draft, blank, due, stated, AreDue, Ends, ReadsUnwritten, IsCodeFault}
 use Rattle.code_file.specs.inner.Faces.{IsRightInput, IsRightLabel, IsRightOutput}
 use Rattle.code_file.specs.inner.Came.{Came, face_so_far, face_text, IsRightFace}
 use Rattle.code_file.proofs.FrontLemmas.{lines-push}
@@ -31,7 +33,8 @@ due-push d (x ∷ es) e h i t = (h.0, h.1, due-push (stated d x) es e h.2 i t)
 pub came-none : (bytes : List ℕ) → Came bytes blank 0 bytes
 came-none bytes = record { entries = []; text = refl; due = tt; is = refl; count = refl }
 
-pub came-next : (bytes rest behind : List ℕ) (d : Draft) (n : ℕ) (e : Entry) → Came bytes d n rest → IsEntry e → IsTrue (due e d) → rest ≡ entry_line e ++ behind → Came bytes (stated d e) (suc n) behind
+pub came-next : (bytes rest behind : List ℕ) (d : Draft) (n : ℕ) (e : Entry) → Came bytes d n rest → IsEntry e → IsTrue (due e d)
+    → rest ≡ entry_line e ++ behind → Came bytes (stated d e) (suc n) behind
 came-next bytes rest behind d n e c i t h = record {
   entries = c.entries ++ e ∷ [];
   text = lines-push entry_line bytes rest behind c.entries e c.text h;
@@ -72,11 +75,18 @@ lines-long line [] some = omega arith
 lines-long line (x ∷ xs) some = omega (arith, some x, lines-long line xs some, length-append (line x) (lines line xs))
 
 pub came-long : (bytes rest : List ℕ) (d : Draft) (n : ℕ) → Came bytes d n rest → n ≤ length bytes
-came-long bytes rest d n c = omega (arith, ap length c.text, length-append (lines entry_line c.entries) rest, lines-long entry_line c.entries entry-long, c.count)
+came-long bytes rest d n c = omega (
+  arith,
+  ap length c.text,
+  length-append (lines entry_line c.entries) rest,
+  lines-long entry_line c.entries entry-long,
+  c.count,
+)
 
 -- ---- faults
 
-pub fault-line : (bytes rest : List ℕ) (d : Draft) (n m : ℕ) → Came bytes d n rest → 0 < n → Ends d rest → (d.part ≡ 4 → rest ≢ []) → (ReadsUnwritten d rest → ⊥) → m ≡ suc n → IsCodeFault bytes (BadLine m)
+pub fault-line : (bytes rest : List ℕ) (d : Draft) (n m : ℕ) → Came bytes d n rest → 0 < n → Ends d rest → (d.part ≡ 4 → rest ≢ [])
+    → (ReadsUnwritten d rest → ⊥) → m ≡ suc n → IsCodeFault bytes (BadLine m)
 fault-line bytes rest d n m c some ends open_end other e = (
   c.entries,
   rest,
@@ -86,7 +96,8 @@ fault-line bytes rest d n m c some ends open_end other e = (
   (λ r. other (subst (λ x. ReadsUnwritten x rest) c.is r)),
 )
 
-pub fault-order : (bytes rest : List ℕ) (d : Draft) (n m : ℕ) → Came bytes d n rest → Ends d rest → (d.part ≡ 4 → rest ≢ []) → ReadsUnwritten d rest → m ≡ suc n → IsCodeFault bytes (BadOrder m)
+pub fault-order : (bytes rest : List ℕ) (d : Draft) (n m : ℕ) → Came bytes d n rest → Ends d rest → (d.part ≡ 4 → rest ≢ []) → ReadsUnwritten d rest → m ≡ suc n
+    → IsCodeFault bytes (BadOrder m)
 fault-order bytes rest d n m c ends open_end reads e = (
   c.entries,
   rest,
@@ -117,52 +128,72 @@ codes-append [] ys = refl
 codes-append (x ∷ xs) ys = ap (λ l. x.code ∷ l) (codes-append xs ys)
 
 not-again : (done xs : List Coded) (x : Coded) → AreDistinct (codes_of (done ++ x ∷ xs)) → has x.code (codes_of done) ≡ false
-not-again done xs x d = false_from_ne_true (has x.code (codes_of done)) (λ h. twice x.code (codes_of done) (codes_of xs) h (subst AreDistinct (codes-append done (x ∷ xs)) d))
+not-again done xs x d = false_from_ne_true (has x.code (codes_of done))
+    (λ h. twice x.code (codes_of done) (codes_of xs) h (subst AreDistinct (codes-append done (x ∷ xs)) d))
 
 behind-line : (line tail behind rest : List ℕ) → rest ≡ (line ++ tail) ++ behind → rest ≡ line ++ (tail ++ behind)
 behind-line line tail behind rest e = e ∙ append_assoc line tail behind
 
-pub came-inputs : (bytes rest behind : List ℕ) (slots n m : ℕ) (done xs all : List Coded) → Came bytes (face_so_far slots done [] []) n rest → rest ≡ lines input_line xs ++ behind → AllByRecursion IsRightInput xs → AreDistinct (codes_of all) → all ≡ done ++ xs → m ≡ n + length xs → Came bytes (face_so_far slots all [] []) m behind
+pub came-inputs : (bytes rest behind : List ℕ) (slots n m : ℕ) (done xs all : List Coded) → Came bytes (face_so_far slots done [] []) n rest
+    → rest ≡ lines input_line xs ++ behind → AllByRecursion IsRightInput xs → AreDistinct (codes_of all) → all ≡ done ++ xs → m ≡ n + length xs
+    → Came bytes (face_so_far slots all [] []) m behind
 came-inputs bytes rest behind slots n m done [] all c e r d a k =
     let same : all ≡ done = a ∙ append-nil done in
     let count : m ≡ n = omega (arith, k) in
-    subst (λ l. Came bytes (face_so_far slots l [] []) m behind) (sym same) (subst (λ i. Came bytes (face_so_far slots done [] []) i behind) (sym count) (subst (Came bytes (face_so_far slots done [] []) n) e c))
+    subst (λ l. Came bytes (face_so_far slots l [] []) m behind) (sym same) (subst (λ i. Came bytes (face_so_far slots done [] []) i behind) (sym count)
+    (subst (Came bytes (face_so_far slots done [] []) n) e c))
 came-inputs bytes rest behind slots n m done (x ∷ xs) all c e r d a k =
     let h = behind-line (input_line x) (lines input_line xs) behind rest e in
-    let fresh : not (has x.code (codes_of done)) ≡ true = not_from_false (has x.code (codes_of done)) (not-again done xs x (subst (λ l. AreDistinct (codes_of l)) a d)) in
+    let fresh : not (has x.code (codes_of done)) ≡ true = not_from_false (has x.code (codes_of done))
+    (not-again done xs x (subst (λ l. AreDistinct (codes_of l)) a d)) in
     came-inputs bytes (lines input_line xs ++ behind) behind slots (suc n) m (done ++ x ∷ []) xs all
-    (came-next bytes rest (lines input_line xs ++ behind) (face_so_far slots done [] []) n (an_input x) c r.0 fresh h) refl r.1 d (a ∙ sym (append_assoc done (x ∷ []) xs)) (omega (arith, k))
+    (came-next bytes rest (lines input_line xs ++ behind) (face_so_far slots done [] []) n (an_input x) c r.0 fresh h) refl r.1 d (a
+    ∙ sym (append_assoc done (x ∷ []) xs)) (omega (arith, k))
 
-pub came-labels : (bytes rest behind : List ℕ) (slots n m : ℕ) (inputs : List Coded) (done xs all : List FaceLabel) → Came bytes (face_so_far slots inputs done []) n rest → rest ≡ lines label_line xs ++ behind → AllByRecursion IsRightLabel xs → all ≡ done ++ xs → m ≡ n + length xs → Came bytes (face_so_far slots inputs all []) m behind
+pub came-labels : (bytes rest behind : List ℕ) (slots n m : ℕ) (inputs : List Coded) (done xs all : List FaceLabel)
+    → Came bytes (face_so_far slots inputs done []) n rest → rest ≡ lines label_line xs ++ behind → AllByRecursion IsRightLabel xs → all ≡ done ++ xs
+    → m ≡ n + length xs → Came bytes (face_so_far slots inputs all []) m behind
 came-labels bytes rest behind slots n m inputs done [] all c e r a k =
     let same : all ≡ done = a ∙ append-nil done in
     let count : m ≡ n = omega (arith, k) in
-    subst (λ l. Came bytes (face_so_far slots inputs l []) m behind) (sym same) (subst (λ i. Came bytes (face_so_far slots inputs done []) i behind) (sym count) (subst (Came bytes (face_so_far slots inputs done []) n) e c))
+    subst (λ l. Came bytes (face_so_far slots inputs l []) m behind) (sym same) (subst (λ i. Came bytes (face_so_far slots inputs done []) i behind) (sym count)
+    (subst (Came bytes (face_so_far slots inputs done []) n) e c))
 came-labels bytes rest behind slots n m inputs done (x ∷ xs) all c e r a k =
     let h = behind-line (label_line x) (lines label_line xs) behind rest e in
     came-labels bytes (lines label_line xs ++ behind) behind slots (suc n) m inputs (done ++ x ∷ []) xs all
-    (came-next bytes rest (lines label_line xs ++ behind) (face_so_far slots inputs done []) n (a_label x) c r.0 refl h) refl r.1 (a ∙ sym (append_assoc done (x ∷ []) xs)) (omega (arith, k))
+    (came-next bytes rest (lines label_line xs ++ behind) (face_so_far slots inputs done []) n (a_label x) c r.0 refl h) refl r.1 (a
+    ∙ sym (append_assoc done (x ∷ []) xs)) (omega (arith, k))
 
-pub came-outputs : (bytes rest behind : List ℕ) (slots n m : ℕ) (inputs : List Coded) (labels : List FaceLabel) (done xs all : List FaceOutput) → Came bytes (face_so_far slots inputs labels done) n rest → rest ≡ lines output_line xs ++ behind → AllByRecursion IsRightOutput xs → notes_stand_first labels all ≡ true → all ≡ done ++ xs → m ≡ n + length xs → Came bytes (face_so_far slots inputs labels all) m behind
+pub came-outputs : (bytes rest behind : List ℕ) (slots n m : ℕ) (inputs : List Coded) (labels : List FaceLabel) (done xs all : List FaceOutput)
+    → Came bytes (face_so_far slots inputs labels done) n rest → rest ≡ lines output_line xs ++ behind → AllByRecursion IsRightOutput xs
+    → notes_stand_first labels all ≡ true → all ≡ done ++ xs → m ≡ n + length xs → Came bytes (face_so_far slots inputs labels all) m behind
 came-outputs bytes rest behind slots n m inputs labels done [] all c e r f a k =
     let same : all ≡ done = a ∙ append-nil done in
     let count : m ≡ n = omega (arith, k) in
-    subst (λ l. Came bytes (face_so_far slots inputs labels l) m behind) (sym same) (subst (λ i. Came bytes (face_so_far slots inputs labels done) i behind) (sym count) (subst (Came bytes (face_so_far slots inputs labels done) n) e c))
+    subst (λ l. Came bytes (face_so_far slots inputs labels l) m behind) (sym same) (subst (λ i. Came bytes (face_so_far slots inputs labels done) i behind)
+    (sym count) (subst (Came bytes (face_so_far slots inputs labels done) n) e c))
 came-outputs bytes rest behind slots n m inputs labels done (x ∷ xs) all c e r f a k =
     let h = behind-line (output_line x) (lines output_line xs) behind rest e in
     let parts : all ≡ (done ++ x ∷ []) ++ xs = a ∙ sym (append_assoc done (x ∷ []) xs) in
     came-outputs bytes (lines output_line xs ++ behind) behind slots (suc n) m inputs labels (done ++ x ∷ []) xs all
-    (came-next bytes rest (lines output_line xs ++ behind) (face_so_far slots inputs labels done) n (an_output x) c r.0 (notes-prefix labels (done ++ x ∷ []) xs (subst (λ l. notes_stand_first labels l ≡ true) parts f)) h) refl r.1 f parts (omega (arith, k))
+    (came-next bytes rest (lines output_line xs ++ behind) (face_so_far slots inputs labels done) n (an_output x) c r.0
+    (notes-prefix labels (done ++ x ∷ []) xs (subst (λ l. notes_stand_first labels l ≡ true) parts f)) h) refl r.1 f parts (omega (arith, k))
 
 -- after the count of slots
 pub came-slots : (bytes rest : List ℕ) (slots : ℕ) → IsShort slots → bytes ≡ face_text slots [] [] [] rest → Came bytes (face_so_far slots [] [] []) 2 rest
 came-slots bytes rest slots short e =
-    came-next bytes (slots_line slots ++ rest) rest (stated blank version) 1 (slot_count slots) (came-next bytes bytes (slots_line slots ++ rest) blank 0 version (came-none bytes) tt refl e) short refl refl
+    came-next bytes (slots_line slots ++ rest) rest (stated blank version) 1 (slot_count slots)
+    (came-next bytes bytes (slots_line slots ++ rest) blank 0 version (came-none bytes) tt refl e) short refl refl
 
 -- after a face
-pub came-face : (bytes rest : List ℕ) (slots n : ℕ) (inputs : List Coded) (labels : List FaceLabel) (outputs : List FaceOutput) → IsRightFace slots inputs labels outputs → bytes ≡ face_text slots inputs labels outputs rest → n ≡ length inputs + (length labels + (length outputs + 2)) → Came bytes (face_so_far slots inputs labels outputs) n rest
+pub came-face : (bytes rest : List ℕ) (slots n : ℕ) (inputs : List Coded) (labels : List FaceLabel) (outputs : List FaceOutput)
+    → IsRightFace slots inputs labels outputs → bytes ≡ face_text slots inputs labels outputs rest → n ≡ length inputs + (length labels + (length outputs + 2))
+    → Came bytes (face_so_far slots inputs labels outputs) n rest
 came-face bytes rest slots n inputs labels outputs r e k =
     let one = came-slots bytes (lines input_line inputs ++ (lines label_line labels ++ (lines output_line outputs ++ rest))) slots r.slots_fit e in
-    let two = came-inputs bytes _ (lines label_line labels ++ (lines output_line outputs ++ rest)) slots 2 (2 + length inputs) [] inputs inputs one refl r.right_inputs r.distinct refl refl in
-    let three = came-labels bytes _ (lines output_line outputs ++ rest) slots (2 + length inputs) (2 + length inputs + length labels) inputs [] labels labels two refl r.right_labels refl refl in
-    came-outputs bytes _ rest slots (2 + length inputs + length labels) n inputs labels [] outputs outputs three refl r.right_outputs r.first refl (omega (arith, k))
+    let two = came-inputs bytes _ (lines label_line labels ++ (lines output_line outputs ++ rest)) slots 2 (2 + length inputs) [] inputs inputs one refl
+    r.right_inputs r.distinct refl refl in
+    let three = came-labels bytes _ (lines output_line outputs ++ rest) slots (2 + length inputs) (2 + length inputs + length labels) inputs [] labels labels
+    two refl r.right_labels refl refl in
+    came-outputs bytes _ rest slots (2 + length inputs + length labels) n inputs labels [] outputs outputs three refl r.right_outputs r.first refl
+    (omega (arith, k))

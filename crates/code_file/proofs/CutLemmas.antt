@@ -1,5 +1,6 @@
 -- What stands before and after a mark.
-use Rattle.std.proofs.Common.{◌≡◌, ◌≢◌, ◌<◌, ◌≤◌, ◌+◌, ◌==◌, ℕ, Bool, false, true, not, cond, List, [], ◌∷◌, ◌++◌, length, take, drop, get_or, Option, Some, None, refl, sym, ap, ◌∙◌, subst, append_assoc, ◌&&◌}
+use Rattle.std.proofs.Common.{◌≡◌, ◌≢◌, ◌<◌, ◌≤◌, ◌+◌, ◌==◌, ℕ, Bool, false, true, not, cond, List, [], ◌∷◌, ◌++◌, length, take, drop, get_or, Option, Some}
+use Rattle.std.proofs.Common.{None, refl, sym, ap, ◌∙◌, subst, append_assoc, ◌&&◌}
 use Rattle.std.specs.Option.{option_map}
 use Rattle.std.specs.List.{list_all}
 use Rattle.std.proofs.lemmas.List.{take_more, drop_more, drop_all}
@@ -29,16 +30,19 @@ map-front w v x (Some p) e = ap (λ l. Some (l, p.1)) (sym (append_assoc w (x �
 pub cut-next : (mark : ℕ) (bytes : List ℕ) (k : ℕ) → k < length bytes → get_or bytes k 0 ≢ mark → CutFrom mark bytes k → CutFrom mark bytes (k + 1)
 cut-next mark bytes k lt ne h =
     h ∙ ap (λ l. option_map (onto (take k bytes)) (cut mark l)) (drop_more bytes k 0 lt)
-    ∙ ap (λ b. option_map (onto (take k bytes)) (cond b (Some ([], drop (k + 1) bytes)) (option_map (in_front (get_or bytes k 0)) (cut mark (drop (k + 1) bytes))))) (ne_eqb (get_or bytes k 0) mark ne)
+    ∙ ap (λ b. option_map (onto (take k bytes))
+    (cond b (Some ([], drop (k + 1) bytes)) (option_map (in_front (get_or bytes k 0)) (cut mark (drop (k + 1) bytes))))) (ne_eqb (get_or bytes k 0) mark ne)
     ∙ map-front (take k bytes) (take (k + 1) bytes) (get_or bytes k 0) (cut mark (drop (k + 1) bytes)) (take_more bytes k 0 lt)
 
 nothing-behind : (w r : List ℕ) → w ++ [] ≡ w → option_map (onto w) (Some ([], r)) ≡ Some (w, r)
 nothing-behind w r e = ap (λ l. Some (l, r)) e
 
-pub cut-here : (mark : ℕ) (bytes : List ℕ) (k : ℕ) → k < length bytes → get_or bytes k 0 ≡ mark → CutFrom mark bytes k → cut mark bytes ≡ Some (take k bytes, drop (k + 1) bytes)
+pub cut-here : (mark : ℕ) (bytes : List ℕ) (k : ℕ) → k < length bytes → get_or bytes k 0 ≡ mark → CutFrom mark bytes k
+    → cut mark bytes ≡ Some (take k bytes, drop (k + 1) bytes)
 cut-here mark bytes k lt e h =
     h ∙ ap (λ l. option_map (onto (take k bytes)) (cut mark l)) (drop_more bytes k 0 lt)
-    ∙ ap (λ b. option_map (onto (take k bytes)) (cond b (Some ([], drop (k + 1) bytes)) (option_map (in_front (get_or bytes k 0)) (cut mark (drop (k + 1) bytes))))) (eq-eqb (get_or bytes k 0) mark e)
+    ∙ ap (λ b. option_map (onto (take k bytes))
+    (cond b (Some ([], drop (k + 1) bytes)) (option_map (in_front (get_or bytes k 0)) (cut mark (drop (k + 1) bytes))))) (eq-eqb (get_or bytes k 0) mark e)
     ∙ nothing-behind (take k bytes) (drop (k + 1) bytes) (nil (take k bytes))
   where
     nil : (l : List ℕ) → l ++ [] ≡ l
@@ -79,7 +83,8 @@ pub record Parts (mark : ℕ) (text : List ℕ) (p : List ℕ × List ℕ) : Typ
   pub whole : text ≡ p.0 ++ mark ∷ p.1
   pub free : lacks mark p.0 ≡ true
 
-parts-front : (mark b : ℕ) (bs : List ℕ) (p : List ℕ × List ℕ) (o : Option (List ℕ × List ℕ)) → ((r : List ℕ × List ℕ) → o ≡ Some r → Parts mark bs r) → (b == mark) ≡ false → option_map (in_front b) o ≡ Some p → Parts mark (b ∷ bs) p
+parts-front : (mark b : ℕ) (bs : List ℕ) (p : List ℕ × List ℕ) (o : Option (List ℕ × List ℕ)) → ((r : List ℕ × List ℕ) → o ≡ Some r → Parts mark bs r)
+    → (b == mark) ≡ false → option_map (in_front b) o ≡ Some p → Parts mark (b ∷ bs) p
 parts-front mark b bs p None behind n q = absurd (none≢some p q)
 parts-front mark b bs p (Some r) behind n q =
     let k = behind r refl in
@@ -88,7 +93,8 @@ parts-front mark b bs p (Some r) behind n q =
       free = ap (λ t. not t && lacks mark r.0) n ∙ k.free;
     })
 
-parts-by : (mark b : ℕ) (bs : List ℕ) (p : List ℕ × List ℕ) (t : Bool) → (b == mark) ≡ t → ((r : List ℕ × List ℕ) → cut mark bs ≡ Some r → Parts mark bs r) → cond t (Some ([], bs)) (option_map (in_front b) (cut mark bs)) ≡ Some p → Parts mark (b ∷ bs) p
+parts-by : (mark b : ℕ) (bs : List ℕ) (p : List ℕ × List ℕ) (t : Bool) → (b == mark) ≡ t → ((r : List ℕ × List ℕ) → cut mark bs ≡ Some r → Parts mark bs r)
+    → cond t (Some ([], bs)) (option_map (in_front b) (cut mark bs)) ≡ Some p → Parts mark (b ∷ bs) p
 parts-by mark b bs p true e behind q = subst (Parts mark (b ∷ bs)) (some-is ([], bs) p q) (record { whole = ap (λ x. x ∷ bs) (eqb-true b mark e); free = refl })
 parts-by mark b bs p false e behind q = parts-front mark b bs p (cut mark bs) behind e q
 

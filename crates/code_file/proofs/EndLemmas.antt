@@ -1,5 +1,6 @@
 -- The instructions of a code file and its end.
-use Rattle.std.proofs.Common.{◌≡◌, ◌≢◌, ◌<◌, ◌+◌, ℕ, zero, suc, Bool, false, true, not, cond, is_some, is_none, List, [], ◌∷◌, ◌++◌, length, get_or, codes, Option, Some, None, refl, sym, ap, ◌∙◌, subst, arith, append_assoc, bytes_eq}
+use Rattle.std.proofs.Common.{◌≡◌, ◌≢◌, ◌<◌, ◌+◌, ℕ, zero, suc, Bool, false, true, not, cond, is_some, is_none, List, [], ◌∷◌, ◌++◌, length, get_or, codes}
+use Rattle.std.proofs.Common.{Option, Some, None, refl, sym, ap, ◌∙◌, subst, arith, append_assoc, bytes_eq}
 use Rattle.std.specs.List.{AllByRecursion}
 use Rattle.std.specs.Option.{option_and_then}
 use Rattle.std.proofs.lemmas.Bool.{or_parts, true≢false, false≢true}
@@ -22,7 +23,8 @@ use Rattle.code_file.specs.declared.fault.CodeFault.TheVariants.{BadLine}
 use Rattle.code_file.specs.declared.loaded.Loaded.{Loaded}
 use Rattle.code_file.specs.Text.{lines, instr_line}
 use Rattle.code_file.specs.Printable.{IsFreeWord, IsPrintable, IsPrintableLabel, IsPrintableOutput, AreApart}
-use Rattle.code_file.specs.Reading.{version, slot_count, an_input, a_label, an_output, code_start, an_instr, code_end, IsInstr, IsShort, IsFittingLabel, IsFittingOutput, Draft, stated, Ends, IsCodeFault, IsFormOf}
+use Rattle.code_file.specs.Reading.{version, slot_count, an_input, a_label, an_output, code_start, an_instr, code_end, IsInstr, IsShort, IsFittingLabel}
+use Rattle.code_file.specs.Reading.{IsFittingOutput, Draft, stated, Ends, IsCodeFault, IsFormOf}
 use Rattle.code_file.specs.inner.Spelled.{cut, instr_of}
 use Rattle.code_file.specs.inner.Faces.{IsRightInput, IsRightLabel, IsRightOutput, IsNoFront}
 use Rattle.code_file.specs.inner.Came.{Came, code_so_far, code_with, IsCodeSoFar, text_so_far, IsRightFace, fault_of}
@@ -63,13 +65,16 @@ fails-by true (Some s) w h t = none≢some w h
 fails-by false o w h t = false≢true t
 
 -- what is wrong isn't read
-read-fails : (code : Listing) (i : Instr) (s : State) (w : Wrong) → reading code ≡ Some s → wrong_behind code i ≡ Some w → is_some (reading (with_instr code i)) ≡ true → ⊥
+read-fails : (code : Listing) (i : Instr) (s : State) (w : Wrong) → reading code ≡ Some s → wrong_behind code i ≡ Some w
+    → is_some (reading (with_instr code i)) ≡ true → ⊥
 read-fails code i s w e h t =
     let same : reading (with_instr code i) ≡ step code.counts i s =
-    fold-append (λ s i. option_and_then (step code.counts i) s) (Some (start code.counts.outputs)) code.instrs (i ∷ []) ∙ ap (option_and_then (step code.counts i)) e in
+    fold-append (λ s i. option_and_then (step code.counts i) s) (Some (start code.counts.outputs)) code.instrs (i ∷ [])
+    ∙ ap (option_and_then (step code.counts i)) e in
     fails-by (has_numbers code.counts s i) (moved i s) w (sym (wrong-is code i s e) ∙ h) (sym (ap is_some same) ∙ t)
 
-instr-one : (rest text behind more : List ℕ) (i j : Instr) → cut 10 rest ≡ Some (text, behind) → instr_of text ≡ Some i → IsInstr j → rest ≡ instr_line j ++ more → j ≡ i
+instr-one : (rest text behind more : List ℕ) (i j : Instr) → cut 10 rest ≡ Some (text, behind) → instr_of text ≡ Some i → IsInstr j
+    → rest ≡ instr_line j ++ more → j ≡ i
 instr-one rest text behind more i j e o r h =
     let s = instr-spelling.complete j r in
     let same = some-is _ _ (sym (cut-line instr_line instr_of j s rest more h) ∙ e) in
@@ -81,7 +86,8 @@ instr-is-right text i o = (instr-sound text i o).right
 -- the instruction of the first line
 pub instr-front : (rest text behind : List ℕ) (i : Instr) → cut 10 rest ≡ Some (text, behind) → instr_of text ≡ Some i → rest ≡ instr_line i ++ behind
 instr-front rest text behind i e o =
-    (cut-parts 10 rest (text, behind) e).whole ∙ sym (ap (λ l. l ++ behind) (instr-spelling.sound text i o (instr-is-right text i o)) ∙ append_assoc text (10 ∷ []) behind)
+    (cut-parts 10 rest (text, behind) e).whole ∙ sym (ap (λ l. l ++ behind) (instr-spelling.sound text i o (instr-is-right text i o))
+    ∙ append_assoc text (10 ∷ []) behind)
 
 pub instr-none : (rest text behind : List ℕ) → cut 10 rest ≡ Some (text, behind) → instr_of text ≡ None → IsNoFront instr_line IsInstr rest
 instr-none rest text behind e o j more r h =
@@ -95,7 +101,9 @@ instr-no-line rest e j more r h = none≢some _ (sym e ∙ cut-line instr_line i
 number≢order : Number ≡ Order → ⊥
 number≢order e = cc
 
-wrong-by : (w : Wrong) (bytes rest text behind : List ℕ) (slots n m : ℕ) (face : Face) (code : Listing) (i : Instr) → Came bytes (code_so_far slots face code.instrs) n rest → 0 < n → IsCodeSoFar slots face code → cut 10 rest ≡ Some (text, behind) → instr_of text ≡ Some i → wrong_behind code i ≡ Some w → m ≡ suc n
+wrong-by : (w : Wrong) (bytes rest text behind : List ℕ) (slots n m : ℕ) (face : Face) (code : Listing) (i : Instr)
+    → Came bytes (code_so_far slots face code.instrs) n rest → 0 < n → IsCodeSoFar slots face code → cut 10 rest ≡ Some (text, behind) → instr_of text ≡ Some i
+    → wrong_behind code i ≡ Some w → m ≡ suc n
     → Ends (code_so_far slots face code.instrs) rest → IsCodeFault bytes (fault_of w m)
 wrong-by Number bytes rest text behind slots n m face code i c some k e o w q ends =
     fault-line bytes rest (code_so_far slots face code.instrs) n m c some ends (λ p. absurd (omega (arith, p)))
@@ -105,30 +113,42 @@ wrong-by Order bytes rest text behind slots n m face code i c some k e o w q end
     (i, behind, instr-front rest text behind i e o, instr-is-right text i o, refl, ap (λ l. wrong_behind l i) (sym k.is) ∙ w) q
 
 -- an instruction with which something is wrong
-pub wrong-fault : (bytes rest text behind : List ℕ) (slots n m : ℕ) (face : Face) (code : Listing) (i : Instr) (w : Wrong) → Came bytes (code_so_far slots face code.instrs) n rest → IsCodeSoFar slots face code → cut 10 rest ≡ Some (text, behind) → (text ≡ codes "end" → ⊥) → instr_of text ≡ Some i → wrong_behind code i ≡ Some w → m ≡ suc n → IsCodeFault bytes (fault_of w m)
+pub wrong-fault : (bytes rest text behind : List ℕ) (slots n m : ℕ) (face : Face) (code : Listing) (i : Instr) (w : Wrong)
+    → Came bytes (code_so_far slots face code.instrs) n rest → IsCodeSoFar slots face code → cut 10 rest ≡ Some (text, behind) → (text ≡ codes "end" → ⊥)
+    → instr_of text ≡ Some i → wrong_behind code i ≡ Some w → m ≡ suc n → IsCodeFault bytes (fault_of w m)
 wrong-fault bytes rest text behind slots n m face code i w c k e other o wr q =
     wrong-by w bytes rest text behind slots n m face code i c (some-came bytes rest (code_so_far slots face code.instrs) n refl c) k e o wr q
-    (code-ends slots face code rest k (λ j more r h t. read-fails code i k.state w k.read wr (subst (λ x. is_some (reading (with_instr code x)) ≡ true) (instr-one rest text behind more i j e o r h) t)) (λ more h t. other-word rest text behind (codes "end") e other refl more h))
+    (code-ends slots face code rest k (λ j more r h t. read-fails code i k.state w k.read wr
+    (subst (λ x. is_some (reading (with_instr code x)) ≡ true) (instr-one rest text behind more i j e o r h) t))
+    (λ more h t. other-word rest text behind (codes "end") e other refl more h))
 
 -- an instruction with which nothing is wrong
-pub next-came : (bytes rest text behind : List ℕ) (slots n m : ℕ) (face : Face) (code new : Listing) (i : Instr) → Came bytes (code_so_far slots face code.instrs) n rest → IsCodeSoFar slots face code → cut 10 rest ≡ Some (text, behind) → instr_of text ≡ Some i → wrong_behind code i ≡ None → new ≡ with_instr code i → m ≡ suc n → Came bytes (code_so_far slots face new.instrs) m behind
+pub next-came : (bytes rest text behind : List ℕ) (slots n m : ℕ) (face : Face) (code new : Listing) (i : Instr)
+    → Came bytes (code_so_far slots face code.instrs) n rest → IsCodeSoFar slots face code → cut 10 rest ≡ Some (text, behind) → instr_of text ≡ Some i
+    → wrong_behind code i ≡ None → new ≡ with_instr code i → m ≡ suc n → Came bytes (code_so_far slots face new.instrs) m behind
 next-came bytes rest text behind slots n m face code new i c k e o w is q =
     let p = right-parts code i k.state k.read w in
     let read = reads-on code i k.state p.1 k.read p.0 p.2 in
-    let came = came-next bytes rest behind (code_so_far slots face code.instrs) n (an_instr i) c (instr-is-right text i o) (ap (λ l. is_some (reading (with_instr l i))) (sym k.is) ∙ ap is_some read) (instr-front rest text behind i e o) in
-    subst (λ x. Came bytes (code_so_far slots face new.instrs) x behind) (sym q) (subst (λ l. Came bytes (code_so_far slots face l.instrs) (suc n) behind) (sym is) came)
+    let came = came-next bytes rest behind (code_so_far slots face code.instrs) n (an_instr i) c (instr-is-right text i o)
+    (ap (λ l. is_some (reading (with_instr l i))) (sym k.is) ∙ ap is_some read) (instr-front rest text behind i e o) in
+    subst (λ x. Came bytes (code_so_far slots face new.instrs) x behind) (sym q) (subst (λ l. Came bytes (code_so_far slots face l.instrs) (suc n) behind)
+    (sym is) came)
 
-pub next-code : (slots : ℕ) (face : Face) (code new : Listing) (i : Instr) → IsCodeSoFar slots face code → wrong_behind code i ≡ None → new ≡ with_instr code i → IsCodeSoFar slots face new
+pub next-code : (slots : ℕ) (face : Face) (code new : Listing) (i : Instr) → IsCodeSoFar slots face code → wrong_behind code i ≡ None → new ≡ with_instr code i
+    → IsCodeSoFar slots face new
 next-code slots face code new i k w is =
     let p = right-parts code i k.state k.read w in
     subst (IsCodeSoFar slots face) (sym is) (record { is = ap (λ l. with_instr l i) k.is; state = p.1; read = reads-on code i k.state p.1 k.read p.0 p.2 })
 
-pub next-text : (bytes rest text behind : List ℕ) (slots : ℕ) (face : Face) (code new : Listing) (i : Instr) → bytes ≡ text_so_far slots face code.instrs rest → cut 10 rest ≡ Some (text, behind) → instr_of text ≡ Some i → new ≡ with_instr code i → bytes ≡ text_so_far slots face new.instrs behind
+pub next-text : (bytes rest text behind : List ℕ) (slots : ℕ) (face : Face) (code new : Listing) (i : Instr) → bytes ≡ text_so_far slots face code.instrs rest
+    → cut 10 rest ≡ Some (text, behind) → instr_of text ≡ Some i → new ≡ with_instr code i → bytes ≡ text_so_far slots face new.instrs behind
 next-text bytes rest text behind slots face code new i h e o is =
     subst (λ l. bytes ≡ text_so_far slots face l.instrs behind) (sym is)
-    (h ∙ ap (λ t. text_so_far slots face [] t) (lines-push instr_line (lines instr_line code.instrs ++ rest) rest behind code.instrs i refl (instr-front rest text behind i e o)))
+    (h ∙ ap (λ t. text_so_far slots face [] t) (lines-push instr_line (lines instr_line code.instrs ++ rest) rest behind code.instrs i refl
+    (instr-front rest text behind i e o)))
 
-pub next-right : (text : List ℕ) (code new : Listing) (i : Instr) → AllByRecursion IsInstr code.instrs → instr_of text ≡ Some i → new ≡ with_instr code i → AllByRecursion IsInstr new.instrs
+pub next-right : (text : List ℕ) (code new : Listing) (i : Instr) → AllByRecursion IsInstr code.instrs → instr_of text ≡ Some i → new ≡ with_instr code i
+    → AllByRecursion IsInstr new.instrs
 next-right text code new i h o is = subst (λ l. AllByRecursion IsInstr l.instrs) (sym is) (all-push IsInstr code.instrs i h (instr-is-right text i o))
 
 -- ---- the end
@@ -136,7 +156,9 @@ next-right text code new i h o is = subst (λ l. AllByRecursion IsInstr l.instrs
 end-is-no-instr : (rest behind : List ℕ) → rest ≡ codes "end\n" ++ behind → IsNoFront instr_line IsInstr rest
 end-is-no-instr rest behind e = instr-none rest (codes "end") behind (ap (cut 10) e ∙ cut-at 10 (codes "end") behind refl) refl
 
-pub missing-fault : (bytes rest behind : List ℕ) (slots n m : ℕ) (face : Face) (code : Listing) (w : CodeWrong) → Came bytes (code_so_far slots face code.instrs) n rest → IsCodeSoFar slots face code → rest ≡ codes "end\n" ++ behind → code_fault code ≡ Some w → m ≡ suc n → IsCodeFault bytes (BadLine m)
+pub missing-fault : (bytes rest behind : List ℕ) (slots n m : ℕ) (face : Face) (code : Listing) (w : CodeWrong)
+    → Came bytes (code_so_far slots face code.instrs) n rest → IsCodeSoFar slots face code → rest ≡ codes "end\n" ++ behind → code_fault code ≡ Some w
+    → m ≡ suc n → IsCodeFault bytes (BadLine m)
 missing-fault bytes rest behind slots n m face code w c k e f q =
     other-fault bytes rest slots n m face code c k (end-is-no-instr rest behind e) (λ more h t. false≢true (ap is_none (sym f) ∙ t)) q
 
@@ -151,7 +173,8 @@ whole-ends d rest (an_instr x) more h i t = false≢true t
 whole-ends d rest code_end more h i t = false≢true t
 
 -- something stands after `end`
-pub behind-fault : (bytes rest behind : List ℕ) (slots n m : ℕ) (face : Face) (code : Listing) → Came bytes (code_so_far slots face code.instrs) n rest → IsCodeSoFar slots face code → rest ≡ codes "end\n" ++ behind → code_fault code ≡ None → behind ≢ [] → m ≡ n + 2 → IsCodeFault bytes (BadLine m)
+pub behind-fault : (bytes rest behind : List ℕ) (slots n m : ℕ) (face : Face) (code : Listing) → Came bytes (code_so_far slots face code.instrs) n rest
+    → IsCodeSoFar slots face code → rest ≡ codes "end\n" ++ behind → code_fault code ≡ None → behind ≢ [] → m ≡ n + 2 → IsCodeFault bytes (BadLine m)
 behind-fault bytes rest behind slots n m face code c k e f other q =
     let d = code_so_far slots face code.instrs in
     let came = came-next bytes rest behind d n code_end c tt (ap (λ l. is_none (code_fault l)) (sym k.is) ∙ ap is_none f) e in
@@ -191,7 +214,8 @@ printable-face slots face r = record {
   outputs = (printable-outputs face.outputs r.right_outputs).0;
 }
 
-pub is-form : (bytes rest behind : List ℕ) (slots : ℕ) (loaded : Loaded) (code : Listing) → loaded.code ≡ code → IsCodeSoFar slots loaded.face code → IsRightFace slots loaded.face.inputs loaded.face.labels loaded.face.outputs → AllByRecursion IsInstr code.instrs → code_fault code ≡ None
+pub is-form : (bytes rest behind : List ℕ) (slots : ℕ) (loaded : Loaded) (code : Listing) → loaded.code ≡ code → IsCodeSoFar slots loaded.face code
+    → IsRightFace slots loaded.face.inputs loaded.face.labels loaded.face.outputs → AllByRecursion IsInstr code.instrs → code_fault code ≡ None
     → bytes ≡ text_so_far slots loaded.face code.instrs rest → rest ≡ codes "end\n" ++ behind → behind ≡ [] → IsFormOf bytes loaded
 is-form bytes rest behind slots loaded code is k r all right text e none =
     let counts : slots ≡ loaded.code.counts.slots = sym (ap (λ l. l.counts.slots) (is ∙ k.is)) in
@@ -205,7 +229,8 @@ is-form bytes rest behind slots loaded code is k r all right text e none =
         instrs = subst (AllByRecursion IsInstr) instrs all;
       };
       right = ap code_fault is ∙ right;
-      text = text ∙ ap (text_so_far slots loaded.face code.instrs) (e ∙ ap (λ l. codes "end\n" ++ l) none) ∙ (λ j. text_so_far (counts j) loaded.face (instrs j) (codes "end\n"));
+      text = text ∙ ap (text_so_far slots loaded.face code.instrs) (e ∙ ap (λ l. codes "end\n" ++ l) none)
+          ∙ (λ j. text_so_far (counts j) loaded.face (instrs j) (codes "end\n"));
     }
 
 -- there is no code without slots, inputs, labels and outputs that something is wrong with

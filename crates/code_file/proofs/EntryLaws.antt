@@ -1,5 +1,6 @@
 -- Lines of a code file, whatever they say: one text begins with one line that may come next.
-use Rattle.std.proofs.Common.{◌≡◌, ◌≢◌, ℕ, suc, Bool, true, false, cond, List, [], ◌∷◌, ◌++◌, length, take, Option, Some, refl, sym, ap, ◌∙◌, subst, append_assoc}
+use Rattle.std.proofs.Common.{◌≡◌, ◌≢◌, ℕ, suc, Bool, true, false, cond, List, [], ◌∷◌, ◌++◌, length, take, Option, Some, refl, sym, ap, ◌∙◌, subst}
+use Rattle.std.proofs.Common.{append_assoc}
 use Rattle.std.specs.Prelude.{codes, decimal, fold, ◌==◌}
 use Rattle.std.specs.Option.{option_map}
 use Rattle.std.specs.Str.{bytes_eq}
@@ -14,7 +15,8 @@ use Rattle.m_text.specs.Pieces.{joined, new_line}
 use Rattle.code_file.specs.declared.fault.CodeFault.{CodeFault}
 use Rattle.code_file.specs.declared.fault.CodeFault.TheVariants.{BadHeader, BadLine, BadOrder, Memory}
 use Rattle.code_file.specs.Text.{lines, slots_line, input_line, label_line, output_line, instr_line, op_word}
-use Rattle.code_file.specs.Reading.{AreDue, Draft, Ends, Entry, IsCodeFault, IsEntry, ReadsUnwritten, Stops, version, slot_count, an_input, a_label, an_output, code_start, an_instr, code_end, blank, draft_of, entry_line, stated}
+use Rattle.code_file.specs.Reading.{AreDue, Draft, Ends, Entry, IsCodeFault, IsEntry, ReadsUnwritten, Stops, version, slot_count, an_input, a_label, an_output}
+use Rattle.code_file.specs.Reading.{code_start, an_instr, code_end, blank, draft_of, entry_line, stated}
 use Rattle.code_file.specs.inner.Faces.{slots_of, input_of, label_of, output_of}
 use Rattle.code_file.specs.inner.Spelled.{instr_of}
 use Rattle.code_file.proofs.FaceLemmas.{slots-spelling, input-spelling, label-spelling, output-spelling, instr-spelling}
@@ -35,8 +37,10 @@ data Kind : Type 0 where
 -- the kind of a line, by its first bytes
 abbrev kind_of : List ℕ → Kind
 kind_of line =
-    cond (bytes_eq (take 2 line) (codes "mc")) of_version (cond (bytes_eq (take 2 line) (codes "sl")) of_slots (cond (bytes_eq (take 3 line) (codes "inp")) of_input
-    (cond (bytes_eq (take 2 line) (codes "la")) of_label (cond (bytes_eq (take 4 line) (codes "outp")) of_output (cond (bytes_eq (take 2 line) (codes "no")) of_output
+    cond (bytes_eq (take 2 line) (codes "mc")) of_version
+    (cond (bytes_eq (take 2 line) (codes "sl")) of_slots (cond (bytes_eq (take 3 line) (codes "inp")) of_input
+    (cond (bytes_eq (take 2 line) (codes "la")) of_label
+    (cond (bytes_eq (take 4 line) (codes "outp")) of_output (cond (bytes_eq (take 2 line) (codes "no")) of_output
     (cond (bytes_eq (take 3 line) (codes "cod")) of_start (cond (bytes_eq (take 2 line) (codes "en")) of_end of_instr)))))))
 
 -- what a line of a kind spells, without its line feed
@@ -76,7 +80,8 @@ instr-kind (Output k r) = refl
 
 -- ---- each right line spells one thing
 
-by-kind : {X : Type 0} (line : X → List ℕ) (of : List ℕ → Option X) (made : X → Entry) (kind : Kind) (x : X) → Spells line of x → kind_of (line x) ≡ kind → entry_line (made x) ≡ line x
+by-kind : {X : Type 0} (line : X → List ℕ) (of : List ℕ → Option X) (made : X → Entry) (kind : Kind) (x : X) → Spells line of x → kind_of (line x) ≡ kind
+    → entry_line (made x) ≡ line x
     → ((body : List ℕ) → entry_by kind body ≡ option_map made (of body)) → Spells entry_line entry_of (made x)
 by-kind line of made kind x s is same by = record {
   body = s.body;
@@ -89,17 +94,22 @@ entry-spells : (entry : Entry) → IsEntry entry → Spells entry_line entry_of 
 entry-spells version h = record { body = codes "mcode 1"; text = refl; free = refl; reads = refl }
 entry-spells (slot_count n) h = by-kind slots_line slots_of slot_count of_slots n (slots-spelling.complete n h) refl refl (λ body. refl)
 entry-spells (an_input input) h = by-kind input_line input_of an_input of_input input (input-spelling.complete input h) refl refl (λ body. refl)
-entry-spells (a_label (Verif label)) h = by-kind label_line label_of a_label of_label (Verif label) (label-spelling.complete (Verif label) h) refl refl (λ body. refl)
-entry-spells (a_label (DriverLine line)) h = by-kind label_line label_of a_label of_label (DriverLine line) (label-spelling.complete (DriverLine line) h) refl refl (λ body. refl)
-entry-spells (an_output (Named name)) h = by-kind output_line output_of an_output of_output (Named name) (output-spelling.complete (Named name) h) refl refl (λ body. refl)
-entry-spells (an_output (Noted number)) h = by-kind output_line output_of an_output of_output (Noted number) (output-spelling.complete (Noted number) h) refl refl (λ body. refl)
+entry-spells (a_label (Verif label)) h = by-kind label_line label_of a_label of_label (Verif label) (label-spelling.complete (Verif label) h) refl refl
+    (λ body. refl)
+entry-spells (a_label (DriverLine line)) h = by-kind label_line label_of a_label of_label (DriverLine line) (label-spelling.complete (DriverLine line) h) refl
+    refl (λ body. refl)
+entry-spells (an_output (Named name)) h = by-kind output_line output_of an_output of_output (Named name) (output-spelling.complete (Named name) h) refl refl
+    (λ body. refl)
+entry-spells (an_output (Noted number)) h = by-kind output_line output_of an_output of_output (Noted number) (output-spelling.complete (Noted number) h) refl
+    refl (λ body. refl)
 entry-spells code_start h = record { body = codes "code"; text = refl; free = refl; reads = refl }
 entry-spells (an_instr i) h = by-kind instr_line instr_of an_instr of_instr i (instr-spelling.complete i h) (instr-kind i) refl (λ body. refl)
 entry-spells code_end h = record { body = codes "end"; text = refl; free = refl; reads = refl }
 
 -- ---- one text begins with one line
 
-one-front : (text behind other : List ℕ) (x y : Entry) → IsEntry x → IsEntry y → text ≡ entry_line x ++ behind → text ≡ entry_line y ++ other → (x ≡ y) × (behind ≡ other)
+one-front : (text behind other : List ℕ) (x y : Entry) → IsEntry x → IsEntry y → text ≡ entry_line x ++ behind → text ≡ entry_line y ++ other
+    → (x ≡ y) × (behind ≡ other)
 one-front text behind other x y h k e f =
     let s = entry-spells x h in
     let t = entry-spells y k in
@@ -111,11 +121,13 @@ pub never-empty : (d : Draft) → Ends d []
 never-empty d entry behind e h due = none≢some _ (cut-line entry_line entry_of entry (entry-spells entry h) [] behind e)
 
 -- two lists of lines that may come, after which no line may, are one
-pub same-stops : (d : Draft) (es fs : List Entry) (rest left : List ℕ) → lines entry_line es ++ rest ≡ lines entry_line fs ++ left → AreDue d es → AreDue d fs → Ends (fold stated d es) rest → Ends (fold stated d fs) left
+pub same-stops : (d : Draft) (es fs : List Entry) (rest left : List ℕ) → lines entry_line es ++ rest ≡ lines entry_line fs ++ left → AreDue d es → AreDue d fs
+    → Ends (fold stated d es) rest → Ends (fold stated d fs) left
     → (es ≡ fs) × (rest ≡ left)
 same-stops d [] [] rest left e a b s t = (refl, e)
 same-stops d [] (f ∷ fs) rest left e a b s t = absurd (s f (lines entry_line fs ++ left) (e ∙ append_assoc (entry_line f) (lines entry_line fs) left) b.0 b.1)
-same-stops d (x ∷ es) [] rest left e a b s t = absurd (t x (lines entry_line es ++ rest) (sym e ∙ append_assoc (entry_line x) (lines entry_line es) rest) a.0 a.1)
+same-stops d (x ∷ es) [] rest left e a b s t = absurd (t x (lines entry_line es ++ rest) (sym e ∙ append_assoc (entry_line x) (lines entry_line es) rest) a.0
+    a.1)
 same-stops d (x ∷ es) (f ∷ fs) rest left e a b s t =
     let u = one-front (lines entry_line (x ∷ es) ++ rest) (lines entry_line es ++ rest) (lines entry_line fs ++ left) x f a.0 b.0
     (append_assoc (entry_line x) (lines entry_line es) rest) (e ∙ append_assoc (entry_line f) (lines entry_line fs) left) in
@@ -151,9 +163,11 @@ one-fault bytes BadHeader (BadLine n) a b = absurd (b.3 (sym (one-stop bytes [] 
 one-fault bytes BadHeader (BadOrder n) a b = absurd (no-start b.0 b.1 (one-stop bytes [] b.0 bytes b.1 a b.2).0 b.4)
 one-fault bytes (BadLine n) BadHeader a b = absurd (a.3 (one-stop bytes a.0 [] a.1 bytes a.2 b).0)
 one-fault bytes (BadLine n) (BadLine l) a b = ap BadLine (a.4 ∙ ap (λ (x : List Entry). suc (length x)) (one-stop bytes a.0 b.0 a.1 b.1 a.2 b.2).0 ∙ sym b.4)
-one-fault bytes (BadLine n) (BadOrder l) a b = let same = one-stop bytes a.0 b.0 a.1 b.1 a.2 b.2 in absurd (a.5 (unwritten-moved a.0 b.0 a.1 b.1 same.0 same.1 b.4))
+one-fault bytes (BadLine n) (BadOrder l) a b = let same = one-stop bytes a.0 b.0 a.1 b.1 a.2 b.2 in absurd
+    (a.5 (unwritten-moved a.0 b.0 a.1 b.1 same.0 same.1 b.4))
 one-fault bytes (BadOrder n) BadHeader a b = absurd (no-start a.0 a.1 (one-stop bytes [] a.0 bytes a.1 b a.2).0 a.4)
-one-fault bytes (BadOrder n) (BadLine l) a b = let same = one-stop bytes b.0 a.0 b.1 a.1 b.2 a.2 in absurd (b.5 (unwritten-moved b.0 a.0 b.1 a.1 same.0 same.1 a.4))
+one-fault bytes (BadOrder n) (BadLine l) a b = let same = one-stop bytes b.0 a.0 b.1 a.1 b.2 a.2 in absurd
+    (b.5 (unwritten-moved b.0 a.0 b.1 a.1 same.0 same.1 a.4))
 one-fault bytes (BadOrder n) (BadOrder l) a b = ap BadOrder (a.3 ∙ ap (λ (x : List Entry). suc (length x)) (one-stop bytes a.0 b.0 a.1 b.1 a.2 b.2).0 ∙ sym b.3)
 one-fault bytes Memory other a b = absurd a
 one-fault bytes BadHeader Memory a b = absurd b

@@ -1,5 +1,6 @@
 -- How the lines of a face are spelled.
-use Rattle.std.proofs.Common.{◌≡◌, inl, inr, ◌+◌, ◌/◌, ◌%◌, ◌==◌, ◌&&◌, ltb, ℕ, Bool, false, true, not, cond, List, [], ◌∷◌, ◌++◌, Option, Some, None, codes, decimal, refl, sym, ap, ◌∙◌, subst, arith, append_assoc}
+use Rattle.std.proofs.Common.{◌≡◌, inl, inr, ◌+◌, ◌/◌, ◌%◌, ◌==◌, ◌&&◌, ltb, ℕ, Bool, false, true, not, cond, List, [], ◌∷◌, ◌++◌, Option, Some, None, codes}
+use Rattle.std.proofs.Common.{decimal, refl, sym, ap, ◌∙◌, subst, arith, append_assoc}
 use Rattle.std.specs.List.{AllByRecursion}
 use Rattle.std.specs.Str.{bytes_eq}
 use Rattle.std.specs.Option.{option_and_then, option_map}
@@ -22,7 +23,9 @@ use Rattle.code_file.specs.Text.{slots_line, input_line, label_line, output_line
 use Rattle.code_file.specs.Printable.{IsCellName}
 use Rattle.code_file.specs.Reading.{IsShort, IsInstr}
 use Rattle.code_file.specs.inner.Spelled.{cut, short, instr_of}
-use Rattle.code_file.specs.inner.Faces.{IsRightInput, IsRightVerif, IsRightLabel, IsRightOutput, slots_by, slots_of, kind_named, coded, coded_by, input_by, input_of, error_kind, bytes_of, VerifWords, words_by, verif_words, verif_with, verif_of, label_with, label_kind, behind_label, label_words, label_of, output_by, output_of}
+use Rattle.code_file.specs.inner.Faces.{IsRightInput, IsRightVerif, IsRightLabel, IsRightOutput, slots_by, slots_of, kind_named, coded, coded_by, input_by}
+use Rattle.code_file.specs.inner.Faces.{input_of, error_kind, bytes_of, VerifWords, words_by, verif_words, verif_with, verif_of, label_with, label_kind}
+use Rattle.code_file.specs.inner.Faces.{behind_label, label_words, label_of, output_by, output_of}
 use Rattle.code_file.proofs.OptionLemmas.{then-some, map-some}
 use Rattle.code_file.proofs.CutLemmas.{lacks, cut-at, cut-not, cut-parts}
 use Rattle.code_file.proofs.NumberLemmas.{decimal-lacks}
@@ -63,7 +66,9 @@ slots-spelling = record { sound = slots-sound; complete = slots-complete }
 
 -- ---- inputs
 
-kind-by : (text : List ℕ) (kind : InputType) (s t : Bool) → bytes_eq text (codes "whole") ≡ s → bytes_eq text (codes "truth") ≡ t → cond s (Some Whole) (cond t (Some Truth) None) ≡ Some kind → (code : List ℕ) → input_line (coded code kind) ≡ codes "input" ++ 32 ∷ (code ++ 32 ∷ (text ++ 10 ∷ []))
+kind-by : (text : List ℕ) (kind : InputType) (s t : Bool) → bytes_eq text (codes "whole") ≡ s → bytes_eq text (codes "truth") ≡ t
+    → cond s (Some Whole) (cond t (Some Truth) None) ≡ Some kind → (code : List ℕ) → input_line (coded code kind) ≡ codes "input"
+    ++ 32 ∷ (code ++ 32 ∷ (text ++ 10 ∷ []))
 kind-by text kind true t e f h code =
     let is = some-is Whole kind h in
     (λ j. input_line (coded code (sym is j))) ∙ (λ j. codes "input" ++ 32 ∷ (code ++ 32 ∷ (sym (word-is text (codes "whole") e) j ++ 10 ∷ [])))
@@ -72,7 +77,8 @@ kind-by text kind false true e f h code =
     (λ j. input_line (coded code (sym is j))) ∙ (λ j. codes "input" ++ 32 ∷ (code ++ 32 ∷ (sym (word-is text (codes "truth") f) j ++ 10 ∷ [])))
 kind-by text kind false false e f h code = absurd (none≢some kind h)
 
-coded-sound : (text : List ℕ) (x : Coded) (o : Option (List ℕ × List ℕ)) → cut 32 text ≡ o → coded_by text o ≡ Some x → input_line x ≡ (codes "input" ++ 32 ∷ text) ++ 10 ∷ []
+coded-sound : (text : List ℕ) (x : Coded) (o : Option (List ℕ × List ℕ)) → cut 32 text ≡ o → coded_by text o ≡ Some x
+    → input_line x ≡ (codes "input" ++ 32 ∷ text) ++ 10 ∷ []
 coded-sound text x None e h = ap input_line (sym (some-is (coded text Any) x h)) ∙ sym (onto-last (codes "input") text)
 coded-sound text x (Some q) e h =
     let k = map-some (coded q.0) (kind_named q.1) x h in
@@ -87,7 +93,8 @@ input-sound body x h r =
     ∙ ap (λ w. (w ++ 32 ∷ p.0.1) ++ 10 ∷ []) (sym (word-is p.0.0 (codes "input") t.0)) ∙ ap (λ l. l ++ 10 ∷ []) (sym (cut-parts 32 body p.0 p.1).whole)
 
 -- an input with a word after its code
-typed : (code word : List ℕ) (kind : InputType) → lacks 32 code ≡ true → lacks 10 code ≡ true → lacks 10 word ≡ true → kind_named word ≡ Some kind → input_line (coded code kind) ≡ codes "input" ++ 32 ∷ (code ++ 32 ∷ (word ++ 10 ∷ [])) → Spells input_line input_of (coded code kind)
+typed : (code word : List ℕ) (kind : InputType) → lacks 32 code ≡ true → lacks 10 code ≡ true → lacks 10 word ≡ true → kind_named word ≡ Some kind
+    → input_line (coded code kind) ≡ codes "input" ++ 32 ∷ (code ++ 32 ∷ (word ++ 10 ∷ [])) → Spells input_line input_of (coded code kind)
 typed code word kind a b c k e = record {
   body = codes "input" ++ 32 ∷ (code ++ 32 ∷ word);
   text = e ∙ ap (λ l. codes "input" ++ 32 ∷ l) (sym (onto-last code word));
@@ -115,7 +122,9 @@ input-spelling = record { sound = input-sound; complete = input-complete }
 -- ---- labels
 
 -- an error's kind and its word
-error-by : (word : List ℕ) (kind : ErrorKind) (s t u : Bool) → bytes_eq word (codes "anomalie") ≡ s → bytes_eq word (codes "discordance") ≡ t → bytes_eq word (codes "informative") ≡ u → cond s (Some Anomalie) (cond t (Some Discordance) (cond u (Some Informative) None)) ≡ Some kind → word ≡ kind_word kind
+error-by : (word : List ℕ) (kind : ErrorKind) (s t u : Bool) → bytes_eq word (codes "anomalie") ≡ s → bytes_eq word (codes "discordance") ≡ t
+    → bytes_eq word (codes "informative") ≡ u → cond s (Some Anomalie) (cond t (Some Discordance) (cond u (Some Informative) None)) ≡ Some kind
+    → word ≡ kind_word kind
 error-by word kind true t u e f g h = word-is word (codes "anomalie") e ∙ ap kind_word (some-is Anomalie kind h)
 error-by word kind false true u e f g h = word-is word (codes "discordance") f ∙ ap kind_word (some-is Discordance kind h)
 error-by word kind false false true e f g h = word-is word (codes "informative") g ∙ ap kind_word (some-is Informative kind h)
@@ -149,10 +158,12 @@ front-end a b c t =
 four-end : (a b c d : List ℕ) → Four a b c d ++ 10 ∷ [] ≡ a ++ 32 ∷ (b ++ 32 ∷ (c ++ 32 ∷ (d ++ 10 ∷ [])))
 four-end a b c d = onto-last a (b ++ 32 ∷ (c ++ 32 ∷ d)) ∙ ap (λ l. a ++ 32 ∷ l) (onto-last b (c ++ 32 ∷ d) ∙ ap (λ l. b ++ 32 ∷ l) (onto-last c d))
 
-verif-line : (label : Label) → label_line (Verif label) ≡ (codes "label" ++ 32 ∷ (codes "verif" ++ 32 ∷ Four label.verif label.error (kind_word label.kind) (hex_of label.text))) ++ 10 ∷ []
+verif-line : (label : Label) → label_line (Verif label)
+    ≡ (codes "label" ++ 32 ∷ (codes "verif" ++ 32 ∷ Four label.verif label.error (kind_word label.kind) (hex_of label.text))) ++ 10 ∷ []
 verif-line label =
     ap (λ l. codes "label" ++ 32 ∷ (codes "verif" ++ 32 ∷ l))
-    (front-end label.verif label.error (kind_word label.kind) (hex_of label.text ++ 10 ∷ []) ∙ sym (four-end label.verif label.error (kind_word label.kind) (hex_of label.text)))
+    (front-end label.verif label.error (kind_word label.kind) (hex_of label.text ++ 10 ∷ [])
+    ∙ sym (four-end label.verif label.error (kind_word label.kind) (hex_of label.text)))
 
 -- what its words are
 verif-words-sound : (text : List ℕ) (w : VerifWords) → verif_words text ≡ Some w → text ≡ Four w.number w.error (kind_word w.kind) w.hex
@@ -161,9 +172,11 @@ verif-words-sound text w h =
     let q = then-some (λ q. option_and_then (words_by p.0.0 q.0) (cut 32 q.1)) (cut 32 p.0.1) w p.2 in
     let r = then-some (words_by p.0.0 q.0.0) (cut 32 q.0.1) w q.2 in
     let k = map-some (λ kind. record { number = p.0.0; error = q.0.0; kind = kind; hex = r.0.1 }) (error_kind r.0.0) w r.2 in
-    let word = error-by r.0.0 k.0 (bytes_eq r.0.0 (codes "anomalie")) (bytes_eq r.0.0 (codes "discordance")) (bytes_eq r.0.0 (codes "informative")) refl refl refl k.1 in
+    let word = error-by r.0.0 k.0 (bytes_eq r.0.0 (codes "anomalie")) (bytes_eq r.0.0 (codes "discordance")) (bytes_eq r.0.0 (codes "informative")) refl refl
+    refl k.1 in
     subst (λ v. text ≡ Four v.number v.error (kind_word v.kind) v.hex) k.2
-    ((cut-parts 32 text p.0 p.1).whole ∙ (λ j. p.0.0 ++ 32 ∷ (cut-parts 32 p.0.1 q.0 q.1).whole j) ∙ (λ j. p.0.0 ++ 32 ∷ (q.0.0 ++ 32 ∷ (cut-parts 32 q.0.1 r.0 r.1).whole j))
+    ((cut-parts 32 text p.0 p.1).whole ∙ (λ j. p.0.0 ++ 32 ∷ (cut-parts 32 p.0.1 q.0 q.1).whole j)
+    ∙ (λ j. p.0.0 ++ 32 ∷ (q.0.0 ++ 32 ∷ (cut-parts 32 q.0.1 r.0 r.1).whole j))
     ∙ (λ j. p.0.0 ++ 32 ∷ (q.0.0 ++ 32 ∷ (word j ++ 32 ∷ r.0.1))))
 
 verif-sound : (text : List ℕ) (label : Label) → verif_of text ≡ Some label → text ≡ Four label.verif label.error (kind_word label.kind) (hex_of label.text)
@@ -173,12 +186,15 @@ verif-sound text label h =
     subst (λ l. text ≡ Four l.verif l.error (kind_word l.kind) (hex_of l.text)) b.2
     (verif-words-sound text k.0 k.1 ∙ ap (λ t. Four k.0.number k.0.error (kind_word k.0.kind) t) (sym (bytes-sound k.0.hex b.0 b.1).0))
 
-label-kind-by : (p : List ℕ × List ℕ) (x : FaceLabel) (s t : Bool) → bytes_eq p.0 (codes "driver") ≡ s → bytes_eq p.0 (codes "verif") ≡ t → cond s (option_map DriverLine (short p.1)) (cond t (option_map Verif (verif_of p.1)) None) ≡ Some x → label_line x ≡ (codes "label" ++ 32 ∷ (p.0 ++ 32 ∷ p.1)) ++ 10 ∷ []
+label-kind-by : (p : List ℕ × List ℕ) (x : FaceLabel) (s t : Bool) → bytes_eq p.0 (codes "driver") ≡ s → bytes_eq p.0 (codes "verif") ≡ t
+    → cond s (option_map DriverLine (short p.1)) (cond t (option_map Verif (verif_of p.1)) None) ≡ Some x
+    → label_line x ≡ (codes "label" ++ 32 ∷ (p.0 ++ 32 ∷ p.1)) ++ 10 ∷ []
 label-kind-by p x true t e f h =
     let k = map-some DriverLine (short p.1) x h in
     let d = short-sound p.1 k.0 k.1 in
     ap label_line (sym k.2) ∙ (λ j. codes "label" ++ 32 ∷ (codes "driver" ++ 32 ∷ (sym d.0 j ++ 10 ∷ [])))
-    ∙ ap (λ l. codes "label" ++ 32 ∷ l) (sym (onto-last (codes "driver") p.1)) ∙ ap (λ w. (codes "label" ++ 32 ∷ (w ++ 32 ∷ p.1)) ++ 10 ∷ []) (sym (word-is p.0 (codes "driver") e))
+    ∙ ap (λ l. codes "label" ++ 32 ∷ l) (sym (onto-last (codes "driver") p.1))
+    ∙ ap (λ w. (codes "label" ++ 32 ∷ (w ++ 32 ∷ p.1)) ++ 10 ∷ []) (sym (word-is p.0 (codes "driver") e))
 label-kind-by p x false true e f h =
     let k = map-some Verif (verif_of p.1) x h in
     ap label_line (sym k.2) ∙ verif-line k.0
@@ -197,17 +213,21 @@ label-sound body x h r =
 label-words-is : (word text : List ℕ) → lacks 32 word ≡ true → label_words (codes "label" ++ 32 ∷ (word ++ 32 ∷ text)) ≡ Some (word, text)
 label-words-is word text h = ap (option_and_then behind_label) (cut-at 32 (codes "label") (word ++ 32 ∷ text) refl) ∙ cut-at 32 word text h
 
-words-complete : (number error hex : List ℕ) (kind : ErrorKind) → lacks 32 number ≡ true → lacks 32 error ≡ true → verif_words (Four number error (kind_word kind) hex) ≡ Some (record { number = number; error = error; kind = kind; hex = hex })
+words-complete : (number error hex : List ℕ) (kind : ErrorKind) → lacks 32 number ≡ true → lacks 32 error ≡ true
+    → verif_words (Four number error (kind_word kind) hex) ≡ Some (record { number = number; error = error; kind = kind; hex = hex })
 words-complete number error hex kind a b =
-    ap (option_and_then (λ p. option_and_then (λ q. option_and_then (words_by p.0 q.0) (cut 32 q.1)) (cut 32 p.1))) (cut-at 32 number (error ++ 32 ∷ (kind_word kind ++ 32 ∷ hex)) a)
+    ap (option_and_then (λ p. option_and_then (λ q. option_and_then (words_by p.0 q.0) (cut 32 q.1)) (cut 32 p.1)))
+    (cut-at 32 number (error ++ 32 ∷ (kind_word kind ++ 32 ∷ hex)) a)
     ∙ ap (option_and_then (λ q. option_and_then (words_by number q.0) (cut 32 q.1))) (cut-at 32 error (kind_word kind ++ 32 ∷ hex) b)
     ∙ ap (option_and_then (words_by number error)) (cut-at 32 (kind_word kind) hex (kind-lacks-space kind))
     ∙ ap (option_map (λ k. record { number = number; error = error; kind = k; hex = hex })) (kind-is kind)
 
 verif-complete : (label : Label) → IsRightVerif label → verif_of (Four label.verif label.error (kind_word label.kind) (hex_of label.text)) ≡ Some label
 verif-complete label r =
-    ap (option_and_then verif_with) (words-complete label.verif label.error (hex_of label.text) label.kind (digits-apart 32 label.verif space-apart r.0.0.1) (word-lacks 32 label.error space-apart r.0.2.0.0.0))
-    ∙ ap (option_map (label_with (record { number = label.verif; error = label.error; kind = label.kind; hex = hex_of label.text }))) (bytes-complete label.text r.1)
+    ap (option_and_then verif_with) (words-complete label.verif label.error (hex_of label.text) label.kind (digits-apart 32 label.verif space-apart r.0.0.1)
+    (word-lacks 32 label.error space-apart r.0.2.0.0.0))
+    ∙ ap (option_map (label_with (record { number = label.verif; error = label.error; kind = label.kind; hex = hex_of label.text })))
+    (bytes-complete label.text r.1)
 
 hex-ne-by : (d : ℕ) (t : Bool) → (cond t (48 + d) (87 + d) == 10) ≡ false
 hex-ne-by d true = ne_eqb (48 + d) 10 (λ e. omega arith)
@@ -231,7 +251,8 @@ label-complete (Verif label) r =
     record {
       body = codes "label" ++ 32 ∷ (codes "verif" ++ 32 ∷ text);
       text = verif-line label;
-      free = lacks-append 10 label.verif (32 ∷ (label.error ++ 32 ∷ (kind_word label.kind ++ 32 ∷ hex_of label.text))) (digits-apart 10 label.verif feed-apart r.0.0.1)
+      free = lacks-append 10 label.verif (32 ∷ (label.error ++ 32 ∷ (kind_word label.kind ++ 32 ∷ hex_of label.text)))
+          (digits-apart 10 label.verif feed-apart r.0.0.1)
           (lacks-append 10 label.error (32 ∷ (kind_word label.kind ++ 32 ∷ hex_of label.text)) (word-lacks 10 label.error feed-apart r.0.2.0.0.0)
           (lacks-append 10 (kind_word label.kind) (32 ∷ hex_of label.text) (kind-lacks-feed label.kind) (hex-free label.text)));
       reads = ap (option_and_then label_kind) (label-words-is (codes "verif") text refl) ∙ ap (option_map Verif) (verif-complete label r);
@@ -242,24 +263,29 @@ label-spelling = record { sound = label-sound; complete = label-complete }
 
 -- ---- outputs
 
-output-by-sound : (p : List ℕ × List ℕ) (x : FaceOutput) (s t : Bool) → bytes_eq p.0 (codes "output") ≡ s → bytes_eq p.0 (codes "note") ≡ t → cond s (Some (Named p.1)) (cond t (option_map Noted (short p.1)) None) ≡ Some x → output_line x ≡ (p.0 ++ 32 ∷ p.1) ++ 10 ∷ []
+output-by-sound : (p : List ℕ × List ℕ) (x : FaceOutput) (s t : Bool) → bytes_eq p.0 (codes "output") ≡ s → bytes_eq p.0 (codes "note") ≡ t
+    → cond s (Some (Named p.1)) (cond t (option_map Noted (short p.1)) None) ≡ Some x → output_line x ≡ (p.0 ++ 32 ∷ p.1) ++ 10 ∷ []
 output-by-sound p x true t e f h =
-    ap output_line (sym (some-is (Named p.1) x h)) ∙ sym (onto-last (codes "output") p.1) ∙ ap (λ w. (w ++ 32 ∷ p.1) ++ 10 ∷ []) (sym (word-is p.0 (codes "output") e))
+    ap output_line (sym (some-is (Named p.1) x h)) ∙ sym (onto-last (codes "output") p.1)
+    ∙ ap (λ w. (w ++ 32 ∷ p.1) ++ 10 ∷ []) (sym (word-is p.0 (codes "output") e))
 output-by-sound p x false true e f h =
     let k = map-some Noted (short p.1) x h in
     let d = short-sound p.1 k.0 k.1 in
-    ap output_line (sym k.2) ∙ (λ j. codes "note" ++ 32 ∷ (sym d.0 j ++ 10 ∷ [])) ∙ sym (onto-last (codes "note") p.1) ∙ ap (λ w. (w ++ 32 ∷ p.1) ++ 10 ∷ []) (sym (word-is p.0 (codes "note") f))
+    ap output_line (sym k.2) ∙ (λ j. codes "note" ++ 32 ∷ (sym d.0 j ++ 10 ∷ [])) ∙ sym (onto-last (codes "note") p.1)
+    ∙ ap (λ w. (w ++ 32 ∷ p.1) ++ 10 ∷ []) (sym (word-is p.0 (codes "note") f))
 output-by-sound p x false false e f h = absurd (none≢some x h)
 
 output-sound : (body : List ℕ) (x : FaceOutput) → output_of body ≡ Some x → IsRightOutput x → output_line x ≡ body ++ 10 ∷ []
 output-sound body x h r =
     let p = then-some output_by (cut 32 body) x h in
-    output-by-sound p.0 x (bytes_eq p.0.0 (codes "output")) (bytes_eq p.0.0 (codes "note")) refl refl p.2 ∙ ap (λ l. l ++ 10 ∷ []) (sym (cut-parts 32 body p.0 p.1).whole)
+    output-by-sound p.0 x (bytes_eq p.0.0 (codes "output")) (bytes_eq p.0.0 (codes "note")) refl refl p.2
+    ∙ ap (λ l. l ++ 10 ∷ []) (sym (cut-parts 32 body p.0 p.1).whole)
 
 cell-free : (name : List ℕ) → IsCellName name → lacks 10 name ≡ true
 cell-free name (inl h) = word-lacks 10 name feed-apart h.0.0.0
 cell-free name (inr h) =
-    ap (lacks 10) h.4 ∙ lacks-append 10 h.0 (91 ∷ (decimal h.1 ++ 93 ∷ [])) (word-lacks 10 h.0 feed-apart h.2.0.0.0) (lacks-append 10 (decimal h.1) (93 ∷ []) (decimal-lacks 10 h.1 feed (omega (arith, h.3))) refl)
+    ap (lacks 10) h.4 ∙ lacks-append 10 h.0 (91 ∷ (decimal h.1 ++ 93 ∷ [])) (word-lacks 10 h.0 feed-apart h.2.0.0.0)
+    (lacks-append 10 (decimal h.1) (93 ∷ []) (decimal-lacks 10 h.1 feed (omega (arith, h.3))) refl)
 
 output-complete : (x : FaceOutput) → IsRightOutput x → Spells output_line output_of x
 output-complete (Named name) r = record {

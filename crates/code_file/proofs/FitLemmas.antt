@@ -43,11 +43,13 @@ right-instr n s (Check g r over_only label) h f =
     (ltb-true g REGISTERS w.0, ltb-true r REGISTERS (and_parts _ _ w.1).0, f)
 right-instr n s (Output k r) h f = (f, ltb-true r REGISTERS (and_parts _ _ (and_parts _ _ h).1).0)
 
-right-from : (n : Counts) (s : State) (k : ℕ) (instrs : List Instr) → fault_from n s k instrs ≡ None → AllByRecursion IsReadInstr instrs → AllByRecursion IsInstr instrs
+right-from : (n : Counts) (s : State) (k : ℕ) (instrs : List Instr) → fault_from n s k instrs ≡ None → AllByRecursion IsReadInstr instrs
+    → AllByRecursion IsInstr instrs
 right-from n s k [] e f = tt
 right-from n s k (i ∷ instrs) e f = by (λ t e. right-from n t (suc k) instrs e f.1) (has_numbers n s i) refl (moved i s) e
   where
-    by : ((t : State) → fault_from n t (suc k) instrs ≡ None → AllByRecursion IsInstr instrs) → (right : Bool) → has_numbers n s i ≡ right → (next : Option State)
+    by : ((t : State) → fault_from n t (suc k) instrs ≡ None → AllByRecursion IsInstr instrs) → (right : Bool) → has_numbers n s i ≡ right
+        → (next : Option State)
         → (if right then option_map_or (λ t. fault_from n t (suc k) instrs) next (Some (BadOrder k)) else Some (BadNumber k)) ≡ None
         → AllByRecursion IsInstr (i ∷ instrs)
     by rest true h (Some t) e = (right-instr n s i h f.0, rest t e)

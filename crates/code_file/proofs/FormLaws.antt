@@ -1,5 +1,6 @@
 -- A text is the form of one loaded code, and then has no fault.
-use Rattle.std.proofs.Common.{◌≡◌, ◌≢◌, ◌<◌, ℕ, suc, Bool, true, false, not, List, [], ◌∷◌, ◌++◌, length, map, Option, Some, None, refl, sym, ap, ◌∙◌, subst, append_assoc, arith}
+use Rattle.std.proofs.Common.{◌≡◌, ◌≢◌, ◌<◌, ℕ, suc, Bool, true, false, not, List, [], ◌∷◌, ◌++◌, length, map, Option, Some, None, refl, sym, ap, ◌∙◌, subst}
+use Rattle.std.proofs.Common.{append_assoc, arith}
 use Rattle.std.specs.Prelude.{codes, fold, is_some, is_none, slice_index_or, if◌then◌else◌}
 use Rattle.std.specs.List.{AllByRecursion}
 use Rattle.std.specs.Option.{option_and_then, option_map_or}
@@ -27,7 +28,8 @@ use Rattle.code_file.specs.declared.loaded.Loaded.{Loaded}
 use Rattle.code_file.specs.Loading.{text_with}
 use Rattle.code_file.specs.Printable.{AreApart, IsFreeWord, IsPrintableLabel, IsPrintableOutput}
 use Rattle.code_file.specs.Text.{lines, slots_line, input_line, label_line, output_line, instr_line}
-use Rattle.code_file.specs.Reading.{AreDue, Draft, Entry, IsCodeFault, IsFittingLabel, IsFittingOutput, IsFormOf, IsInstr, version, slot_count, an_input, a_label, an_output, code_start, an_instr, code_end, blank, draft_of, entry_line, stated}
+use Rattle.code_file.specs.Reading.{AreDue, Draft, Entry, IsCodeFault, IsFittingLabel, IsFittingOutput, IsFormOf, IsInstr, version, slot_count, an_input}
+use Rattle.code_file.specs.Reading.{a_label, an_output, code_start, an_instr, code_end, blank, draft_of, entry_line, stated}
 use Rattle.code_file.proofs.EntryLaws.{fault-stops, never-empty, same-stops}
 
 -- ---- the lines of loaded code
@@ -38,7 +40,8 @@ entries_of loaded =
     ++ (code_start ∷ (map an_instr loaded.code.instrs ++ code_end ∷ [])))))
 
 -- the lines of things, and of others after them
-lines-made : {X : Type 0} (line : X → List ℕ) (made : X → Entry) → ((x : X) → entry_line (made x) ≡ line x) → (xs : List X) (behind : List Entry) (text : List ℕ) → lines entry_line behind ≡ text
+lines-made : {X : Type 0} (line : X → List ℕ) (made : X → Entry) → ((x : X) → entry_line (made x) ≡ line x)
+    → (xs : List X) (behind : List Entry) (text : List ℕ) → lines entry_line behind ≡ text
     → lines entry_line (map made xs ++ behind) ≡ lines line xs ++ text
 lines-made line made is [] behind text h = h
 lines-made line made is (x ∷ xs) behind text h =
@@ -47,7 +50,8 @@ lines-made line made is (x ∷ xs) behind text h =
 form-text : (loaded : Loaded) → lines entry_line (entries_of loaded) ≡ text_with loaded.code loaded.face
 form-text loaded =
     let instrs = lines-made instr_line an_instr (λ x. refl) loaded.code.instrs (code_end ∷ []) (codes "end\n") refl in
-    let outputs = lines-made output_line an_output (λ x. refl) loaded.face.outputs (code_start ∷ (map an_instr loaded.code.instrs ++ code_end ∷ [])) _ (ap (λ t. codes "code\n" ++ t) instrs) in
+    let outputs = lines-made output_line an_output (λ x. refl) loaded.face.outputs (code_start ∷ (map an_instr loaded.code.instrs ++ code_end ∷ [])) _
+    (ap (λ t. codes "code\n" ++ t) instrs) in
     let labels = lines-made label_line a_label (λ x. refl) loaded.face.labels _ _ outputs in
     let inputs = lines-made input_line an_input (λ x. refl) loaded.face.inputs _ _ labels in
     ap (λ t. codes "mcode 1\n" ++ (slots_line loaded.code.counts.slots ++ t)) inputs
@@ -57,28 +61,36 @@ form-text loaded =
 abbrev draft : ℕ → ℕ → List Coded → List FaceLabel → List FaceOutput → List Instr → Draft
 draft part slots inputs labels outputs instrs = record { part = part; slots = slots; inputs = inputs; labels = labels; outputs = outputs; instrs = instrs }
 
-stated-inputs : (s : ℕ) (i xs : List Coded) (behind : List Entry) → fold stated (draft 2 s i [] [] []) (map an_input xs ++ behind) ≡ fold stated (draft 2 s (i ++ xs) [] [] []) behind
+stated-inputs : (s : ℕ) (i xs : List Coded) (behind : List Entry) → fold stated (draft 2 s i [] [] []) (map an_input xs ++ behind) ≡ fold stated
+    (draft 2 s (i ++ xs) [] [] []) behind
 stated-inputs s i [] behind = ap (λ z. fold stated (draft 2 s z [] [] []) behind) (sym (append-nil i))
 stated-inputs s i (x ∷ xs) behind = stated-inputs s (i ++ x ∷ []) xs behind ∙ ap (λ z. fold stated (draft 2 s z [] [] []) behind) (append_assoc i (x ∷ []) xs)
 
-stated-labels : (s : ℕ) (i : List Coded) (l xs : List FaceLabel) (behind : List Entry) → fold stated (draft 2 s i l [] []) (map a_label xs ++ behind) ≡ fold stated (draft 2 s i (l ++ xs) [] []) behind
+stated-labels : (s : ℕ) (i : List Coded) (l xs : List FaceLabel) (behind : List Entry)
+    → fold stated (draft 2 s i l [] []) (map a_label xs ++ behind) ≡ fold stated (draft 2 s i (l ++ xs) [] []) behind
 stated-labels s i l [] behind = ap (λ z. fold stated (draft 2 s i z [] []) behind) (sym (append-nil l))
-stated-labels s i l (x ∷ xs) behind = stated-labels s i (l ++ x ∷ []) xs behind ∙ ap (λ z. fold stated (draft 2 s i z [] []) behind) (append_assoc l (x ∷ []) xs)
+stated-labels s i l (x ∷ xs) behind = stated-labels s i (l ++ x ∷ []) xs behind
+    ∙ ap (λ z. fold stated (draft 2 s i z [] []) behind) (append_assoc l (x ∷ []) xs)
 
-stated-outputs : (s : ℕ) (i : List Coded) (l : List FaceLabel) (o xs : List FaceOutput) (behind : List Entry) → fold stated (draft 2 s i l o []) (map an_output xs ++ behind) ≡ fold stated (draft 2 s i l (o ++ xs) []) behind
+stated-outputs : (s : ℕ) (i : List Coded) (l : List FaceLabel) (o xs : List FaceOutput) (behind : List Entry)
+    → fold stated (draft 2 s i l o []) (map an_output xs ++ behind) ≡ fold stated (draft 2 s i l (o ++ xs) []) behind
 stated-outputs s i l o [] behind = ap (λ z. fold stated (draft 2 s i l z []) behind) (sym (append-nil o))
-stated-outputs s i l o (x ∷ xs) behind = stated-outputs s i l (o ++ x ∷ []) xs behind ∙ ap (λ z. fold stated (draft 2 s i l z []) behind) (append_assoc o (x ∷ []) xs)
+stated-outputs s i l o (x ∷ xs) behind = stated-outputs s i l (o ++ x ∷ []) xs behind
+    ∙ ap (λ z. fold stated (draft 2 s i l z []) behind) (append_assoc o (x ∷ []) xs)
 
 stated-instrs : (s : ℕ) (i : List Coded) (l : List FaceLabel) (o : List FaceOutput) (c xs : List Instr) (behind : List Entry)
     → fold stated (draft 3 s i l o c) (map an_instr xs ++ behind) ≡ fold stated (draft 3 s i l o (c ++ xs)) behind
 stated-instrs s i l o c [] behind = ap (λ z. fold stated (draft 3 s i l o z) behind) (sym (append-nil c))
-stated-instrs s i l o c (x ∷ xs) behind = stated-instrs s i l o (c ++ x ∷ []) xs behind ∙ ap (λ z. fold stated (draft 3 s i l o z) behind) (append_assoc c (x ∷ []) xs)
+stated-instrs s i l o c (x ∷ xs) behind = stated-instrs s i l o (c ++ x ∷ []) xs behind
+    ∙ ap (λ z. fold stated (draft 3 s i l o z) behind) (append_assoc c (x ∷ []) xs)
 
-all-stated : (loaded : Loaded) → draft_of (entries_of loaded) ≡ draft 4 loaded.code.counts.slots loaded.face.inputs loaded.face.labels loaded.face.outputs loaded.code.instrs
+all-stated : (loaded : Loaded) → draft_of (entries_of loaded) ≡ draft 4 loaded.code.counts.slots loaded.face.inputs loaded.face.labels loaded.face.outputs
+    loaded.code.instrs
 all-stated loaded =
     stated-inputs loaded.code.counts.slots [] loaded.face.inputs _
     ∙ stated-labels loaded.code.counts.slots loaded.face.inputs [] loaded.face.labels _
-    ∙ stated-outputs loaded.code.counts.slots loaded.face.inputs loaded.face.labels [] loaded.face.outputs (code_start ∷ (map an_instr loaded.code.instrs ++ code_end ∷ []))
+    ∙ stated-outputs loaded.code.counts.slots loaded.face.inputs loaded.face.labels [] loaded.face.outputs
+    (code_start ∷ (map an_instr loaded.code.instrs ++ code_end ∷ []))
     ∙ stated-instrs loaded.code.counts.slots loaded.face.inputs loaded.face.labels loaded.face.outputs [] loaded.code.instrs (code_end ∷ [])
 
 -- ---- codes that differ
@@ -115,20 +127,29 @@ apart-distinct (n ∷ ns) apart = (not-true (has n ns) (first-apart n ns apart),
 
 -- ---- each line may come
 
-due-inputs : (s : ℕ) (i xs : List Coded) (behind : List Entry) → AllByRecursion IsFreeWord (codes_of xs) → AreDistinct (codes_of i ++ codes_of xs) → AreDue (draft 2 s (i ++ xs) [] [] []) behind
+due-inputs : (s : ℕ) (i xs : List Coded) (behind : List Entry) → AllByRecursion IsFreeWord (codes_of xs) → AreDistinct (codes_of i ++ codes_of xs)
+    → AreDue (draft 2 s (i ++ xs) [] [] []) behind
     → AreDue (draft 2 s i [] [] []) (map an_input xs ++ behind)
 due-inputs s i [] behind words distinct h = subst (λ (z : List Coded). AreDue (draft 2 s z [] [] []) behind) (append-nil i) h
 due-inputs s i (x ∷ xs) behind words distinct h =
     let more : AreDistinct (codes_of (i ++ x ∷ []) ++ codes_of xs) =
-    subst AreDistinct (sym (ap (λ l. l ++ codes_of xs) (map-append (λ (c : Coded). c.code) i (x ∷ [])) ∙ append_assoc (codes_of i) (x.code ∷ []) (codes_of xs))) distinct in
-    let last : AreDue (draft 2 s ((i ++ x ∷ []) ++ xs) [] [] []) behind = subst (λ (z : List Coded). AreDue (draft 2 s z [] [] []) behind) (sym (append_assoc i (x ∷ []) xs)) h in
-    (words.0, is-not (has x.code (codes_of i)) (λ t. twice x.code (codes_of i) (codes_of xs) t distinct), due-inputs s (i ++ x ∷ []) xs behind words.1 more last)
+    subst AreDistinct (sym (ap (λ l. l ++ codes_of xs) (map-append (λ (c : Coded). c.code) i (x ∷ [])) ∙ append_assoc (codes_of i) (x.code ∷ []) (codes_of xs)))
+    distinct in
+    let last : AreDue (draft 2 s ((i ++ x ∷ []) ++ xs) [] [] []) behind = subst (λ (z : List Coded). AreDue (draft 2 s z [] [] []) behind)
+    (sym (append_assoc i (x ∷ []) xs)) h in (
+      words.0,
+      is-not (has x.code (codes_of i)) (λ t. twice x.code (codes_of i) (codes_of xs) t distinct),
+      due-inputs s (i ++ x ∷ []) xs behind words.1 more
+          last,
+    )
 
-due-labels : (s : ℕ) (i : List Coded) (l xs : List FaceLabel) (behind : List Entry) → AllByRecursion IsPrintableLabel xs → AllByRecursion IsFittingLabel xs → AreDue (draft 2 s i (l ++ xs) [] []) behind
+due-labels : (s : ℕ) (i : List Coded) (l xs : List FaceLabel) (behind : List Entry) → AllByRecursion IsPrintableLabel xs → AllByRecursion IsFittingLabel xs
+    → AreDue (draft 2 s i (l ++ xs) [] []) behind
     → AreDue (draft 2 s i l [] []) (map a_label xs ++ behind)
 due-labels s i l [] behind p f h = subst (λ (z : List FaceLabel). AreDue (draft 2 s i z [] []) behind) (append-nil l) h
 due-labels s i l (x ∷ xs) behind p f h =
-    let last : AreDue (draft 2 s i ((l ++ x ∷ []) ++ xs) [] []) behind = subst (λ (z : List FaceLabel). AreDue (draft 2 s i z [] []) behind) (sym (append_assoc l (x ∷ []) xs)) h in
+    let last : AreDue (draft 2 s i ((l ++ x ∷ []) ++ xs) [] []) behind = subst (λ (z : List FaceLabel). AreDue (draft 2 s i z [] []) behind)
+    (sym (append_assoc l (x ∷ []) xs)) h in
     ((p.0, f.0), refl, due-labels s i (l ++ x ∷ []) xs behind p.1 f.1 last)
 
 named-front : (xs ys : List FaceOutput) → are_named (xs ++ ys) ≡ true → are_named xs ≡ true
@@ -143,7 +164,8 @@ notes-front labels (Noted number ∷ xs) ys h =
     let k = and_parts (is_some (verif_at labels number)) (notes_stand_first labels (xs ++ ys)) h in
     and_from (is_some (verif_at labels number)) (notes_stand_first labels xs) k.0 (notes-front labels xs ys k.1)
 
-due-outputs : (s : ℕ) (i : List Coded) (l : List FaceLabel) (o xs : List FaceOutput) (behind : List Entry) → AllByRecursion IsPrintableOutput xs → AllByRecursion IsFittingOutput xs
+due-outputs : (s : ℕ) (i : List Coded) (l : List FaceLabel) (o xs : List FaceOutput) (behind : List Entry) → AllByRecursion IsPrintableOutput xs
+    → AllByRecursion IsFittingOutput xs
     → notes_stand_first l (o ++ xs) ≡ true → AreDue (draft 2 s i l (o ++ xs) []) behind → AreDue (draft 2 s i l o []) (map an_output xs ++ behind)
 due-outputs s i l o [] behind p f first h = subst (λ (z : List FaceOutput). AreDue (draft 2 s i l z []) behind) (append-nil o) h
 due-outputs s i l o (x ∷ xs) behind p f first h =
@@ -154,11 +176,13 @@ due-outputs s i l o (x ∷ xs) behind p f first h =
 
 -- ---- instructions with which nothing is wrong
 
-read-from : (n : Counts) (s : State) (k : ℕ) (instrs : List Instr) → fault_from n s k instrs ≡ None → is_some (fold (λ s i. option_and_then (step n i) s) (Some s) instrs) ≡ true
+read-from : (n : Counts) (s : State) (k : ℕ) (instrs : List Instr) → fault_from n s k instrs ≡ None
+    → is_some (fold (λ s i. option_and_then (step n i) s) (Some s) instrs) ≡ true
 read-from n s k [] h = refl
 read-from n s k (i ∷ instrs) h = by (λ t e. read-from n t (suc k) instrs e) (has_numbers n s i) (moved i s) h
   where
-    by : ((t : State) → fault_from n t (suc k) instrs ≡ None → is_some (fold (λ s i. option_and_then (step n i) s) (Some t) instrs) ≡ true) → (right : Bool) (next : Option State)
+    by : ((t : State) → fault_from n t (suc k) instrs ≡ None → is_some (fold (λ s i. option_and_then (step n i) s) (Some t) instrs) ≡ true)
+        → (right : Bool) (next : Option State)
         → (if right then option_map_or (λ t. fault_from n t (suc k) instrs) next (Some (WrongOrder k)) else Some (BadNumber k)) ≡ None
         → is_some (fold (λ s i. option_and_then (step n i) s) (if right then next else None) instrs) ≡ true
     by rest true (Some t) e = rest t e
@@ -170,12 +194,14 @@ front-read n None xs h = sym (ap is_some (reading-none n xs)) ∙ h
 front-read n (Some s) xs h = refl
 
 due-instrs : (s : ℕ) (i : List Coded) (l : List FaceLabel) (o : List FaceOutput) (c xs : List Instr) (behind : List Entry) → AllByRecursion IsInstr xs
-    → is_some (reading (code_of (length i) s (length l) (length o) (c ++ xs))) ≡ true → AreDue (draft 3 s i l o (c ++ xs)) behind → AreDue (draft 3 s i l o c) (map an_instr xs ++ behind)
+    → is_some (reading (code_of (length i) s (length l) (length o) (c ++ xs))) ≡ true → AreDue (draft 3 s i l o (c ++ xs)) behind
+    → AreDue (draft 3 s i l o c) (map an_instr xs ++ behind)
 due-instrs s i l o c [] behind right read h = subst (λ (z : List Instr). AreDue (draft 3 s i l o z) behind) (append-nil c) h
 due-instrs s i l o c (x ∷ xs) behind right read h =
     let n : Counts = record { inputs = length i; slots = s; labels = length l; outputs = length o } in
     let same = append_assoc c (x ∷ []) xs in
-    let all : is_some (reading (code_of (length i) s (length l) (length o) ((c ++ x ∷ []) ++ xs))) ≡ true = ap (λ z. is_some (reading (code_of (length i) s (length l) (length o) z))) same ∙ read in
+    let all : is_some (reading (code_of (length i) s (length l) (length o) ((c ++ x ∷ []) ++ xs))) ≡ true = ap
+    (λ z. is_some (reading (code_of (length i) s (length l) (length o) z))) same ∙ read in
     let here : is_some (reading (code_of (length i) s (length l) (length o) (c ++ x ∷ []))) ≡ true =
     front-read n (reading (code_of (length i) s (length l) (length o) (c ++ x ∷ []))) xs
     (sym (ap is_some (fold-append (λ s i. option_and_then (step n i) s) (Some (start (length o))) (c ++ x ∷ []) xs)) ∙ all) in
@@ -185,7 +211,8 @@ due-instrs s i l o c (x ∷ xs) behind right read h =
 -- ---- the whole
 
 -- the counts of loaded code are those of its face
-listing-is : (loaded : Loaded) → loaded.code ≡ code_of (length loaded.face.inputs) loaded.code.counts.slots (length loaded.face.labels) (length loaded.face.outputs) loaded.code.instrs
+listing-is : (loaded : Loaded) → loaded.code ≡ code_of (length loaded.face.inputs) loaded.code.counts.slots (length loaded.face.labels)
+    (length loaded.face.outputs) loaded.code.instrs
 listing-is loaded =
     let first = and_parts _ _ loaded.agree in
     let later = and_parts _ _ first.1 in
@@ -198,7 +225,8 @@ form-due : (bytes : List ℕ) (loaded : Loaded) → IsFormOf bytes loaded → Ar
 form-due bytes loaded form =
     let slots = loaded.code.counts.slots in
     let face = loaded.face in
-    let right : code_fault (code_of (length face.inputs) slots (length face.labels) (length face.outputs) loaded.code.instrs) ≡ None = subst (λ (code : Listing). code_fault code ≡ None) (listing-is loaded) form.right in
+    let right : code_fault (code_of (length face.inputs) slots (length face.labels) (length face.outputs) loaded.code.instrs) ≡ None = subst
+    (λ (code : Listing). code_fault code ≡ None) (listing-is loaded) form.right in
     let counts : Counts = record { inputs = length face.inputs; slots = slots; labels = length face.labels; outputs = length face.outputs } in (
       tt,
       refl,
@@ -221,7 +249,8 @@ form-due bytes loaded form =
 pub no-fault-of-form : (bytes : List ℕ) (loaded : Loaded) (fault : CodeFault) → IsFormOf bytes loaded → IsCodeFault bytes fault → ⊥
 no-fault-of-form bytes loaded fault form is =
     let f = fault-stops bytes fault is in
-    let same = same-stops blank f.0 (entries_of loaded) f.1 [] (sym f.2.text ∙ form.text ∙ sym (form-text loaded) ∙ sym (append-nil (lines entry_line (entries_of loaded))))
+    let same = same-stops blank f.0 (entries_of loaded) f.1 [] (sym f.2.text ∙ form.text ∙ sym (form-text loaded)
+    ∙ sym (append-nil (lines entry_line (entries_of loaded))))
     f.2.due (form-due bytes loaded form) f.2.ends (never-empty (draft_of (entries_of loaded))) in
     f.2.open_end (ap {A = List Entry} {B = ℕ} (λ l. (draft_of l).part) same.0 ∙ ap {A = Draft} {B = ℕ} (λ d. d.part) (all-stated loaded)) same.1
 

@@ -1,5 +1,6 @@
 -- Lines at the start of a text.
-use Rattle.std.proofs.Common.{◌≡◌, ◌<◌, ℕ, true, List, [], ◌∷◌, ◌++◌, length, Option, Some, None, refl, sym, ap, ◌∙◌, arith, append_assoc, append-nil, length-append}
+use Rattle.std.proofs.Common.{◌≡◌, ◌<◌, ℕ, true, List, [], ◌∷◌, ◌++◌, length, Option, Some, None, refl, sym, ap, ◌∙◌, arith, append_assoc, append-nil}
+use Rattle.std.proofs.Common.{length-append}
 use Rattle.std.specs.List.{AllByRecursion}
 use Rattle.reg_machine.proofs.TableLemmas.{none≢some, some-is}
 use Rattle.code_file.specs.Text.{lines}
@@ -20,7 +21,8 @@ pub record IsSpelling {X : Type 0} (line : X → List ℕ) (of : List ℕ → Op
   pub complete : (x : X) → Is x → Spells line of x
 
 -- a line with something after it is cut at its end
-pub cut-line : {X : Type 0} (line : X → List ℕ) (of : List ℕ → Option X) (x : X) (s : Spells line of x) (text behind : List ℕ) → text ≡ line x ++ behind → cut 10 text ≡ Some (s.body, behind)
+pub cut-line : {X : Type 0} (line : X → List ℕ) (of : List ℕ → Option X) (x : X) (s : Spells line of x) (text behind : List ℕ) → text ≡ line x ++ behind
+    → cut 10 text ≡ Some (s.body, behind)
 cut-line line of x s text behind e =
     ap (cut 10) (e ∙ ap (λ l. l ++ behind) s.text ∙ append_assoc s.body (10 ∷ []) behind) ∙ cut-at 10 s.body behind s.free
 
@@ -53,7 +55,8 @@ pub lines-append : {X : Type 0} (line : X → List ℕ) (xs ys : List X) → lin
 lines-append line [] ys = refl
 lines-append line (x ∷ xs) ys = ap (λ l. line x ++ l) (lines-append line xs ys) ∙ sym (append_assoc (line x) (lines line xs) (lines line ys))
 
-pub lines-push : {X : Type 0} (line : X → List ℕ) (text rest behind : List ℕ) (xs : List X) (x : X) → text ≡ lines line xs ++ rest → rest ≡ line x ++ behind → text ≡ lines line (xs ++ x ∷ []) ++ behind
+pub lines-push : {X : Type 0} (line : X → List ℕ) (text rest behind : List ℕ) (xs : List X) (x : X) → text ≡ lines line xs ++ rest → rest ≡ line x ++ behind
+    → text ≡ lines line (xs ++ x ∷ []) ++ behind
 lines-push line text rest behind xs x e h =
     e ∙ ap (λ l. lines line xs ++ l) h ∙ sym (append_assoc (lines line xs) (line x) behind)
     ∙ ap (λ l. l ++ behind) (ap (λ l. lines line xs ++ l) (sym (append-nil (line x))) ∙ sym (lines-append line xs (x ∷ [])))

@@ -1,5 +1,6 @@
 -- Instructions and the lines that spell them.
-use Rattle.std.proofs.Common.{◌≡◌, ◌<◌, ◌≤◌, ◌^◌, ◌==◌, ◌&&◌, ◌||◌, ℕ, zero, suc, ℤ, pos, negsuc, Bool, false, true, cond, nat_le, List, [], ◌∷◌, ◌++◌, Option, Some, None, codes, decimal, refl, sym, ap, ◌∙◌, subst, arith, append_assoc}
+use Rattle.std.proofs.Common.{◌≡◌, ◌<◌, ◌≤◌, ◌^◌, ◌==◌, ◌&&◌, ◌||◌, ℕ, zero, suc, ℤ, pos, negsuc, Bool, false, true, cond, nat_le, List, [], ◌∷◌, ◌++◌, Option}
+use Rattle.std.proofs.Common.{Some, None, codes, decimal, refl, sym, ap, ◌∙◌, subst, arith, append_assoc}
 use Rattle.std.specs.Fmt.{signed_decimal}
 use Rattle.std.specs.Str.{bytes_eq}
 use Rattle.std.specs.Option.{option_and_then, option_map}
@@ -8,7 +9,8 @@ use Rattle.std.proofs.lemmas.Bool.{and_from, or_left, or_right, eqb-true, eq-eqb
 use Rattle.std.proofs.lemmas.Slice.Eq.{bytes_eq-Decides}
 use Rattle.reg_machine.proofs.TableLemmas.{none≢some, some-is}
 use Rattle.m_fixed.specs.declared.operator.Op.{Op}
-use Rattle.m_fixed.specs.declared.operator.Op.TheVariants.{Add, Sub, Mul, Div, Neg, Eq, Ne, Lt, Le, Gt, Ge, And, Or, Not, Present, Abs, Positive, PositiveOrNull, Null, Arr, Inf, Max, Min, Truth as TruthOf, Choose, At}
+use Rattle.m_fixed.specs.declared.operator.Op.TheVariants.{Add, Sub, Mul, Div, Neg, Eq, Ne, Lt, Le, Gt, Ge, And, Or, Not, Present, Abs, Positive}
+use Rattle.m_fixed.specs.declared.operator.Op.TheVariants.{PositiveOrNull, Null, Arr, Inf, Max, Min, Truth as TruthOf, Choose, At}
 use Rattle.m_fixed.specs.Operators.{arity_of}
 use Rattle.m_fixed.specs.Amounts.{IsAmount, most}
 use Rattle.m_fixed.specs.declared.amount.Value.{Value}
@@ -17,7 +19,8 @@ use Rattle.reg_machine.specs.declared.instr.Instr.{Instr}
 use Rattle.reg_machine.specs.declared.instr.Instr.TheVariants.{Take, Lit, Do, Store, Load, Check, Output}
 use Rattle.code_file.specs.Text.{op_word, instr_line, do_line, check_word, literal_line}
 use Rattle.code_file.specs.Reading.{IsInstr, IsLiteral, IsShort}
-use Rattle.code_file.specs.inner.Spelled.{cut, both, all_three, number, register, short, literal, millionths, below_zero, op_among, operators, arguments, done_by, operation, check, plain, instr_by, instr_of}
+use Rattle.code_file.specs.inner.Spelled.{cut, both, all_three, number, register, short, literal, millionths, below_zero, op_among, operators, arguments}
+use Rattle.code_file.specs.inner.Spelled.{done_by, operation, check, plain, instr_by, instr_of}
 use Rattle.code_file.proofs.OptionLemmas.{then-some, map-some, both-some, three-some}
 use Rattle.code_file.proofs.CutLemmas.{cut-parts}
 use Rattle.code_file.proofs.NumberLemmas.{number-sound}
@@ -35,10 +38,12 @@ line-two w x y = onto-last w (x ++ 32 ∷ y) ∙ ap (λ t. w ++ 32 ∷ t) (onto-
 pub line-three : (w x y z : List ℕ) → (w ++ 32 ∷ (x ++ 32 ∷ (y ++ 32 ∷ z))) ++ 10 ∷ [] ≡ w ++ 32 ∷ (x ++ 32 ∷ (y ++ 32 ∷ (z ++ 10 ∷ [])))
 line-three w x y z = onto-last w (x ++ 32 ∷ (y ++ 32 ∷ z)) ∙ ap (λ t. w ++ 32 ∷ t) (line-two x y z)
 
-pub line-four : (w x y z u : List ℕ) → (w ++ 32 ∷ (x ++ 32 ∷ (y ++ 32 ∷ (z ++ 32 ∷ u)))) ++ 10 ∷ [] ≡ w ++ 32 ∷ (x ++ 32 ∷ (y ++ 32 ∷ (z ++ 32 ∷ (u ++ 10 ∷ []))))
+pub line-four : (w x y z u : List ℕ) → (w ++ 32 ∷ (x ++ 32 ∷ (y ++ 32 ∷ (z ++ 32 ∷ u)))) ++ 10 ∷ [] ≡ w
+    ++ 32 ∷ (x ++ 32 ∷ (y ++ 32 ∷ (z ++ 32 ∷ (u ++ 10 ∷ []))))
 line-four w x y z u = onto-last w (x ++ 32 ∷ (y ++ 32 ∷ (z ++ 32 ∷ u))) ∙ ap (λ t. w ++ 32 ∷ t) (line-three x y z u)
 
-pub line-five : (w x y z u v : List ℕ) → (w ++ 32 ∷ (x ++ 32 ∷ (y ++ 32 ∷ (z ++ 32 ∷ (u ++ 32 ∷ v))))) ++ 10 ∷ [] ≡ w ++ 32 ∷ (x ++ 32 ∷ (y ++ 32 ∷ (z ++ 32 ∷ (u ++ 32 ∷ (v ++ 10 ∷ [])))))
+pub line-five : (w x y z u v : List ℕ) → (w ++ 32 ∷ (x ++ 32 ∷ (y ++ 32 ∷ (z ++ 32 ∷ (u ++ 32 ∷ v))))) ++ 10 ∷ [] ≡ w
+    ++ 32 ∷ (x ++ 32 ∷ (y ++ 32 ∷ (z ++ 32 ∷ (u ++ 32 ∷ (v ++ 10 ∷ [])))))
 line-five w x y z u v = onto-last w (x ++ 32 ∷ (y ++ 32 ∷ (z ++ 32 ∷ (u ++ 32 ∷ v)))) ∙ ap (λ t. w ++ 32 ∷ t) (line-four x y z u v)
 
 -- ---- what a line spells is written as that line
@@ -68,12 +73,15 @@ literal_word Over = codes "over"
 
 pub below-sound : (n : ℕ) (z : ℤ) → n < suc most → below_zero n ≡ Some z → IsAmount z × (signed_decimal z ≡ 45 ∷ decimal n)
 below-sound zero z small h = absurd (none≢some z h)
-below-sound (suc n) z small h = subst (λ y. IsAmount y × (signed_decimal y ≡ 45 ∷ decimal (suc n))) (some-is (negsuc n) z h) (record { low = omega (arith, ints); high = omega (arith, ints) }, refl)
+below-sound (suc n) z small h = subst (λ y. IsAmount y × (signed_decimal y ≡ 45 ∷ decimal (suc n))) (some-is (negsuc n) z h)
+    (record { low = omega (arith, ints); high = omega (arith, ints) }, refl)
 
 pub above-sound : (n : ℕ) → n < suc most → IsAmount (pos n)
 above-sound n small = record { low = omega (arith, ints); high = omega (arith, ints) }
 
-pub millionths-by : (b : ℕ) (bs : List ℕ) (z : ℤ) (t : Bool) → (b == 45) ≡ t → cond t (option_and_then below_zero (number (suc most) bs)) (option_map pos (number (suc most) (b ∷ bs))) ≡ Some z → IsAmount z × (signed_decimal z ≡ b ∷ bs)
+pub millionths-by : (b : ℕ) (bs : List ℕ) (z : ℤ) (t : Bool) → (b == 45) ≡ t
+    → cond t (option_and_then below_zero (number (suc most) bs)) (option_map pos (number (suc most) (b ∷ bs))) ≡ Some z
+    → IsAmount z × (signed_decimal z ≡ b ∷ bs)
 millionths-by b bs z true e h =
     let k = then-some below_zero (number (suc most) bs) z h in
     let n = most-sound bs k.0 k.1 in
@@ -88,9 +96,11 @@ pub millionths-sound : (text : List ℕ) (z : ℤ) → millionths text ≡ Some 
 millionths-sound [] z h = absurd (none≢some z h)
 millionths-sound (b ∷ bs) z h = millionths-by b bs z (b == 45) refl h
 
-pub literal-by : (text : List ℕ) (v : Value) (s t : Bool) → bytes_eq text (codes "undef") ≡ s → bytes_eq text (codes "over") ≡ t → cond s (Some Undef) (cond t (Some Over) (option_map Num (millionths text))) ≡ Some v → IsLiteral v × (literal_word v ≡ text)
+pub literal-by : (text : List ℕ) (v : Value) (s t : Bool) → bytes_eq text (codes "undef") ≡ s → bytes_eq text (codes "over") ≡ t
+    → cond s (Some Undef) (cond t (Some Over) (option_map Num (millionths text))) ≡ Some v → IsLiteral v × (literal_word v ≡ text)
 literal-by text v true t e f h = subst (λ y. IsLiteral y × (literal_word y ≡ text)) (some-is Undef v h) (tt, sym ((bytes_eq-Decides text (codes "undef")).0 e))
-literal-by text v false true e f h = subst (λ y. IsLiteral y × (literal_word y ≡ text)) (some-is Over v h) (tt, sym ((bytes_eq-Decides text (codes "over")).0 f))
+literal-by text v false true e f h = subst (λ y. IsLiteral y × (literal_word y ≡ text)) (some-is Over v h)
+    (tt, sym ((bytes_eq-Decides text (codes "over")).0 f))
 literal-by text v false false e f h =
     let k = map-some Num (millionths text) v h in
     subst (λ y. IsLiteral y × (literal_word y ≡ text)) k.2 (millionths-sound text k.0 k.1)
@@ -113,28 +123,41 @@ take-sound x y i h =
     let k = both-some Take (register x) (short y) i h in
     let a = register-sound x k.0 k.2 in
     let b = short-sound y k.1 k.3 in
-    subst (λ j. Sound j (Spaced (codes "in") x y)) k.4 (record { right = (a.1, b.1); text = (λ j. codes "in" ++ 32 ∷ (sym a.0 j ++ 32 ∷ (sym b.0 j ++ 10 ∷ []))) ∙ sym (line-two (codes "in") x y) })
+    subst (λ j. Sound j (Spaced (codes "in") x y)) k.4 (record {
+      right = (a.1, b.1);
+      text = (λ j. codes "in" ++ 32 ∷ (sym a.0 j ++ 32 ∷ (sym b.0 j ++ 10 ∷ [])))
+          ∙ sym (line-two (codes "in") x y);
+    })
 
 pub load-sound : (x y : List ℕ) (i : Instr) → both Load (register x) (short y) ≡ Some i → Sound i (Spaced (codes "ld") x y)
 load-sound x y i h =
     let k = both-some Load (register x) (short y) i h in
     let a = register-sound x k.0 k.2 in
     let b = short-sound y k.1 k.3 in
-    subst (λ j. Sound j (Spaced (codes "ld") x y)) k.4 (record { right = (a.1, b.1); text = (λ j. codes "ld" ++ 32 ∷ (sym a.0 j ++ 32 ∷ (sym b.0 j ++ 10 ∷ []))) ∙ sym (line-two (codes "ld") x y) })
+    subst (λ j. Sound j (Spaced (codes "ld") x y)) k.4 (record {
+      right = (a.1, b.1);
+      text = (λ j. codes "ld" ++ 32 ∷ (sym a.0 j ++ 32 ∷ (sym b.0 j ++ 10 ∷ [])))
+          ∙ sym (line-two (codes "ld") x y);
+    })
 
 pub store-sound : (x y : List ℕ) (i : Instr) → both Store (short x) (register y) ≡ Some i → Sound i (Spaced (codes "st") x y)
 store-sound x y i h =
     let k = both-some Store (short x) (register y) i h in
     let a = short-sound x k.0 k.2 in
     let b = register-sound y k.1 k.3 in
-    subst (λ j. Sound j (Spaced (codes "st") x y)) k.4 (record { right = (a.1, b.1); text = (λ j. codes "st" ++ 32 ∷ (sym a.0 j ++ 32 ∷ (sym b.0 j ++ 10 ∷ []))) ∙ sym (line-two (codes "st") x y) })
+    subst (λ j. Sound j (Spaced (codes "st") x y)) k.4 (record {
+      right = (a.1, b.1);
+      text = (λ j. codes "st" ++ 32 ∷ (sym a.0 j ++ 32 ∷ (sym b.0 j ++ 10 ∷ [])))
+          ∙ sym (line-two (codes "st") x y);
+    })
 
 pub output-sound : (x y : List ℕ) (i : Instr) → both Output (short x) (register y) ≡ Some i → Sound i (Spaced (codes "out") x y)
 output-sound x y i h =
     let k = both-some Output (short x) (register y) i h in
     let a = short-sound x k.0 k.2 in
     let b = register-sound y k.1 k.3 in
-    subst (λ j. Sound j (Spaced (codes "out") x y)) k.4 (record { right = (a.1, b.1); text = (λ j. codes "out" ++ 32 ∷ (sym a.0 j ++ 32 ∷ (sym b.0 j ++ 10 ∷ []))) ∙ sym (line-two (codes "out") x y) })
+    subst (λ j. Sound j (Spaced (codes "out") x y)) k.4
+    (record { right = (a.1, b.1); text = (λ j. codes "out" ++ 32 ∷ (sym a.0 j ++ 32 ∷ (sym b.0 j ++ 10 ∷ []))) ∙ sym (line-two (codes "out") x y) })
 
 pub lit-sound : (x y : List ℕ) (i : Instr) → both Lit (register x) (literal y) ≡ Some i → Sound i (Spaced (codes "lit") x y)
 lit-sound x y i h =
@@ -156,23 +179,37 @@ check-sound over_only x y i h =
     let c = short-sound p.0.1 k.2 k.5 in
     subst (λ j. Sound j (Spaced (check_word over_only) x y)) k.6 (record {
       right = (a.1, b.1, c.1);
-      text = (λ j. check_word over_only ++ 32 ∷ (sym a.0 j ++ 32 ∷ (sym b.0 j ++ 32 ∷ (sym c.0 j ++ 10 ∷ [])))) ∙ sym (line-three (check_word over_only) x p.0.0 p.0.1)
+      text = (λ j. check_word over_only ++ 32 ∷ (sym a.0 j ++ 32 ∷ (sym b.0 j ++ 32 ∷ (sym c.0 j ++ 10 ∷ []))))
+          ∙ sym (line-three (check_word over_only) x p.0.0 p.0.1)
           ∙ ap (λ t. (check_word over_only ++ 32 ∷ (x ++ 32 ∷ t)) ++ 10 ∷ []) (sym q.whole);
     })
 
-pub plain-by : (w x y : List ℕ) (i : Instr) (t0 t1 t2 t3 t4 t5 t6 : Bool) → bytes_eq w (codes "in") ≡ t0 → bytes_eq w (codes "lit") ≡ t1 → bytes_eq w (codes "st") ≡ t2 → bytes_eq w (codes "ld") ≡ t3 → bytes_eq w (codes "out") ≡ t4 → bytes_eq w (codes "ck") ≡ t5 → bytes_eq w (codes "co") ≡ t6
-    → cond t0 (both Take (register x) (short y)) (cond t1 (both Lit (register x) (literal y)) (cond t2 (both Store (short x) (register y)) (cond t3 (both Load (register x) (short y)) (cond t4 (both Output (short x) (register y)) (cond t5 (check false x y) (cond t6 (check true x y) None)))))) ≡ Some i → Sound i (Spaced w x y)
-plain-by w x y i true t1 t2 t3 t4 t5 t6 e0 e1 e2 e3 e4 e5 e6 h = subst (λ v. Sound i (Spaced v x y)) (sym ((bytes_eq-Decides w (codes "in")).0 e0)) (take-sound x y i h)
-plain-by w x y i false true t2 t3 t4 t5 t6 e0 e1 e2 e3 e4 e5 e6 h = subst (λ v. Sound i (Spaced v x y)) (sym ((bytes_eq-Decides w (codes "lit")).0 e1)) (lit-sound x y i h)
-plain-by w x y i false false true t3 t4 t5 t6 e0 e1 e2 e3 e4 e5 e6 h = subst (λ v. Sound i (Spaced v x y)) (sym ((bytes_eq-Decides w (codes "st")).0 e2)) (store-sound x y i h)
-plain-by w x y i false false false true t4 t5 t6 e0 e1 e2 e3 e4 e5 e6 h = subst (λ v. Sound i (Spaced v x y)) (sym ((bytes_eq-Decides w (codes "ld")).0 e3)) (load-sound x y i h)
-plain-by w x y i false false false false true t5 t6 e0 e1 e2 e3 e4 e5 e6 h = subst (λ v. Sound i (Spaced v x y)) (sym ((bytes_eq-Decides w (codes "out")).0 e4)) (output-sound x y i h)
-plain-by w x y i false false false false false true t6 e0 e1 e2 e3 e4 e5 e6 h = subst (λ v. Sound i (Spaced v x y)) (sym ((bytes_eq-Decides w (codes "ck")).0 e5)) (check-sound false x y i h)
-plain-by w x y i false false false false false false true e0 e1 e2 e3 e4 e5 e6 h = subst (λ v. Sound i (Spaced v x y)) (sym ((bytes_eq-Decides w (codes "co")).0 e6)) (check-sound true x y i h)
+pub plain-by : (w x y : List ℕ) (i : Instr) (t0 t1 t2 t3 t4 t5 t6 : Bool) → bytes_eq w (codes "in") ≡ t0 → bytes_eq w (codes "lit") ≡ t1
+    → bytes_eq w (codes "st") ≡ t2 → bytes_eq w (codes "ld") ≡ t3 → bytes_eq w (codes "out") ≡ t4 → bytes_eq w (codes "ck") ≡ t5 → bytes_eq w (codes "co") ≡ t6
+    → cond t0 (both Take (register x) (short y))
+    (cond t1 (both Lit (register x) (literal y))
+    (cond t2 (both Store (short x) (register y))
+    (cond t3 (both Load (register x) (short y))
+    (cond t4 (both Output (short x) (register y)) (cond t5 (check false x y) (cond t6 (check true x y) None)))))) ≡ Some i → Sound i (Spaced w x y)
+plain-by w x y i true t1 t2 t3 t4 t5 t6 e0 e1 e2 e3 e4 e5 e6 h = subst (λ v. Sound i (Spaced v x y)) (sym ((bytes_eq-Decides w (codes "in")).0 e0))
+    (take-sound x y i h)
+plain-by w x y i false true t2 t3 t4 t5 t6 e0 e1 e2 e3 e4 e5 e6 h = subst (λ v. Sound i (Spaced v x y)) (sym ((bytes_eq-Decides w (codes "lit")).0 e1))
+    (lit-sound x y i h)
+plain-by w x y i false false true t3 t4 t5 t6 e0 e1 e2 e3 e4 e5 e6 h = subst (λ v. Sound i (Spaced v x y)) (sym ((bytes_eq-Decides w (codes "st")).0 e2))
+    (store-sound x y i h)
+plain-by w x y i false false false true t4 t5 t6 e0 e1 e2 e3 e4 e5 e6 h = subst (λ v. Sound i (Spaced v x y)) (sym ((bytes_eq-Decides w (codes "ld")).0 e3))
+    (load-sound x y i h)
+plain-by w x y i false false false false true t5 t6 e0 e1 e2 e3 e4 e5 e6 h = subst (λ v. Sound i (Spaced v x y)) (sym ((bytes_eq-Decides w (codes "out")).0 e4))
+    (output-sound x y i h)
+plain-by w x y i false false false false false true t6 e0 e1 e2 e3 e4 e5 e6 h = subst (λ v. Sound i (Spaced v x y))
+    (sym ((bytes_eq-Decides w (codes "ck")).0 e5)) (check-sound false x y i h)
+plain-by w x y i false false false false false false true e0 e1 e2 e3 e4 e5 e6 h = subst (λ v. Sound i (Spaced v x y))
+    (sym ((bytes_eq-Decides w (codes "co")).0 e6)) (check-sound true x y i h)
 plain-by w x y i false false false false false false false e0 e1 e2 e3 e4 e5 e6 h = absurd (none≢some i h)
 
 pub plain-sound : (w x y : List ℕ) (i : Instr) → plain w x y ≡ Some i → Sound i (Spaced w x y)
-plain-sound w x y i h = plain-by w x y i (bytes_eq w (codes "in")) (bytes_eq w (codes "lit")) (bytes_eq w (codes "st")) (bytes_eq w (codes "ld")) (bytes_eq w (codes "out")) (bytes_eq w (codes "ck")) (bytes_eq w (codes "co")) refl refl refl refl refl refl refl h
+plain-sound w x y i h = plain-by w x y i (bytes_eq w (codes "in")) (bytes_eq w (codes "lit")) (bytes_eq w (codes "st")) (bytes_eq w (codes "ld"))
+    (bytes_eq w (codes "out")) (bytes_eq w (codes "ck")) (bytes_eq w (codes "co")) refl refl refl refl refl refl refl h
 
 -- ---- operators
 
@@ -188,7 +225,8 @@ written s t a b c = cond s (decimal a) (cond t (decimal a ++ 32 ∷ decimal b) (
 abbrev pub args : Bool → Bool → Op → ℕ → List ℕ → Option Instr
 args s t op r text =
     cond s (option_map (λ a. Do op r a a a) (register text))
-    (option_and_then (λ p. cond t (both (λ a b. Do op r a b a) (register p.0) (register p.1)) (option_and_then (λ q. all_three (Do op r) (register p.0) (register q.0) (register q.1)) (cut 32 p.1))) (cut 32 text))
+    (option_and_then (λ p. cond t (both (λ a b. Do op r a b a) (register p.0) (register p.1))
+    (option_and_then (λ q. all_three (Do op r) (register p.0) (register q.0) (register q.1)) (cut 32 p.1))) (cut 32 text))
 
 -- arguments past an arity are the first
 abbrev pub reps : ℕ → ℕ → ℕ → ℕ → Bool
@@ -249,12 +287,24 @@ pub record Arguments (op : Op) (n r : ℕ) (s t : Bool) (text : List ℕ) (i : I
   pub repeats : reps n a b c ≡ true
   pub text_is : text ≡ written s t a b c
 
-pub args-sound : (op : Op) (n r : ℕ) (s t : Bool) (text : List ℕ) (i : Instr) → (n == 1) ≡ s → (n == 2) ≡ t → (s ≡ false → t ≡ false → n ≡ 3) → args s t op r text ≡ Some i → Arguments op n r s t text i
+pub args-sound : (op : Op) (n r : ℕ) (s t : Bool) (text : List ℕ) (i : Instr) → (n == 1) ≡ s → (n == 2) ≡ t → (s ≡ false → t ≡ false → n ≡ 3)
+    → args s t op r text ≡ Some i → Arguments op n r s t text i
 args-sound op n r true t text i e f three h =
     let k = map-some (λ a. Do op r a a a) (register text) i h in
     let a = register-sound text k.0 k.1 in
     let same : (k.0 == k.0) ≡ true = eq-eqb k.0 k.0 refl in
-    record { a = k.0; b = k.0; c = k.0; is = k.2; first = a.1; second = a.1; third = a.1; repeats = and_from _ _ (or_right (nat_le 2 n) (k.0 == k.0) same) (or_right (nat_le 3 n) (k.0 == k.0) same); text_is = a.0 }
+    record {
+      a = k.0;
+      b = k.0;
+      c = k.0;
+      is = k.2;
+      first = a.1;
+      second = a.1;
+      third = a.1;
+      repeats = and_from _ _ (or_right (nat_le 2 n) (k.0 == k.0) same)
+          (or_right (nat_le 3 n) (k.0 == k.0) same);
+      text_is = a.0;
+    }
 args-sound op n r false true text i e f three h =
     let p = then-some (λ p. both (λ a b. Do op r a b a) (register p.0) (register p.1)) (cut 32 text) i h in
     let q = cut-parts 32 text p.0 p.1 in

@@ -5,7 +5,8 @@ use Rattle.std.proofs.lemmas.List.{drop_more, drop_all}
 use Rattle.code_file.specs.Text.{lines, hex_of, hex_digit}
 
 -- they begin with the line of the one that stands there
-pub lines-at : {X : Type 0} (line : X → List ℕ) (xs : List X) (k : ℕ) (x d : X) → k < length xs → x ≡ get_or xs k d → lines line (drop k xs) ≡ line x ++ lines line (drop (k + 1) xs)
+pub lines-at : {X : Type 0} (line : X → List ℕ) (xs : List X) (k : ℕ) (x d : X) → k < length xs → x ≡ get_or xs k d
+    → lines line (drop k xs) ≡ line x ++ lines line (drop (k + 1) xs)
 lines-at line xs k x d lt is = ap (lines line) (drop_more xs k d lt) ∙ ap (λ y. line y ++ lines line (drop (k + 1) xs)) (sym is)
 
 -- after the last there is nothing
@@ -13,7 +14,8 @@ pub lines-end : {X : Type 0} (line : X → List ℕ) (xs : List X) (k : ℕ) →
 lines-end line xs k le = ap (lines line) (drop_all k xs le)
 
 -- the same of bytes in hexadecimal digits
-pub hex-at : (bytes : List ℕ) (k : ℕ) → k < length bytes → hex_of (drop k bytes) ≡ (hex_digit (get_or bytes k 0 / 16) ∷ hex_digit (get_or bytes k 0 % 16) ∷ []) ++ hex_of (drop (k + 1) bytes)
+pub hex-at : (bytes : List ℕ) (k : ℕ) → k < length bytes → hex_of (drop k bytes) ≡ (hex_digit (get_or bytes k 0 / 16) ∷ hex_digit (get_or bytes k 0 % 16) ∷ [])
+    ++ hex_of (drop (k + 1) bytes)
 hex-at bytes k lt = ap hex_of (drop_more bytes k 0 lt)
 
 pub hex-end : (bytes : List ℕ) (k : ℕ) → length bytes ≤ k → hex_of (drop k bytes) ≡ []

@@ -1,8 +1,10 @@
 -- Words of code files, and tests of them.
-use Rattle.std.proofs.Common.{◌≡◌, ◌≢◌, inl, inr, ◌<◌, ◌≤◌, ◌==◌, ◌&&◌, ℕ, Bool, false, true, not, cond, nat_le, nat_lt, is_some, List, [], ◌∷◌, ◌++◌, length, Option, Some, None, decimal, refl, sym, ap, ◌∙◌, subst, arith, leb, ltb}
+use Rattle.std.proofs.Common.{◌≡◌, ◌≢◌, inl, inr, ◌<◌, ◌≤◌, ◌==◌, ◌&&◌, ℕ, Bool, false, true, not, cond, nat_le, nat_lt, is_some, List, [], ◌∷◌, ◌++◌, length}
+use Rattle.std.proofs.Common.{Option, Some, None, decimal, refl, sym, ap, ◌∙◌, subst, arith, leb, ltb}
 use Rattle.std.specs.List.{list_all, AllByRecursion}
 use Rattle.std.specs.Str.Parse.{digits_value}
-use Rattle.std.proofs.lemmas.Bool.{and_from, and_parts, or_cases, leb-true, ltb-true, le-leb, lt-ltb, eqb-true, ne_eqb, or_left, or_right, true≢false, false≢true}
+use Rattle.std.proofs.lemmas.Bool.{and_from, and_parts, or_cases, leb-true, ltb-true, le-leb, lt-ltb, eqb-true, ne_eqb, or_left, or_right, true≢false}
+use Rattle.std.proofs.lemmas.Bool.{false≢true}
 use Rattle.m_text.specs.Bytes.{IsDigit, IsWordByte, is_digit}
 use Rattle.m_text.specs.Words.{AreDigits}
 use Rattle.m_text.specs.Numbers.{whole_number}
@@ -24,7 +26,8 @@ digits-all (b ∷ bs) h =
 
 all-digits : (text : List ℕ) → AllByRecursion IsDigit text → list_all is_digit text ≡ true
 all-digits [] h = refl
-all-digits (b ∷ bs) h = and_from (is_digit b) (list_all is_digit bs) (and_from (leb 48 b) (leb b 57) (le-leb 48 b h.0.0) (le-leb b 57 h.0.1)) (all-digits bs h.1)
+all-digits (b ∷ bs) h = and_from (is_digit b) (list_all is_digit bs) (and_from (leb 48 b) (leb b 57) (le-leb 48 b h.0.0) (le-leb b 57 h.0.1))
+    (all-digits bs h.1)
 
 not-empty : (text : List ℕ) → ltb 0 (length text) ≡ true → text ≢ []
 not-empty text h e = true≢false (sym h ∙ ap (λ t. ltb 0 (length t)) e)
@@ -40,7 +43,8 @@ some-true false n h = h
 pub few-yes : (text : List ℕ) → is_some (whole_number text) ≡ true → AreDigits text × (length text ≤ 9)
 unfolding whole_number
 few-yes text h =
-    let k = and_parts (list_all is_digit text && nat_lt 0 (length text)) (nat_le (length text) 9) (some-true ((list_all is_digit text && nat_lt 0 (length text)) && nat_le (length text) 9) (digits_value 10 text) h) in
+    let k = and_parts (list_all is_digit text && nat_lt 0 (length text)) (nat_le (length text) 9)
+    (some-true ((list_all is_digit text && nat_lt 0 (length text)) && nat_le (length text) 9) (digits_value 10 text) h) in
     let d = and_parts (list_all is_digit text) (nat_lt 0 (length text)) k.0 in
     ((not-empty text d.1, digits-all text d.0), leb-true (length text) 9 k.1)
 
@@ -56,14 +60,20 @@ few-is text h =
 pub no-small-yes : (text : List ℕ) → list_all is_no_small text ≡ true → AllByRecursion IsNoSmallLetter text
 no-small-yes [] h = tt
 no-small-yes (b ∷ bs) h =
-    let k = and_parts (is_no_small b) (list_all is_no_small bs) h in
-    (elim (or_cases (ltb b 97) (ltb 122 b) k.0) as (λ _. IsNoSmallLetter b) [ inl e ↦ inl (ltb-true b 97 e) | inr e ↦ inr (ltb-true 122 b e) ], no-small-yes bs k.1)
+    let k = and_parts (is_no_small b) (list_all is_no_small bs) h in (
+      elim (or_cases (ltb b 97) (ltb 122 b) k.0) as (λ _. IsNoSmallLetter b) [ inl e ↦ inl (ltb-true b 97 e) | inr e ↦ inr (ltb-true 122 b e) ],
+      no-small-yes bs
+          k.1,
+    )
 
 pub no-small-is : (text : List ℕ) → AllByRecursion IsNoSmallLetter text → list_all is_no_small text ≡ true
 no-small-is [] h = refl
 no-small-is (b ∷ bs) h =
     and_from (is_no_small b) (list_all is_no_small bs)
-    (elim h.0 as (λ _. is_no_small b ≡ true) [ inl e ↦ or_left (ltb b 97) (ltb 122 b) (lt-ltb b 97 e) | inr e ↦ or_right (ltb b 97) (ltb 122 b) (lt-ltb 122 b e) ])
+    (elim h.0 as (λ _. is_no_small b ≡ true) [
+      | inl e ↦ or_left (ltb b 97) (ltb 122 b) (lt-ltb b 97 e)
+      | inr e ↦ or_right (ltb b 97) (ltb 122 b) (lt-ltb 122 b e)
+    ])
     (no-small-is bs h.1)
 
 -- ---- what words lack
@@ -74,11 +84,13 @@ IsApart mark = IsWordByte mark → ⊥
 
 pub word-lacks : (mark : ℕ) (text : List ℕ) → IsApart mark → AllByRecursion IsWordByte text → lacks mark text ≡ true
 word-lacks mark [] other h = refl
-word-lacks mark (b ∷ bs) other h = and_from (not (b == mark)) (lacks mark bs) (ap not (ne_eqb b mark (λ e. other (subst IsWordByte e h.0)))) (word-lacks mark bs other h.1)
+word-lacks mark (b ∷ bs) other h = and_from (not (b == mark)) (lacks mark bs) (ap not (ne_eqb b mark (λ e. other (subst IsWordByte e h.0))))
+    (word-lacks mark bs other h.1)
 
 pub digits-apart : (mark : ℕ) (text : List ℕ) → IsApart mark → AllByRecursion IsDigit text → lacks mark text ≡ true
 digits-apart mark [] other h = refl
-digits-apart mark (b ∷ bs) other h = and_from (not (b == mark)) (lacks mark bs) (ap not (ne_eqb b mark (λ e. other (subst IsWordByte e (inr (inl h.0)))))) (digits-apart mark bs other h.1)
+digits-apart mark (b ∷ bs) other h = and_from (not (b == mark)) (lacks mark bs) (ap not (ne_eqb b mark (λ e. other (subst IsWordByte e (inr (inl h.0))))))
+    (digits-apart mark bs other h.1)
 
 apart-from : (mark : ℕ) → (65 ≤ mark → mark ≤ 90 → ⊥) → (97 ≤ mark → mark ≤ 122 → ⊥) → (48 ≤ mark → mark ≤ 57 → ⊥) → mark ≢ 95 → IsApart mark
 apart-from mark a b c d (inl (inl h)) = a h.0 h.1
@@ -141,7 +153,8 @@ cell-yes text name index e h i =
     let k = index-yes index i in
     inr (name, k.0, h, k.1.0, (cut-parts 91 text (name, index) e).whole ∙ (λ j. name ++ 91 ∷ k.1.1 j))
 
-pub cell-parts : (text name index : List ℕ) → cut 91 text ≡ Some (name, index) → (IsPlainName text → ⊥) → IsCellName text → IsPlainName name × (is_index index ≡ true)
+pub cell-parts : (text name index : List ℕ) → cut 91 text ≡ Some (name, index) → (IsPlainName text → ⊥) → IsCellName text
+    → IsPlainName name × (is_index index ≡ true)
 cell-parts text name index e other (inl h) = absurd (other h)
 cell-parts text name index e other (inr h) =
     let same = some-is _ _ (sym (cell-cut text h.0 h.1 h.2 h.4) ∙ e) in

@@ -5,16 +5,19 @@ use Rattle.std.proofs.lemmas.List.{drop_more}
 use Rattle.std.proofs.lemmas.Slice.Eq.{bytes_eq-Decides}
 use Rattle.reg_machine.proofs.TableLemmas.{none≢some, some-is}
 use Rattle.m_fixed.specs.declared.operator.Op.{Op}
-use Rattle.m_fixed.specs.declared.operator.Op.TheVariants.{Add, Sub, Mul, Div, Neg, Eq, Ne, Lt, Le, Gt, Ge, And, Or, Not, Present, Abs, Positive, PositiveOrNull, Null, Arr, Inf, Max, Min, Truth as TruthOf, Choose, At}
+use Rattle.m_fixed.specs.declared.operator.Op.TheVariants.{Add, Sub, Mul, Div, Neg, Eq, Ne, Lt, Le, Gt, Ge, And, Or, Not, Present, Abs, Positive}
+use Rattle.m_fixed.specs.declared.operator.Op.TheVariants.{PositiveOrNull, Null, Arr, Inf, Max, Min, Truth as TruthOf, Choose, At}
 use Rattle.code_file.specs.Text.{op_word}
 use Rattle.code_file.specs.inner.Spelled.{op_among, operators}
 
-pub op-next : (ops : List Op) (word : List ℕ) (k : ℕ) (d : Op) → k < length ops → bytes_eq word (op_word (get_or ops k d)) ≡ false → op_among (drop k ops) word ≡ op_among (drop (k + 1) ops) word
+pub op-next : (ops : List Op) (word : List ℕ) (k : ℕ) (d : Op) → k < length ops → bytes_eq word (op_word (get_or ops k d)) ≡ false
+    → op_among (drop k ops) word ≡ op_among (drop (k + 1) ops) word
 op-next ops word k d lt e =
     ap (λ l. op_among l word) (drop_more ops k d lt) ∙ ap (λ b. cond b (Some (get_or ops k d)) (op_among (drop (k + 1) ops) word)) e
 
 -- what is found has the word
-found-by : (op op' : Op) (ops : List Op) (word : List ℕ) (b : Bool) → bytes_eq word (op_word op) ≡ b → (op_among ops word ≡ Some op' → word ≡ op_word op') → cond b (Some op) (op_among ops word) ≡ Some op' → word ≡ op_word op'
+found-by : (op op' : Op) (ops : List Op) (word : List ℕ) (b : Bool) → bytes_eq word (op_word op) ≡ b → (op_among ops word ≡ Some op' → word ≡ op_word op')
+    → cond b (Some op) (op_among ops word) ≡ Some op' → word ≡ op_word op'
 found-by op op' ops word true e behind h = (bytes_eq-Decides word (op_word op)).0 e ∙ ap op_word (some-is op op' h)
 found-by op op' ops word false e behind h = behind h
 

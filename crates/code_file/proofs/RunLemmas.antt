@@ -32,7 +32,8 @@ named-push labels (Named name ∷ xs) x h = named-push labels xs x h
 named-push labels (Noted n ∷ xs) x h = absurd (false≢true h)
 
 -- whether one more may stand after outputs of which the notes stand first
-pub follows : (labels : List FaceLabel) (xs : List FaceOutput) (x : FaceOutput) → notes_stand_first labels xs ≡ true → notes_stand_first labels (xs ++ x ∷ []) ≡ may_follow labels (ends_named xs) x
+pub follows : (labels : List FaceLabel) (xs : List FaceOutput) (x : FaceOutput) → notes_stand_first labels xs ≡ true
+    → notes_stand_first labels (xs ++ x ∷ []) ≡ may_follow labels (ends_named xs) x
 follows labels [] (Named name) h = refl
 follows labels [] (Noted n) h = and-true (is_some (verif_at labels n))
 follows labels (Named name ∷ xs) x h = named-push labels xs x h ∙ ap (λ b. may_follow labels b x) (sym (named-ends name xs h))
@@ -54,10 +55,13 @@ front-one text b1 b2 x y f g =
 abbrev pub MayStand : List FaceLabel → List FaceOutput → FaceOutput → Type 0
 MayStand labels xs x = IsRightOutput x × (notes_stand_first labels (xs ++ x ∷ []) ≡ true)
 
-pub none-follows : (labels : List FaceLabel) (xs : List FaceOutput) (text : List ℕ) → IsNoFront output_line IsRightOutput text → IsNoFront output_line (MayStand labels xs) text
+pub none-follows : (labels : List FaceLabel) (xs : List FaceOutput) (text : List ℕ) → IsNoFront output_line IsRightOutput text
+    → IsNoFront output_line (MayStand labels xs) text
 none-follows labels xs text h x behind r e = h x behind r.0 e
 
-pub not-follows : (labels : List FaceLabel) (xs : List FaceOutput) (x : FaceOutput) (text behind : List ℕ) (named : Bool) → notes_stand_first labels xs ≡ true → named ≡ ends_named xs → IsFront output_line IsRightOutput text x behind → may_follow labels named x ≡ false → IsNoFront output_line (MayStand labels xs) text
+pub not-follows : (labels : List FaceLabel) (xs : List FaceOutput) (x : FaceOutput) (text behind : List ℕ) (named : Bool) → notes_stand_first labels xs ≡ true
+    → named ≡ ends_named xs → IsFront output_line IsRightOutput text x behind → may_follow labels named x ≡ false
+    → IsNoFront output_line (MayStand labels xs) text
 not-follows labels xs x text behind named first n f m y more r e =
     let same = front-one text more behind y x (e, r.0) f in
     true≢false (sym r.1 ∙ ap (λ z. notes_stand_first labels (xs ++ z ∷ [])) same ∙ follows labels xs x first ∙ ap (λ b. may_follow labels b x) (sym n) ∙ m)

@@ -1,5 +1,6 @@
 -- Verifications and their words, and bytes and their digits.
-use Rattle.std.proofs.Common.{◌≡◌, ◌≢◌, ◌<◌, ◌≤◌, ◌+◌, ◌-◌, ◌*◌, ◌/◌, ◌%◌, ◌&&◌, ℕ, Bool, false, true, not, cond, nat_le, List, [], ◌∷◌, ◌++◌, length, drop, get_or, Option, Some, None, codes, refl, sym, ap, ◌∙◌, subst, arith, leb, ltb, append_assoc, append-nil}
+use Rattle.std.proofs.Common.{◌≡◌, ◌≢◌, ◌<◌, ◌≤◌, ◌+◌, ◌-◌, ◌*◌, ◌/◌, ◌%◌, ◌&&◌, ℕ, Bool, false, true, not, cond, nat_le, List, [], ◌∷◌, ◌++◌, length, drop}
+use Rattle.std.proofs.Common.{get_or, Option, Some, None, codes, refl, sym, ap, ◌∙◌, subst, arith, leb, ltb, append_assoc, append-nil}
 use Rattle.std.specs.Str.{bytes_eq}
 use Rattle.std.proofs.lemmas.List.{drop_more, drop_all}
 use Rattle.observables.specs.declared.face.FaceLabel.TheVariants.{Verif, DriverLine}
@@ -11,7 +12,8 @@ use Rattle.m_places.specs.declared.verification.Label.{Label}
 use Rattle.reg_machine.proofs.TableLemmas.{none≢some, some-is}
 use Rattle.code_file.specs.Text.{hex_of, hex_digit}
 use Rattle.code_file.specs.Printable.{IsPlainName}
-use Rattle.code_file.specs.inner.Faces.{IsRead, IsRightVerif, IsRightLabel, label_words, label_kind, label_of, hex_value, hex_byte, bytes_of, VerifWords, verif_words, verif_with, verif_of, label_with}
+use Rattle.code_file.specs.inner.Faces.{IsRead, IsRightVerif, IsRightLabel, label_words, label_kind, label_of, hex_value, hex_byte, bytes_of, VerifWords}
+use Rattle.code_file.specs.inner.Faces.{verif_words, verif_with, verif_of, label_with}
 use Rattle.code_file.specs.inner.Spelled.{short}
 use Rattle.code_file.proofs.OptionLemmas.{then-some, map-some}
 
@@ -22,7 +24,8 @@ pub record Digit (c v : ℕ) : Type 0 where
   pub small : v < 16
   pub same : hex_digit v ≡ c
 
-digit-by : (c v : ℕ) (s t : Bool) → (nat_le 48 c && nat_le c 57) ≡ s → (nat_le 97 c && nat_le c 102) ≡ t → cond s (Some (c - 48)) (cond t (Some (c - 87)) None) ≡ Some v → Digit c v
+digit-by : (c v : ℕ) (s t : Bool) → (nat_le 48 c && nat_le c 57) ≡ s → (nat_le 97 c && nat_le c 102) ≡ t
+    → cond s (Some (c - 48)) (cond t (Some (c - 87)) None) ≡ Some v → Digit c v
 digit-by c v true t e f h =
     let k = and_parts (leb 48 c) (leb c 57) e in
     let a = leb-true 48 c k.0 in
@@ -42,13 +45,16 @@ digit-sound c v h = digit-by c v (nat_le 48 c && nat_le c 57) (nat_le 97 c && na
 
 low-value : (v : ℕ) → v < 10 → hex_value (48 + v) ≡ Some v
 low-value v small =
-    ap (λ t. cond t (Some (48 + v - 48)) (cond (nat_le 97 (48 + v) && nat_le (48 + v) 102) (Some (48 + v - 87)) None)) (and_from (leb 48 (48 + v)) (leb (48 + v) 57) (le-leb 48 (48 + v) (omega arith)) (le-leb (48 + v) 57 (omega arith)))
+    ap (λ t. cond t (Some (48 + v - 48)) (cond (nat_le 97 (48 + v) && nat_le (48 + v) 102) (Some (48 + v - 87)) None))
+    (and_from (leb 48 (48 + v)) (leb (48 + v) 57) (le-leb 48 (48 + v) (omega arith)) (le-leb (48 + v) 57 (omega arith)))
     ∙ ap Some (omega arith)
 
 high-value : (v : ℕ) → 10 ≤ v → v < 16 → hex_value (87 + v) ≡ Some v
 high-value v low small =
-    ap (λ t. cond t (Some (87 + v - 48)) (cond (nat_le 97 (87 + v) && nat_le (87 + v) 102) (Some (87 + v - 87)) None)) (and-right-false (leb 48 (87 + v)) (leb (87 + v) 57) (lt-leb (87 + v) 57 (omega arith)))
-    ∙ ap (λ t. cond t (Some (87 + v - 87)) None) (and_from (leb 97 (87 + v)) (leb (87 + v) 102) (le-leb 97 (87 + v) (omega arith)) (le-leb (87 + v) 102 (omega arith)))
+    ap (λ t. cond t (Some (87 + v - 48)) (cond (nat_le 97 (87 + v) && nat_le (87 + v) 102) (Some (87 + v - 87)) None))
+    (and-right-false (leb 48 (87 + v)) (leb (87 + v) 57) (lt-leb (87 + v) 57 (omega arith)))
+    ∙ ap (λ t. cond t (Some (87 + v - 87)) None) (and_from (leb 97 (87 + v)) (leb (87 + v) 102) (le-leb 97 (87 + v) (omega arith))
+    (le-leb (87 + v) 102 (omega arith)))
     ∙ ap Some (omega arith)
   where
     and-right-false : (a b : Bool) → b ≡ false → (a && b) ≡ false
@@ -113,40 +119,48 @@ bytes-complete (b ∷ bytes) h =
 abbrev pub BytesFrom : List ℕ → List ℕ → ℕ → Type 0
 BytesFrom hex so_far at = bytes_of hex ≡ option_map (λ more. so_far ++ more) (bytes_of (drop at hex))
 
-bytes-onto : (so_far : List ℕ) (byte : ℕ) (o : Option (List ℕ)) → option_map (λ more. so_far ++ more) (option_map (λ bytes. byte ∷ bytes) o) ≡ option_map (λ more. (so_far ++ byte ∷ []) ++ more) o
+bytes-onto : (so_far : List ℕ) (byte : ℕ) (o : Option (List ℕ)) → option_map (λ more. so_far ++ more) (option_map (λ bytes. byte ∷ bytes) o) ≡ option_map
+    (λ more. (so_far ++ byte ∷ []) ++ more) o
 bytes-onto so_far byte None = refl
 bytes-onto so_far byte (Some l) = ap Some (sym (append_assoc so_far (byte ∷ []) l))
 
 two-more : (hex : List ℕ) (at : ℕ) → at + 1 < length hex → drop at hex ≡ get_or hex at 0 ∷ get_or hex (at + 1) 0 ∷ drop (at + 2) hex
 two-more hex at lt =
     let two : at + 1 + 1 ≡ at + 2 = omega arith in
-    drop_more hex at 0 (omega arith) ∙ ap (λ l. get_or hex at 0 ∷ l) (drop_more hex (at + 1) 0 lt) ∙ ap (λ k. get_or hex at 0 ∷ get_or hex (at + 1) 0 ∷ drop k hex) two
+    drop_more hex at 0 (omega arith) ∙ ap (λ l. get_or hex at 0 ∷ l) (drop_more hex (at + 1) 0 lt)
+    ∙ ap (λ k. get_or hex at 0 ∷ get_or hex (at + 1) 0 ∷ drop k hex) two
 
-pub bytes-next : (hex so_far : List ℕ) (at byte : ℕ) → at + 1 < length hex → BytesFrom hex so_far at → hex_byte (get_or hex at 0) (get_or hex (at + 1) 0) ≡ Some byte → BytesFrom hex (so_far ++ byte ∷ []) (at + 2)
+pub bytes-next : (hex so_far : List ℕ) (at byte : ℕ) → at + 1 < length hex → BytesFrom hex so_far at
+    → hex_byte (get_or hex at 0) (get_or hex (at + 1) 0) ≡ Some byte → BytesFrom hex (so_far ++ byte ∷ []) (at + 2)
 bytes-next hex so_far at byte lt h e =
     h ∙ ap (λ l. option_map (λ more. so_far ++ more) (bytes_of l)) (two-more hex at lt)
     ∙ ap (λ o. option_map (λ more. so_far ++ more) (option_and_then (λ byte. option_map (λ bytes. byte ∷ bytes) (bytes_of (drop (at + 2) hex))) o)) e
     ∙ bytes-onto so_far byte (bytes_of (drop (at + 2) hex))
 
-pub bytes-other : (hex so_far : List ℕ) (at : ℕ) → at + 1 < length hex → BytesFrom hex so_far at → hex_byte (get_or hex at 0) (get_or hex (at + 1) 0) ≡ None → bytes_of hex ≡ None
+pub bytes-other : (hex so_far : List ℕ) (at : ℕ) → at + 1 < length hex → BytesFrom hex so_far at → hex_byte (get_or hex at 0) (get_or hex (at + 1) 0) ≡ None
+    → bytes_of hex ≡ None
 bytes-other hex so_far at lt h e =
     h ∙ ap (λ l. option_map (λ more. so_far ++ more) (bytes_of l)) (two-more hex at lt)
     ∙ ap (λ o. option_map (λ more. so_far ++ more) (option_and_then (λ byte. option_map (λ bytes. byte ∷ bytes) (bytes_of (drop (at + 2) hex))) o)) e
 
 pub bytes-whole : (hex so_far : List ℕ) (at : ℕ) → at ≡ length hex → BytesFrom hex so_far at → bytes_of hex ≡ Some so_far
-bytes-whole hex so_far at e h = h ∙ ap (λ l. option_map (λ more. so_far ++ more) (bytes_of l)) (drop_all at hex (omega (arith, e))) ∙ ap Some (append-nil so_far)
+bytes-whole hex so_far at e h = h ∙ ap (λ l. option_map (λ more. so_far ++ more) (bytes_of l)) (drop_all at hex (omega (arith, e)))
+    ∙ ap Some (append-nil so_far)
 
 pub bytes-odd : (hex so_far : List ℕ) (at : ℕ) → at ≤ length hex → length hex ≤ at + 1 → (at ≡ length hex → ⊥) → BytesFrom hex so_far at → bytes_of hex ≡ None
 bytes-odd hex so_far at within most other h =
     let lt : at < length hex = omega (arith, within, other) in
-    h ∙ ap (λ l. option_map (λ more. so_far ++ more) (bytes_of l)) (drop_more hex at 0 lt ∙ ap (λ l. get_or hex at 0 ∷ l) (drop_all (at + 1) hex (omega (arith, most))))
+    h ∙ ap (λ l. option_map (λ more. so_far ++ more) (bytes_of l)) (drop_more hex at 0 lt
+    ∙ ap (λ l. get_or hex at 0 ∷ l) (drop_all (at + 1) hex (omega (arith, most))))
 
 -- ---- labels of verifications
 
-pub verif-parts : (text : List ℕ) (w : VerifWords) (x : Label) → verif_words text ≡ Some w → verif_of text ≡ Some x → (bs : List ℕ) × (bytes_of w.hex ≡ Some bs) × (label_with w bs ≡ x)
+pub verif-parts : (text : List ℕ) (w : VerifWords) (x : Label) → verif_words text ≡ Some w → verif_of text ≡ Some x → (bs : List ℕ) × (bytes_of w.hex ≡ Some bs)
+    × (label_with w bs ≡ x)
 verif-parts text w x e h = map-some (label_with w) (bytes_of w.hex) x (sym (ap (option_and_then verif_with) e) ∙ h)
 
-pub verif-number : (text : List ℕ) (w : VerifWords) (x : Label) → verif_words text ≡ Some w → verif_of text ≡ Some x → IsRightVerif x → AreDigits w.number × (length w.number ≤ 9)
+pub verif-number : (text : List ℕ) (w : VerifWords) (x : Label) → verif_words text ≡ Some w → verif_of text ≡ Some x → IsRightVerif x
+    → AreDigits w.number × (length w.number ≤ 9)
 verif-number text w x e h r =
     let k = verif-parts text w x e h in
     let r' = subst IsRightVerif (sym k.2) r in
@@ -158,19 +172,22 @@ verif-error text w x e h r =
     let r' = subst IsRightVerif (sym k.2) r in
     r'.0.2
 
-pub verif-bytes : (text : List ℕ) (w : VerifWords) (x : Label) → verif_words text ≡ Some w → verif_of text ≡ Some x → IsRightVerif x → (bs : List ℕ) × (bytes_of w.hex ≡ Some bs) × (bs ≢ [])
+pub verif-bytes : (text : List ℕ) (w : VerifWords) (x : Label) → verif_words text ≡ Some w → verif_of text ≡ Some x → IsRightVerif x
+    → (bs : List ℕ) × (bytes_of w.hex ≡ Some bs) × (bs ≢ [])
 verif-bytes text w x e h r =
     let k = verif-parts text w x e h in
     let r' = subst IsRightVerif (sym k.2) r in
     (k.0, k.1, r'.0.3)
 
-pub verif-made : (text bs : List ℕ) (w : VerifWords) (x : Label) → verif_words text ≡ Some w → bytes_of w.hex ≡ Some bs → x ≡ label_with w bs → AreDigits w.number × (length w.number ≤ 9) → IsPlainName w.error → bs ≢ [] → (verif_of text ≡ Some x) × IsRightVerif x
+pub verif-made : (text bs : List ℕ) (w : VerifWords) (x : Label) → verif_words text ≡ Some w → bytes_of w.hex ≡ Some bs → x ≡ label_with w bs
+    → AreDigits w.number × (length w.number ≤ 9) → IsPlainName w.error → bs ≢ [] → (verif_of text ≡ Some x) × IsRightVerif x
 verif-made text bs w x e f is number error some =
     subst (λ l. (verif_of text ≡ Some l) × IsRightVerif l) (sym is)
     (ap (option_and_then verif_with) e ∙ ap (option_map (label_with w)) f, ((number.0, number.1, error, some), (bytes-sound w.hex bs f).1))
 
 -- what is no verification is no label after `verif`
-pub verif-none : (line kind text : List ℕ) → label_words line ≡ Some (kind, text) → bytes_eq kind (codes "driver") ≡ false → not (bytes_eq kind (codes "verif")) ≡ false → IsRead verif_of IsRightVerif text None → IsRead label_of IsRightLabel line None
+pub verif-none : (line kind text : List ℕ) → label_words line ≡ Some (kind, text) → bytes_eq kind (codes "driver") ≡ false
+    → not (bytes_eq kind (codes "verif")) ≡ false → IsRead verif_of IsRightVerif text None → IsRead label_of IsRightLabel line None
 verif-none line kind text e d v other x h r =
     let is : bytes_eq kind (codes "verif") ≡ true = not-false (bytes_eq kind (codes "verif")) v in
     let same : label_of line ≡ option_map Verif (verif_of text) =

@@ -164,8 +164,10 @@ ReadsUnwritten d rest = (i : Instr) × (behind : List ℕ) × (rest ≡ instr_li
 -- `mcode 1`, or a later one reads before it is written, or is another that can't come there. Running out of memory is none.
 abbrev pub IsCodeFault : List ℕ → CodeFault → Type 0
 IsCodeFault bytes BadHeader = Stops bytes [] bytes
-IsCodeFault bytes (BadLine n) = (entries : List Entry) × (rest : List ℕ) × Stops bytes entries rest × (entries ≢ []) × (n ≡ suc (length entries)) × (ReadsUnwritten (draft_of entries) rest → ⊥)
-IsCodeFault bytes (BadOrder n) = (entries : List Entry) × (rest : List ℕ) × Stops bytes entries rest × (n ≡ suc (length entries)) × ReadsUnwritten (draft_of entries) rest
+IsCodeFault bytes (BadLine n) = (entries : List Entry) × (rest : List ℕ) × Stops bytes entries rest × (entries ≢ []) × (n ≡ suc (length entries))
+    × (ReadsUnwritten (draft_of entries) rest → ⊥)
+IsCodeFault bytes (BadOrder n) = (entries : List Entry) × (rest : List ℕ) × Stops bytes entries rest × (n ≡ suc (length entries))
+    × ReadsUnwritten (draft_of entries) rest
 IsCodeFault bytes Memory = ⊥
 
 -- ---- the form

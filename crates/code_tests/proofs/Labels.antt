@@ -11,7 +11,8 @@ all_below : (n : ℕ) (checks : List Check) → ((j : ℕ) → j < length checks
 all_below n [] each = tt
 all_below n (check ∷ checks) each = (each 0 (omega arith), all_below n checks (λ j h. each (suc j) (omega arith)))
 
-pub labels_below : (n : ℕ) (old new : List Check) → AllByRecursion (λ check. check.label < n) old → HaveLabelsOf old new → AllByRecursion (λ check. check.label < n) new
+pub labels_below : (n : ℕ) (old new : List Check) → AllByRecursion (λ check. check.label < n) old → HaveLabelsOf old new
+    → AllByRecursion (λ check. check.label < n) new
 labels_below n old new all labels =
     all_below n new (λ j h.
     let w = labels j h in

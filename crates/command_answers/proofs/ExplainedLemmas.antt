@@ -39,7 +39,8 @@ same_start : (declared : Declared) (inputs : List Value) → start_env declared 
 same_start declared inputs = same_from inputs 0 declared.variables
 
 -- the reasons along an order are told of a source
-pub is_explained : (source : Source) (declared : Declared) (ordered : Ordered) → HasRules source declared ordered.base → IsValidBase ordered.base → IsOrder ordered.base ordered.sequence
+pub is_explained : (source : Source) (declared : Declared) (ordered : Ordered) → HasRules source declared ordered.base → IsValidBase ordered.base
+    → IsOrder ordered.base ordered.sequence
     → IsExplained source (explains_by declared ordered)
 is_explained source declared ordered rules valid order = record {
   declared = declared;
@@ -55,4 +56,5 @@ pub as_many_inputs : (source : Source) (program : Program) (declared : Declared)
     → length program.face.inputs ≡ length (inputs_from 0 declared.variables)
 as_many_inputs source program declared base is rules =
     let same = (one_rules source is.valid.declared declared is.valid.base base is.valid.valid.rules rules).0 in
-    ap length is.shows.inputs ∙ ap (λ (s : Scheme). length s.inputs) is.valid.stated ∙ many_inputs is.valid.declared ∙ ap (λ (d : Declared). length (inputs_from 0 d.variables)) same
+    ap length is.shows.inputs ∙ ap (λ (s : Scheme). length s.inputs) is.valid.stated ∙ many_inputs is.valid.declared
+    ∙ ap (λ (d : Declared). length (inputs_from 0 d.variables)) same

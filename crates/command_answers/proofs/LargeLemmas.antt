@@ -36,12 +36,14 @@ only_memory (source.Requests f) h = absurd (h (λ e. cc))
 only_memory (source.DriverTooLarge w) h = absurd (h (λ e. cc))
 only_memory source.Memory h = refl
 
-pub without_code_only : (n : ℕ) → 1 ≤ n → n ≤ 100000 → (fault : SourceFault) → (fault ≢ source.Memory → IsSourceFault (large_source n) fault) → fault ≡ source.Memory
+pub without_code_only : (n : ℕ) → 1 ≤ n → n ≤ 100000 → (fault : SourceFault) → (fault ≢ source.Memory → IsSourceFault (large_source n) fault)
+    → fault ≡ source.Memory
 without_code_only n some few fault h = only_memory fault (λ other. no_fault n some few fault (h other))
 
 -- ---- what the household gives
 
-given : (n : ℕ) → 1 ≤ n → n ≤ 100000 → (scheme : Scheme) → IsScheme (large_source n) scheme → (pairs : List (ℕ × ℤ)) × (household_of scheme.inputs (household_text n) ≡ Ok pairs)
+given : (n : ℕ) → 1 ≤ n → n ≤ 100000 → (scheme : Scheme) → IsScheme (large_source n) scheme
+    → (pairs : List (ℕ × ℤ)) × (household_of scheme.inputs (household_text n) ≡ Ok pairs)
 given n some few scheme v =
     let is = is_valid n some few in
     let same = one_validity (large_source n) is.declared v.declared is.base v.base None v.written is.requests v.requests is.valid v.valid in

@@ -40,7 +40,8 @@ declarations_within (suc k) h =
 
 rule_within : (number k j : ℕ) → number < 1000000 → k < 100000 → j < 100000 → length (rule number k j) ≤ 79
 rule_within number k j a b c =
-    let e : length (rule number k j) ≡ 6 + (length (decimal number) + (24 + (1 + (1 + (length (decimal k) + (11 + (length (decimal k) + (12 + (length (decimal j) + (2 + (1 + 0))))))))))) =
+    let e : length (rule number k j) ≡ 6 + (length (decimal number) +
+    (24 + (1 + (1 + (length (decimal k) + (11 + (length (decimal k) + (12 + (length (decimal j) + (2 + (1 + 0))))))))))) =
     length-joined (codes "regle " ∷ decimal number ∷ codes " : application : iliad ;" ∷ new_line
     ∷ codes "T" ∷ decimal k ∷ codes " = max(0, R" ∷ decimal k ∷ codes " - 1000) + T" ∷ decimal j ∷ codes " ;" ∷ new_line ∷ []) in
     omega (arith, e, six number a, five k b, five j c)
@@ -75,4 +76,8 @@ requests_within n few =
     omega (arith, e, digits)
 
 pub large_within : (n : ℕ) → 1 ≤ n → n ≤ 100000 → SourceKeepsLimits (large_source n)
-large_within n some few = record { texts = record { few = omega arith; each = (base_within n some few, tt); total = omega (arith, base_within n some few) }; driver = tt; requests = requests_within n few }
+large_within n some few = record {
+  texts = record { few = omega arith; each = (base_within n some few, tt); total = omega (arith, base_within n some few) };
+  driver = tt;
+  requests = requests_within n few;
+}

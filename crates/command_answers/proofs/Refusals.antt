@@ -14,18 +14,24 @@ use Rattle.command_answers.specs.Sources.{Refuses, source_is_refused}
 use Rattle.code_answers.specs.inner.Refusals.{ReportsLine}
 use Rattle.code_answers.proofs.Refusals.{ReportsRefusal, reported_either}
 
-reported_by_line : (s : Source) {Given : Type 0} (stated : List Coded → Result Given HouseholdFault) (fault : SourceFault) (found : Option (List ℕ)) (old new : OutputView) (status : Status)
-    → (fault ≢ source.Memory → IsSourceFault s fault) → source_line s.texts fault ≡ found → ReportsLine found old new status → ReportsRefusal (Refuses s stated) old new status
+reported_by_line : (s : Source) {Given : Type 0} (stated : List Coded → Result Given HouseholdFault) (fault : SourceFault) (found : Option (List ℕ))
+    (old new : OutputView) (status : Status)
+    → (fault ≢ source.Memory → IsSourceFault s fault) → source_line s.texts fault ≡ found → ReportsLine found old new status
+    → ReportsRefusal (Refuses s stated) old new status
 reported_by_line s stated fault None old new status h is reported = inr reported
 reported_by_line s stated fault (Some line) old new status h is reported =
     inl (line, source_is_refused fault (h (λ m. let none : source_line s.texts fault ≡ None = ap (source_line s.texts) m in cc (none, is))) is, reported)
 
 -- a source was refused
-pub source_reported : (s : Source) {Given : Type 0} (stated : List Coded → Result Given HouseholdFault) (fault : SourceFault) (old new : OutputView) (status : Status)
-    → (fault ≢ source.Memory → IsSourceFault s fault) → ReportsLine (source_line s.texts fault) old new status → ReportsRefusal (Refuses s stated) old new status
+pub source_reported : (s : Source) {Given : Type 0} (stated : List Coded → Result Given HouseholdFault) (fault : SourceFault) (old new : OutputView)
+    (status : Status)
+    → (fault ≢ source.Memory → IsSourceFault s fault) → ReportsLine (source_line s.texts fault) old new status
+    → ReportsRefusal (Refuses s stated) old new status
 source_reported s stated fault old new status h reported = reported_by_line s stated fault (source_line s.texts fault) old new status h refl reported
 
 -- a source was refused by a fault
 pub fault_reported : (s : Source) (fault : SourceFault) (old new : OutputView) (status : Status) → (fault ≢ source.Memory → IsSourceFault s fault)
-    → ReportsLine (source_line s.texts fault) old new status → ReportsRefusal (λ line. IsSourceFault s fault × (source_line s.texts fault ≡ Some line)) old new status
-fault_reported s fault old new status h reported = reported_either (source_line s.texts fault) (source_line s.texts fault) old new status refl h (λ m. ap (source_line s.texts) m) reported
+    → ReportsLine (source_line s.texts fault) old new status → ReportsRefusal (λ line. IsSourceFault s fault × (source_line s.texts fault ≡ Some line)) old new
+    status
+fault_reported s fault old new status h reported = reported_either (source_line s.texts fault) (source_line s.texts fault) old new status refl h
+    (λ m. ap (source_line s.texts) m) reported

@@ -41,17 +41,21 @@ same_values inputs one other values bad = refl
 -- one line more, where the replies to further lines are the same
 same_turn : (inputs : List Coded) (one other : List Value → List ℕ) (explains : Explaining) (first : List ℕ) (lines : List (List ℕ))
     → ((values : List Value) → AreValuesOf inputs values → one values ≡ other values)
-    → ((values : List Value) → AreValuesOf inputs values → explained_replies (with_text inputs one) explains values lines ≡ explained_replies (with_text inputs other) explains values lines)
+    → ((values : List Value) → AreValuesOf inputs values → explained_replies (with_text inputs one) explains values lines ≡ explained_replies
+    (with_text inputs other) explains values lines)
     → (values : List Value) → AreValuesOf inputs values → (wanted : Option (List ℕ))
-    → requested_replies (with_text inputs one) explains values first lines wanted ≡ requested_replies (with_text inputs other) explains values first lines wanted
+    → requested_replies (with_text inputs one) explains values first lines wanted ≡ requested_replies (with_text inputs other) explains values first lines
+    wanted
 same_turn inputs one other explains first lines same rest values all (Some name) = ap (λ text. explains values name ++ text) (rest values all)
 same_turn inputs one other explains first lines same rest values all None =
-    ap (λ reply. reply ++ explained_replies (with_text inputs one) explains (command_values (with_text inputs one) values (session_command first)) lines) (same_reply inputs one other values (session_command first) (same values all))
+    ap (λ reply. reply ++ explained_replies (with_text inputs one) explains (command_values (with_text inputs one) values (session_command first)) lines)
+    (same_reply inputs one other values (session_command first) (same values all))
     ∙ ap (λ text. command_reply (with_text inputs other) values (session_command first) ++ text)
     (rest (command_values (with_text inputs one) values (session_command first)) (command_keeps (with_text inputs one) values (session_command first) all)
     ∙ ap (λ vs. explained_replies (with_text inputs other) explains vs lines) (same_values inputs one other values (session_command first)))
 
-same_lines : (inputs : List Coded) (one other : List Value → List ℕ) (explains : Explaining) → ((values : List Value) → AreValuesOf inputs values → one values ≡ other values)
+same_lines : (inputs : List Coded) (one other : List Value → List ℕ) (explains : Explaining)
+    → ((values : List Value) → AreValuesOf inputs values → one values ≡ other values)
     → (lines : List (List ℕ)) (values : List Value) → AreValuesOf inputs values
     → explained_replies (with_text inputs one) explains values lines ≡ explained_replies (with_text inputs other) explains values lines
 same_lines inputs one other explains same [] values all = refl
@@ -59,10 +63,13 @@ same_lines inputs one other explains same (first ∷ lines) values all =
     same_turn inputs one other explains first lines same (λ vs h. same_lines inputs one other explains same lines vs h) values all (why_name first)
 
 -- the replies to lines
-pub replies_are : (one other : Showing) (explains : Explaining) → one.inputs ≡ other.inputs → ((values : List Value) → AreValuesOf other.inputs values → one.text values ≡ other.text values)
-    → (lines : List (List ℕ)) (values : List Value) → AreValuesOf other.inputs values → explained_replies one explains values lines ≡ explained_replies other explains values lines
+pub replies_are : (one other : Showing) (explains : Explaining) → one.inputs ≡ other.inputs
+    → ((values : List Value) → AreValuesOf other.inputs values → one.text values ≡ other.text values)
+    → (lines : List (List ℕ)) (values : List Value) → AreValuesOf other.inputs values
+    → explained_replies one explains values lines ≡ explained_replies other explains values lines
 replies_are one other explains known same lines values all =
-    ap (λ inputs. explained_replies (with_text inputs one.text) explains values lines) known ∙ same_lines other.inputs one.text other.text explains same lines values all
+    ap (λ inputs. explained_replies (with_text inputs one.text) explains values lines) known
+    ∙ same_lines other.inputs one.text other.text explains same lines values all
 
 -- ---- what is replied to a prefix of an input
 

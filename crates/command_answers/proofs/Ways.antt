@@ -68,38 +68,46 @@ use Rattle.code_answers.proofs.Ways.{answered_as, parts_as}
 
 -- ---- runs
 
-pub run_refused : (source : Source) (rows : List ℕ) (old new : OutputView) (status : Status) → ReportsRefusal (Refuses source (λ inputs. household_of inputs rows)) old new status
+pub run_refused : (source : Source) (rows : List ℕ) (old new : OutputView) (status : Status)
+    → ReportsRefusal (Refuses source (λ inputs. household_of inputs rows)) old new status
     → IsAnswered (RunReplies source rows) old new status
 run_refused source rows old new status (inl (line, refused, shown)) = printed line Refused (run.is_refused refused) tt shown
 run_refused source rows old new status (inr (same, memory)) = no_memory same memory
 
-run_as : (source : Source) (scheme : Scheme) (rows : List ℕ) → IsScheme source scheme → (text : List ℕ) (own : Status) → HouseholdReplies [] scheme rows text own → RunReplies source rows text own
+run_as : (source : Source) (scheme : Scheme) (rows : List ℕ) → IsScheme source scheme → (text : List ℕ) (own : Status)
+    → HouseholdReplies [] scheme rows text own → RunReplies source rows text own
 run_as source scheme rows valid text own (households.is_refused fault faulty line) = run.is_refused (households_are_refused scheme fault valid faulty line)
 run_as source scheme rows valid text own (households.is_reported pairs given) = run.is_reported scheme pairs valid given
 
 pub run_answered : (source : Source) (loaded : Loaded) (rows : List ℕ) (old new : OutputView) (status : Status) → (is : IsPreparedCode source loaded)
     → IsAnswered (HouseholdReplies [] is.scheme rows) old new status → IsAnswered (RunReplies source rows) old new status
-run_answered source loaded rows old new status is a = answered_as (HouseholdReplies [] is.scheme rows) (RunReplies source rows) old new status (run_as source is.scheme rows is.valid) a
+run_answered source loaded rows old new status is a = answered_as (HouseholdReplies [] is.scheme rows) (RunReplies source rows) old new status
+    (run_as source is.scheme rows is.valid) a
 
 -- ---- batches
 
-pub batch_refused : (source : Source) (table : List ℕ) (old new : OutputView) (status : Status) → ReportsRefusal (Refuses source (λ inputs. table_of inputs table)) old new status
+pub batch_refused : (source : Source) (table : List ℕ) (old new : OutputView) (status : Status)
+    → ReportsRefusal (Refuses source (λ inputs. table_of inputs table)) old new status
     → IsWrittenInParts (BatchReplies source table) old new status
 batch_refused source table old new status (inl (line, refused, shown)) = parts.printed line Refused (batch.is_refused refused) tt shown
 batch_refused source table old new status (inr (same, memory)) = parts.no_memory same memory
 
-table_as : (source : Source) (scheme : Scheme) (table : List ℕ) → IsScheme source scheme → (text : List ℕ) (own : Status) → TableReplies scheme table text own → BatchReplies source table text own
-table_as source scheme table valid text own (households.table_is_refused fault faulty line) = batch.is_refused (households_are_refused scheme fault valid faulty line)
+table_as : (source : Source) (scheme : Scheme) (table : List ℕ) → IsScheme source scheme → (text : List ℕ) (own : Status) → TableReplies scheme table text own
+    → BatchReplies source table text own
+table_as source scheme table valid text own (households.table_is_refused fault faulty line) = batch.is_refused
+    (households_are_refused scheme fault valid faulty line)
 table_as source scheme table valid text own (households.rows_are_answered rows given) = batch.is_reported scheme rows valid given
 
 pub batch_answered : (source : Source) (loaded : Loaded) (table : List ℕ) (old new : OutputView) (status : Status) → (is : IsPreparedCode source loaded)
     → IsWrittenInParts (TableReplies is.scheme table) old new status → IsWrittenInParts (BatchReplies source table) old new status
-batch_answered source loaded table old new status is a = parts_as (TableReplies is.scheme table) (BatchReplies source table) old new status (table_as source is.scheme table is.valid) a
+batch_answered source loaded table old new status is a = parts_as (TableReplies is.scheme table) (BatchReplies source table) old new status
+    (table_as source is.scheme table is.valid) a
 
 -- ---- cases
 
 pub cases_refused : (source : Source) (table : List ℕ) (fault : SourceFault) (old new : OutputView) (status : Status)
-    → ReportsRefusal (λ line. IsSourceFault source fault × (source_line source.texts fault ≡ Some line)) old new status → IsWrittenInParts (CasesReplies source table) old new status
+    → ReportsRefusal (λ line. IsSourceFault source fault × (source_line source.texts fault ≡ Some line)) old new status
+    → IsWrittenInParts (CasesReplies source table) old new status
 cases_refused source table fault old new status (inl (line, is, shown)) = parts.printed line Refused (cases.source_is_refused fault is.0 is.1) tt shown
 cases_refused source table fault old new status (inr (same, memory)) = parts.no_memory same memory
 
@@ -110,26 +118,32 @@ cases_answered source loaded table old new status is a =
 
 -- ---- sessions
 
-pub serve_refused : (source : Source) (rows : List ℕ) (heard : InputView) (old new : OutputView) (status : Status) → ReportsRefusal (Refuses source (λ inputs. household_of inputs rows)) old new status
+pub serve_refused : (source : Source) (rows : List ℕ) (heard : InputView) (old new : OutputView) (status : Status)
+    → ReportsRefusal (Refuses source (λ inputs. household_of inputs rows)) old new status
     → IsServed source rows heard heard old new status
 serve_refused source rows heard old new status (inl (line, refused, shown)) = serve.refused line refused refl shown
 serve_refused source rows heard old new status (inr (same, memory)) = serve.no_memory refl same memory
 
-pub session_refused : (scheme : Scheme) (explains : Explaining) (face : Face) (runs : List Value → Answer) (rows : List ℕ) (fault : HouseholdFault) (heard : InputView) (old new : OutputView) (status : Status) → Shows scheme face runs
+pub session_refused : (scheme : Scheme) (explains : Explaining) (face : Face) (runs : List Value → Answer) (rows : List ℕ) (fault : HouseholdFault)
+    (heard : InputView) (old new : OutputView) (status : Status) → Shows scheme face runs
     → ReportsRefusal (λ line. (household_of face.inputs rows ≡ Err fault) × (household_fault_line fault ≡ Some line)) old new status
     → IsServedBy scheme explains rows heard heard old new status
 session_refused scheme explains face runs rows fault heard old new status shown (inl (line, refused, p)) =
     prepared.refused line fault (subst (λ inputs. household_of inputs rows ≡ Err fault) shown.inputs refused.0) refused.1 refl p
 session_refused scheme explains face runs rows fault heard old new status shown (inr (same, memory)) = prepared.no_memory refl same memory
 
-pub serve_answered : (source : Source) (program : Program) (rows : List ℕ) (heard reported : InputView) (old new : OutputView) (status : Status) (explains : Explaining) → (is : IsPrepared source program) → IsExplained source explains
+pub serve_answered : (source : Source) (program : Program) (rows : List ℕ) (heard reported : InputView) (old new : OutputView) (status : Status)
+    (explains : Explaining) → (is : IsPrepared source program) → IsExplained source explains
     → IsServedBy is.scheme explains rows heard reported old new status → IsServed source rows heard reported old new status
-serve_answered source program rows heard reported old new status explains is reasons (prepared.refused line fault faulty stated same p) = serve.refused line (households_are_refused is.scheme fault is.valid faulty stated) same p
+serve_answered source program rows heard reported old new status explains is reasons (prepared.refused line fault faulty stated same p) = serve.refused line
+    (households_are_refused is.scheme fault is.valid faulty stated) same p
 serve_answered source program rows heard reported old new status explains is reasons (prepared.no_memory same none memory) = serve.no_memory same none memory
-serve_answered source program rows heard reported old new status explains is reasons (prepared.served pairs given s) = serve.served is.scheme explains pairs (record { valid = is.valid; explained = reasons; given = given }) s
+serve_answered source program rows heard reported old new status explains is reasons (prepared.served pairs given s) = serve.served is.scheme explains pairs
+    (record { valid = is.valid; explained = reasons; given = given }) s
 
 -- the same replies
-served_as : (one ended other also : List ℕ → List ℕ) (heard reported : InputView) (old new : OutputView) (status : Status) → ((bytes : List ℕ) → one bytes ≡ other bytes) → ((bytes : List ℕ) → ended bytes ≡ also bytes)
+served_as : (one ended other also : List ℕ → List ℕ) (heard reported : InputView) (old new : OutputView) (status : Status)
+    → ((bytes : List ℕ) → one bytes ≡ other bytes) → ((bytes : List ℕ) → ended bytes ≡ also bytes)
     → Served one ended heard reported old new status → Served other also heard reported old new status
 served_as one ended other also heard reported old new status w e (to_its_end taken moved few none calm appends is) =
     to_its_end taken moved few none calm (subst (λ text. Appends text old new) (w taken) appends) is
@@ -143,28 +157,36 @@ served_as one ended other also heard reported old new status w e (unwritten_at_e
     unwritten_at_end taken moved few none calm (subst (λ text. Breaks text old new) (w taken) breaks) is
 
 -- what a session of a program replies is what its scheme says
-same_replies : (scheme : Scheme) (program : Program) (rows : List ℕ) (session : Sitting) (explains : Explaining) → IsRunnable program.face program.tidy → Shows scheme program.face (flat_run program.tidy)
+same_replies : (scheme : Scheme) (program : Program) (rows : List ℕ) (session : Sitting) (explains : Explaining) → IsRunnable program.face program.tidy
+    → Shows scheme program.face (flat_run program.tidy)
     → (of : IsBegun program rows session) → household_of scheme.inputs rows ≡ Ok of.pairs → (lines : List (List ℕ))
     → explained_replies (showing_of session) explains session.values lines ≡ replies_by scheme explains of.pairs lines
 same_replies scheme program rows session explains runs shown of given lines =
     ap (λ (sitting : Sitting). explained_replies (showing_of sitting) explains sitting.values lines) of.begins
-    ∙ ap (λ n. explained_replies (showing_of (begun program.tidy program.face of.pairs)) explains (values_of of.pairs n) lines) (sym runs.shown.inputs ∙ as_many scheme program.face (flat_run program.tidy) shown)
-    ∙ replies_are (showing_of (begun program.tidy program.face of.pairs)) (scheme_showing scheme) explains shown.inputs (λ vs all. lines_reported scheme program.face (flat_run program.tidy) vs shown all)
+    ∙ ap (λ n. explained_replies (showing_of (begun program.tidy program.face of.pairs)) explains (values_of of.pairs n) lines) (sym runs.shown.inputs
+    ∙ as_many scheme program.face (flat_run program.tidy) shown)
+    ∙ replies_are (showing_of (begun program.tidy program.face of.pairs)) (scheme_showing scheme) explains shown.inputs
+    (λ vs all. lines_reported scheme program.face (flat_run program.tidy) vs shown all)
     lines (values_of of.pairs (length scheme.inputs)) (household_gives scheme.inputs rows of.pairs given)
 
-joined_same : (scheme : Scheme) (program : Program) (declared : Declared) (ordered : Ordered) (rows : List ℕ) (joined : Joined) → IsRunnable program.face program.tidy
-    → Shows scheme program.face (flat_run program.tidy) → (of : IsExplainerOf program declared ordered rows joined) → household_of scheme.inputs rows ≡ Ok of.session.pairs → (lines : List (List ℕ))
+joined_same : (scheme : Scheme) (program : Program) (declared : Declared) (ordered : Ordered) (rows : List ℕ) (joined : Joined)
+    → IsRunnable program.face program.tidy
+    → Shows scheme program.face (flat_run program.tidy) → (of : IsExplainerOf program declared ordered rows joined)
+    → household_of scheme.inputs rows ≡ Ok of.session.pairs → (lines : List (List ℕ))
     → joined_replies joined lines ≡ replies_by scheme (explains_by declared ordered) of.session.pairs lines
 joined_same scheme program declared ordered rows joined runs shown of given lines =
     (λ i. explained_replies (showing_of joined.seated.sitting) (explains_by (of.declares i) (of.orders i)) joined.seated.sitting.values lines)
     ∙ same_replies scheme program rows joined.seated.sitting (explains_by declared ordered) runs shown of.session given lines
 
-pub session_served : (scheme : Scheme) (program : Program) (declared : Declared) (ordered : Ordered) (rows : List ℕ) (joined : Joined) → IsRunnable program.face program.tidy
+pub session_served : (scheme : Scheme) (program : Program) (declared : Declared) (ordered : Ordered) (rows : List ℕ) (joined : Joined)
+    → IsRunnable program.face program.tidy
     → Shows scheme program.face (flat_run program.tidy) → (of : IsExplainerOf program declared ordered rows joined)
     → (heard reported : InputView) (old new : OutputView) (status : Status)
-    → Served (whole_of (joined_replies joined)) (ended_of (joined_replies joined)) heard reported old new status → IsServedBy scheme (explains_by declared ordered) rows heard reported old new status
+    → Served (whole_of (joined_replies joined)) (ended_of (joined_replies joined)) heard reported old new status
+    → IsServedBy scheme (explains_by declared ordered) rows heard reported old new status
 session_served scheme program declared ordered rows joined runs shown of heard reported old new status done =
-    let given : household_of scheme.inputs rows ≡ Ok of.session.pairs = subst (λ inputs. household_of inputs rows ≡ Ok of.session.pairs) shown.inputs of.session.given in
+    let given : household_of scheme.inputs rows ≡ Ok of.session.pairs = subst (λ inputs. household_of inputs rows ≡ Ok of.session.pairs) shown.inputs
+    of.session.given in
     prepared.served of.session.pairs given
     (served_as (whole_of (joined_replies joined)) (ended_of (joined_replies joined)) (session_replies scheme (explains_by declared ordered) of.session.pairs)
     (ended_replies scheme (explains_by declared ordered) of.session.pairs)
@@ -181,16 +203,19 @@ valid_of : (source : Source) (compiled : Compiled) → (is : IsCompiled source c
 valid_of source compiled is = record { declared = is.declared; base = is.base; written = is.written; requests = is.requests; valid = is.valid; stated = refl }
 
 -- what has the answers of the tidy program shows it
-shows_of : (source : Source) (compiled : Compiled) → (is : IsCompiled source compiled) → (runs : List Value → Answer) → ((vs : List Value) → runs vs ≡ flat_run compiled.tidy vs)
+shows_of : (source : Source) (compiled : Compiled) → (is : IsCompiled source compiled) → (runs : List Value → Answer)
+    → ((vs : List Value) → runs vs ≡ flat_run compiled.tidy vs)
     → Shows (scheme_of source compiled is) compiled.face runs
 shows_of source compiled is runs same = record {
   inputs = is.inputs;
   names = is.names;
-  answers = λ vs all. ap (observation compiled.face.labels (notes_of compiled.face.outputs)) (same vs) ∙ is.answers vs (subst (λ inputs. AreValuesOf inputs vs) (sym is.inputs) all);
+  answers = λ vs all. ap (observation compiled.face.labels (notes_of compiled.face.outputs)) (same vs)
+      ∙ is.answers vs (subst (λ inputs. AreValuesOf inputs vs) (sym is.inputs) all);
 }
 
 -- what a source is compiled to is prepared
-pub is_prepared : (source : Source) (compiled : Compiled) → IsCompiled source compiled → IsPrepared source (record { face = compiled.face; tidy = compiled.tidy })
+pub is_prepared : (source : Source) (compiled : Compiled) → IsCompiled source compiled
+    → IsPrepared source (record { face = compiled.face; tidy = compiled.tidy })
 is_prepared source compiled is = record {
   scheme = scheme_of source compiled is;
   valid = valid_of source compiled is;
@@ -198,7 +223,8 @@ is_prepared source compiled is = record {
 }
 
 -- and so is its code
-pub is_prepared_code : (source : Source) (compiled : Compiled) (loaded : Loaded) → loaded.code ≡ compiled.code → loaded.face ≡ compiled.face → IsCompiled source compiled → IsPreparedCode source loaded
+pub is_prepared_code : (source : Source) (compiled : Compiled) (loaded : Loaded) → loaded.code ≡ compiled.code → loaded.face ≡ compiled.face
+    → IsCompiled source compiled → IsPreparedCode source loaded
 is_prepared_code source compiled loaded same_code same_face is =
     let whole : IsCompiled source (record { face = loaded.face; tidy = compiled.tidy; code = loaded.code }) = rw (same_code, same_face) is in
     record {
@@ -210,7 +236,8 @@ is_prepared_code source compiled loaded same_code same_face is =
           (λ vs. run-is-flat_run loaded.code compiled.tidy vs whole.allocated.flow);
     }
 
-pub is_runnable_code : (source : Source) (compiled : Compiled) (loaded : Loaded) → loaded.code ≡ compiled.code → loaded.face ≡ compiled.face → IsCompiled source compiled → IsRunnableCode loaded
+pub is_runnable_code : (source : Source) (compiled : Compiled) (loaded : Loaded) → loaded.code ≡ compiled.code → loaded.face ≡ compiled.face
+    → IsCompiled source compiled → IsRunnableCode loaded
 is_runnable_code source compiled loaded same_code same_face is = record {
   whole = ap code_fault same_code ∙ spells_whole compiled.code compiled.tidy is.allocated.flow;
   distinct = subst (λ (face : Face). AreDistinct (codes_of face.inputs)) (sym same_face) is.runnable.distinct;
@@ -218,12 +245,14 @@ is_runnable_code source compiled loaded same_code same_face is = record {
 
 -- ---- code files that are written
 
-pub compile_refused : (source : Source) (fault : SourceFault) (old new : OutputView) (status : Status) → ReportsRefusal (λ line. IsSourceFault source fault × (source_line source.texts fault ≡ Some line)) old new status
+pub compile_refused : (source : Source) (fault : SourceFault) (old new : OutputView) (status : Status)
+    → ReportsRefusal (λ line. IsSourceFault source fault × (source_line source.texts fault ≡ Some line)) old new status
     → IsAnswered (CompileReplies source) old new status
 compile_refused source fault old new status (inl (line, refused, shown)) = printed line Refused (compile.is_refused fault refused.0 refused.1) tt shown
 compile_refused source fault old new status (inr (same, memory)) = no_memory same memory
 
-compile_as : (source : Source) (loaded : Loaded) → IsPreparedCode source loaded → (text : List ℕ) (own : Status) → IsFileOf loaded text own → CompileReplies source text own
+compile_as : (source : Source) (loaded : Loaded) → IsPreparedCode source loaded → (text : List ℕ) (own : Status) → IsFileOf loaded text own
+    → CompileReplies source text own
 compile_as source loaded is text own (is_file form) = compile.is_compiled loaded is (form is.compiled.printable)
 
 pub compile_answered : (source : Source) (loaded : Loaded) (old new : OutputView) (status : Status) → IsPreparedCode source loaded

@@ -12,7 +12,8 @@ use Rattle.code_answers.specs.Tables.{rows_lines}
 -- The answer of a batch of a source over the table of these bytes: an error, or the lines of all its rows. A row that stops is one like the others.
 pub data BatchReplies (source : Source) (table : List ℕ) : List ℕ → Status → Type 0 where
   is_refused : {line : List ℕ} → Refuses source (λ inputs. table_of inputs table) line → BatchReplies source table line Refused
-  is_reported : (scheme : Scheme) (rows : List Row) → IsScheme source scheme → table_of scheme.inputs table ≡ Ok rows → BatchReplies source table (rows_lines scheme rows) Done
+  is_reported : (scheme : Scheme) (rows : List Row) → IsScheme source scheme → table_of scheme.inputs table ≡ Ok rows
+      → BatchReplies source table (rows_lines scheme rows) Done
 
 -- a valid source, and a table without a fault
 pub record BatchHasAnswer (source : Source) (table : List ℕ) : Type 0 where

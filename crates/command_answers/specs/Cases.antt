@@ -14,8 +14,10 @@ use Rattle.code_answers.specs.Cases.{ComparedReplies}
 
 -- The answer of the cases of a source over the table of these bytes: the line of the source's fault, or what is answered by the source's scheme.
 pub data CasesReplies (source : Source) (table : List ℕ) : List ℕ → Status → Type 0 where
-  source_is_refused : {line : List ℕ} (fault : SourceFault) → IsSourceFault source fault → source_line source.texts fault ≡ Some line → CasesReplies source table line Refused
-  is_answered : {text : List ℕ} {status : Status} (scheme : Scheme) → IsScheme source scheme → ComparedReplies scheme table text status → CasesReplies source table text status
+  source_is_refused : {line : List ℕ} (fault : SourceFault) → IsSourceFault source fault → source_line source.texts fault ≡ Some line
+      → CasesReplies source table line Refused
+  is_answered : {text : List ℕ} {status : Status} (scheme : Scheme) → IsScheme source scheme → ComparedReplies scheme table text status
+      → CasesReplies source table text status
 
 -- a valid source, and a table of cases without a fault
 pub record CasesHasAnswer (source : Source) (table : List ℕ) : Type 0 where

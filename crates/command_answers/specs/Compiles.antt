@@ -14,7 +14,8 @@ use Rattle.command_answers.specs.Sources.{IsScheme}
 
 -- The answer of a compilation of a source: the line of its fault, or the code file of what it is compiled to. That is a code file which `exec` takes.
 pub data CompileReplies (source : Source) : List ℕ → Status → Type 0 where
-  is_refused : {line : List ℕ} (fault : SourceFault) → IsSourceFault source fault → source_line source.texts fault ≡ Some line → CompileReplies source line Refused
+  is_refused : {line : List ℕ} (fault : SourceFault) → IsSourceFault source fault → source_line source.texts fault ≡ Some line
+      → CompileReplies source line Refused
   is_compiled : {text : List ℕ} (loaded : Loaded) → IsPreparedCode source loaded → IsFormOf text loaded → CompileReplies source text Done
 
 -- a valid source

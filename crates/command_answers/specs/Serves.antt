@@ -27,7 +27,8 @@ pub data ServeReplies (source : Source) (rows typed : List ℕ) : List ℕ → S
   is_refused : {line : List ℕ} → Refuses source (λ inputs. household_of inputs rows) line → ServeReplies source rows typed line Refused
   is_served : (scheme : Scheme) (explains : Explaining) (pairs : List (ℕ × ℤ)) → IsSession source rows scheme explains pairs → length typed < INPUT_BYTES
       → ServeReplies source rows typed (session_replies scheme explains pairs typed) Done
-  is_too_long : (scheme : Scheme) (explains : Explaining) (pairs : List (ℕ × ℤ)) (taken rest : List ℕ) → IsSession source rows scheme explains pairs → typed ≡ taken ++ rest → length taken ≡ INPUT_BYTES
+  is_too_long : (scheme : Scheme) (explains : Explaining) (pairs : List (ℕ × ℤ)) (taken rest : List ℕ) → IsSession source rows scheme explains pairs
+      → typed ≡ taken ++ rest → length taken ≡ INPUT_BYTES
       → ServeReplies source rows typed (ended_replies scheme explains pairs taken ++ input_too_long_line) Refused
 
 -- What is written where a read failed after these bytes of the input, which are fewer than are taken of one: the replies to the lines that have their
@@ -42,4 +43,5 @@ pub data IsServed (source : Source) (rows : List ℕ) (heard reported : InputVie
       → IsServed source rows heard reported old new status
   no_memory : reported ≡ heard → new ≡ old → status ≡ Memory → IsServed source rows heard reported old new status
   served : (scheme : Scheme) (explains : Explaining) (pairs : List (ℕ × ℤ)) → IsSession source rows scheme explains pairs
-      → Served (session_replies scheme explains pairs) (ended_replies scheme explains pairs) heard reported old new status → IsServed source rows heard reported old new status
+      → Served (session_replies scheme explains pairs) (ended_replies scheme explains pairs) heard reported old new status
+      → IsServed source rows heard reported old new status

@@ -12,9 +12,11 @@ use Rattle.command_plans.specs.declared.status.Status.TheVariants.{Done, ReadFau
 -- An input was replied to, until it ended, or a read failed, or as much was taken as may be, or a write failed. No end takes more, and the
 -- input's end and a failed read come while less was taken. `whole` gives the replies to all lines of an input, and `ended` those to the
 -- lines that have their line feed. Where a read failed or too much was taken a line says so after the replies. Where a write failed, what
--- was written is a prefix of a text: of the replies to the lines that have their line feed, at the input's end of those to all lines, or of one of those two texts.
+-- was written is a prefix of a text: of the replies to the lines that have their line feed, at the input's end of those to all lines, or of
+-- one of those two texts.
 pub data Served (whole ended : List ℕ → List ℕ) (heard reported : InputView) (old new : OutputView) (status : Status) : Type 0 where
-  to_its_end : (taken : List ℕ) → heard.left ≡ prepend_known taken reported.left → length taken < INPUT_BYTES → IsAtEnd reported.left → reported.faults ≡ heard.faults
+  to_its_end : (taken : List ℕ) → heard.left ≡ prepend_known taken reported.left → length taken < INPUT_BYTES → IsAtEnd reported.left
+      → reported.faults ≡ heard.faults
       → Appends (whole taken) old new → status ≡ Done → Served whole ended heard reported old new status
   unread : (taken : List ℕ) → heard.left ≡ prepend_known taken reported.left → length taken < INPUT_BYTES → Rose heard.faults reported.faults
       → Prints (ended taken ++ unreadable_input_line) ReadFault old new status → Served whole ended heard reported old new status
@@ -22,5 +24,6 @@ pub data Served (whole ended : List ℕ → List ℕ) (heard reported : InputVie
       → Prints (ended taken ++ input_too_long_line) Refused old new status → Served whole ended heard reported old new status
   unwritten : (taken : List ℕ) → heard.left ≡ prepend_known taken reported.left → length taken ≤ INPUT_BYTES → reported.faults ≡ heard.faults
       → Breaks (ended taken) old new → status ≡ WriteFault → Served whole ended heard reported old new status
-  unwritten_at_end : (taken : List ℕ) → heard.left ≡ prepend_known taken reported.left → length taken < INPUT_BYTES → IsAtEnd reported.left → reported.faults ≡ heard.faults
+  unwritten_at_end : (taken : List ℕ) → heard.left ≡ prepend_known taken reported.left → length taken < INPUT_BYTES → IsAtEnd reported.left
+      → reported.faults ≡ heard.faults
       → Breaks (whole taken) old new → status ≡ WriteFault → Served whole ended heard reported old new status

@@ -38,5 +38,6 @@ pub record IsScheme (source : Source) (scheme : Scheme) : Type 0 where
 -- source, and in a valid source the fault of that file.
 pub data Refuses (source : Source) {Given : Type 0} (stated : List Coded → Result Given HouseholdFault) (line : List ℕ) : Type 0 where
   source_is_refused : (fault : SourceFault) → IsSourceFault source fault → source_line source.texts fault ≡ Some line → Refuses source stated line
-  households_are_refused : (scheme : Scheme) (fault : HouseholdFault) → IsScheme source scheme → stated scheme.inputs ≡ Err fault → household_fault_line fault ≡ Some line
+  households_are_refused : (scheme : Scheme) (fault : HouseholdFault) → IsScheme source scheme → stated scheme.inputs ≡ Err fault
+      → household_fault_line fault ≡ Some line
       → Refuses source stated line

@@ -23,7 +23,7 @@ ghost use Rattle.command_answers.specs.inner.Answers.{IsBegun, IsExplainerOf, Is
 use crate::program::{Program, program_of};
 use crate::refusal::report_source;
 use crate::session::serve_session;
-use code_answers::{read_given, report_refusal, household_entry};
+use code_answers::{household_entry, read_given, report_refusal};
 use command_plans::Status;
 use household::HouseholdFault;
 use household_session::Session;

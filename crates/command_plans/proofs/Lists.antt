@@ -18,16 +18,22 @@ use Rattle.command_plans.specs.Source.{listed}
 reads : (bytes : List ℕ) (read : Result Listing ListFault) → ReadsAs bytes read → read ≡ (reading_of bytes).0
 reads bytes read h = reads_one bytes read (reading_of bytes).0 h (reading_of bytes).1
 
-pub listed_ok : (view : FilesView) (bytes : List ℕ) (listing : Listing) → IsListing bytes listing → GoesAlong (listed (reading_of bytes).0) view view (Ok listing)
-listed_ok view bytes listing h = subst (λ (r : Result Listing ListFault). GoesAlong (listed r) view view (Ok listing)) (reads bytes (Ok listing) h) (along_done view listing)
+pub listed_ok : (view : FilesView) (bytes : List ℕ) (listing : Listing) → IsListing bytes listing
+    → GoesAlong (listed (reading_of bytes).0) view view (Ok listing)
+listed_ok view bytes listing h = subst (λ (r : Result Listing ListFault). GoesAlong (listed r) view view (Ok listing)) (reads bytes (Ok listing) h)
+    (along_done view listing)
 
-pub listed_bad : (view : FilesView) (bytes : List ℕ) (fault : ListFault) (number : ℕ) → fault ≡ BadLine number → IsListFault bytes fault → GoesAlong (listed (reading_of bytes).0) view view (Err (Refused (ListLine number)))
+pub listed_bad : (view : FilesView) (bytes : List ℕ) (fault : ListFault) (number : ℕ) → fault ≡ BadLine number → IsListFault bytes fault
+    → GoesAlong (listed (reading_of bytes).0) view view (Err (Refused (ListLine number)))
 listed_bad view bytes fault number is h =
-    subst (λ (r : Result Listing ListFault). GoesAlong (listed r) view view (Err (Refused (ListLine number)))) (reads bytes (Err (BadLine number)) (subst (IsListFault bytes) is h)) (along_refused view (ListLine number))
+    subst (λ (r : Result Listing ListFault). GoesAlong (listed r) view view (Err (Refused (ListLine number))))
+    (reads bytes (Err (BadLine number)) (subst (IsListFault bytes) is h)) (along_refused view (ListLine number))
 
-pub listed_many : (view : FilesView) (bytes : List ℕ) (fault : ListFault) → fault ≡ TooManyFiles → IsListFault bytes fault → GoesAlong (listed (reading_of bytes).0) view view (Err (Refused TooMany))
+pub listed_many : (view : FilesView) (bytes : List ℕ) (fault : ListFault) → fault ≡ TooManyFiles → IsListFault bytes fault
+    → GoesAlong (listed (reading_of bytes).0) view view (Err (Refused TooMany))
 listed_many view bytes fault is h =
-    subst (λ (r : Result Listing ListFault). GoesAlong (listed r) view view (Err (Refused TooMany))) (reads bytes (Err TooManyFiles) (subst (IsListFault bytes) is h)) (along_refused view TooMany)
+    subst (λ (r : Result Listing ListFault). GoesAlong (listed r) view view (Err (Refused TooMany)))
+    (reads bytes (Err TooManyFiles) (subst (IsListFault bytes) is h)) (along_refused view TooMany)
 
 -- a list's files are not too many
 pub few_listed : (bytes : List ℕ) (listing : Listing) → IsListing bytes listing → length listing.files ≤ LIST_FILES

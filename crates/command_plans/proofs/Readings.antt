@@ -19,7 +19,8 @@ no_bad : (number : ℕ) (lines : List (List ℕ)) → AllByRecursion IsFileLine 
 no_bad number [] h = refl
 no_bad number (line ∷ lines) h = rw (file_line_test line h.0) (no_bad (number + 1) lines h.1)
 
-bad_behind : (number : ℕ) (good : List (List ℕ)) (bad : List ℕ) (others : List (List ℕ)) → AllByRecursion IsFileLine good → (IsFileLine bad → ⊥) → first_bad_from number (good ++ bad ∷ others) ≡ Some (number + length good)
+bad_behind : (number : ℕ) (good : List (List ℕ)) (bad : List ℕ) (others : List (List ℕ)) → AllByRecursion IsFileLine good → (IsFileLine bad → ⊥)
+    → first_bad_from number (good ++ bad ∷ others) ≡ Some (number + length good)
 bad_behind number [] bad others h b =
     let no : is_file_line bad ≡ false = false_from_ne_true (is_file_line bad) (λ e. b (test_file_line bad e)) in
     let same : number ≡ number + 0 = omega arith in
@@ -42,7 +43,8 @@ bad_read : (lines : List (List ℕ)) (number : ℕ) → IsFirstBad lines number 
 bad_read lines number missing = refl
 bad_read lines number (no_word {line = line} w) = rw (false_from_ne_true (is_word line) (λ e. w (test_word line e))) refl
 bad_read lines number (no_name application bad good others h b e n) =
-    ap lines_read e ∙ rw (word_test application h.word) (ap (files_read application (good ++ bad ∷ others)) (bad_behind 2 good bad others h.names b) ∙ ap (λ k. Err (BadLine k)) (sym n))
+    ap lines_read e ∙ rw (word_test application h.word) (ap (files_read application (good ++ bad ∷ others)) (bad_behind 2 good bad others h.names b)
+    ∙ ap (λ k. Err (BadLine k)) (sym n))
 
 pub fault_read : (bytes : List ℕ) (fault : ListFault) → IsListFault bytes fault → list_of bytes ≡ Err fault
 fault_read bytes (BadLine number) h = bad_read (lines_of bytes) number h
@@ -60,7 +62,8 @@ pub reads_one : (bytes : List ℕ) (one other : Result Listing ListFault) → Re
 reads_one bytes one other h k = sym (reads_this bytes one h) ∙ reads_this bytes other k
 
 -- what the reader of lines answers
-pub read_meaning : (bytes : List ℕ) (result : Result Listing ListFault) → Says Memory result (λ listing. listing) (list_of bytes) → Outcome Memory result (IsListing bytes) (IsListFault bytes)
+pub read_meaning : (bytes : List ℕ) (result : Result Listing ListFault) → Says Memory result (λ listing. listing) (list_of bytes)
+    → Outcome Memory result (IsListing bytes) (IsListFault bytes)
 read_meaning bytes (Ok listing) e = subst (ReadsAs bytes) e (list_meaning bytes)
 read_meaning bytes (Err fault) k = λ other. subst (ReadsAs bytes) (k other) (list_meaning bytes)
 

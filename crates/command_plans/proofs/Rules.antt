@@ -1,5 +1,6 @@
 -- How the rule files are gathered one after the other.
-use Rattle.std.proofs.Common.{◌≡◌, ◌≤◌, ◌<◌, ◌+◌, ℕ, suc, ◌-◌, arith, get_or, drop, List, [], ◌∷◌, ◌++◌, length, min, Result, Ok, Err, sym, ◌∙◌, subst, append_assoc}
+use Rattle.std.proofs.Common.{◌≡◌, ◌≤◌, ◌<◌, ◌+◌, ℕ, suc, ◌-◌, arith, get_or, drop, List, [], ◌∷◌, ◌++◌, length, min, Result, Ok, Err, sym, ◌∙◌, subst}
+use Rattle.std.proofs.Common.{append_assoc}
 use Rattle.std.proofs.Math.Seq.{drop-cons}
 use Rattle.std.proofs.lemmas.List.{append-nil, drop_all}
 use Rattle.std.specs.Prelude.{IsErrAnd}
@@ -20,7 +21,8 @@ behind texts (Err ending) = Err ending
 
 -- what goes along the rest from now on goes, with the texts that were gathered, along the whole
 abbrev pub Resumes : Plan (List Text) → FilesView → Plan (List Text) → FilesView → List Text → Type 0
-Resumes whole before rest now texts = (after : FilesView) (result : Result (List Text) Ending) → GoesAlong rest now after result → GoesAlong whole before after (behind texts result)
+Resumes whole before rest now texts = (after : FilesView) (result : Result (List Text) Ending) → GoesAlong rest now after result
+    → GoesAlong whole before after (behind texts result)
 
 pub resumes_first : (whole : Plan (List Text)) (view : FilesView) (texts : List Text) → texts ≡ [] → Resumes whole view whole view texts
 resumes_first whole view texts e after (Ok more) g = subst (λ (l : List Text). GoesAlong whole view after (Ok (l ++ more))) (sym e) g
@@ -47,21 +49,26 @@ drop_next xs i x h e = let one : suc i ≡ i + 1 = omega arith in drop-cons xs i
 at_file : (names : List (List ℕ)) (i : ℕ) (name : List ℕ) (whole : Plan (List Text)) (before now : FilesView) (texts : List Text) (left : ℕ)
     → i < length names → name ≡ get_or names i name → Resumes whole before (rules_plan left (drop i names)) now texts
     → Resumes whole before (rules_plan left (name ∷ drop (i + 1) names)) now texts
-at_file names i name whole before now texts left h e r = subst (λ (l : List (List ℕ)). Resumes whole before (rules_plan left l) now texts) (drop_next names i name h e) r
+at_file names i name whole before now texts left h e r = subst (λ (l : List (List ℕ)). Resumes whole before (rules_plan left l) now texts)
+    (drop_next names i name h e) r
 
 -- a turn of the loop
-pub rules_turn : (names : List (List ℕ)) (i : ℕ) (name copy bytes read : List ℕ) (whole : Plan (List Text)) (before now mid : FilesView) (texts new : List Text) (left limit : ℕ)
-    → i < length names → name ≡ get_or names i name → limit ≡ min FILE_BYTES left → copy ≡ name → read ≡ bytes → new ≡ texts ++ record { name = copy; bytes = bytes } ∷ []
+pub rules_turn : (names : List (List ℕ)) (i : ℕ) (name copy bytes read : List ℕ) (whole : Plan (List Text)) (before now mid : FilesView) (texts new : List Text)
+    (left limit : ℕ)
+    → i < length names → name ≡ get_or names i name → limit ≡ min FILE_BYTES left → copy ≡ name → read ≡ bytes
+    → new ≡ texts ++ record { name = copy; bytes = bytes } ∷ []
     → Resumes whole before (rules_plan left (drop i names)) now texts → GoesAlong (file_plan name limit) now mid (Ok bytes)
     → Resumes whole before (rules_plan (left - length read) (drop (i + 1) names)) mid new
 rules_turn names i name copy bytes read whole before now mid texts new left limit h e l c d n r f =
     subst (λ (t : List Text). Resumes whole before (rules_plan (left - length read) (drop (i + 1) names)) mid t) (sym n)
-    (subst (λ (b : List ℕ). Resumes whole before (rules_plan (left - length b) (drop (i + 1) names)) mid (texts ++ record { name = copy; bytes = bytes } ∷ [])) (sym d)
+    (subst (λ (b : List ℕ). Resumes whole before (rules_plan (left - length b) (drop (i + 1) names)) mid (texts ++ record { name = copy; bytes = bytes } ∷ []))
+    (sym d)
     (resumes_next whole before now mid texts left name copy bytes (drop (i + 1) names) c (at_file names i name whole before now texts left h e r)
     (subst (λ (m : ℕ). GoesAlong (file_plan name m) now mid (Ok bytes)) l f)))
 
 -- a file that can't be had ends the loop
-pub rules_end : (names : List (List ℕ)) (i : ℕ) (name : List ℕ) (whole : Plan (List Text)) (before now mid : FilesView) (texts : List Text) (left limit : ℕ) (ending : Ending) (result : Result (List Text) Ending)
+pub rules_end : (names : List (List ℕ)) (i : ℕ) (name : List ℕ) (whole : Plan (List Text)) (before now mid : FilesView) (texts : List Text) (left limit : ℕ)
+    (ending : Ending) (result : Result (List Text) Ending)
     → i < length names → name ≡ get_or names i name → limit ≡ min FILE_BYTES left → Resumes whole before (rules_plan left (drop i names)) now texts
     → GoesAlong (file_plan name limit) now mid (Err ending) → IsErrAnd result (λ x. x ≡ ending) → GoesAlong whole before mid result
 rules_end names i name whole before now mid texts left limit ending (Ok all) h e l r f g = absurd g
@@ -71,14 +78,16 @@ rules_end names i name whole before now mid texts left limit ending (Err other) 
     (along_ended (file_plan name (min FILE_BYTES left)) _ now mid ending (subst (λ (m : ℕ). GoesAlong (file_plan name m) now mid (Err ending)) l f)))
 
 -- after a file that was had there was no memory
-pub rules_stop : (names : List (List ℕ)) (i : ℕ) (name bytes : List ℕ) (whole : Plan (List Text)) (before now mid : FilesView) (texts : List Text) (left limit : ℕ) (result : Result (List Text) Ending)
+pub rules_stop : (names : List (List ℕ)) (i : ℕ) (name bytes : List ℕ) (whole : Plan (List Text)) (before now mid : FilesView) (texts : List Text)
+    (left limit : ℕ) (result : Result (List Text) Ending)
     → i < length names → name ≡ get_or names i name → limit ≡ min FILE_BYTES left → Resumes whole before (rules_plan left (drop i names)) now texts
     → GoesAlong (file_plan name limit) now mid (Ok bytes) → IsErrAnd result (λ x. x ≡ Memory) → GoesAlong whole before mid result
 rules_stop names i name bytes whole before now mid texts left limit (Ok all) h e l r f g = absurd g
 rules_stop names i name bytes whole before now mid texts left limit (Err other) h e l r f g =
     subst (λ x. GoesAlong whole before mid (Err x)) (sym g)
     (at_file names i name whole before now texts left h e r mid (Err Memory)
-    (along_then (file_plan name (min FILE_BYTES left)) _ now mid mid bytes (Err Memory) (subst (λ (m : ℕ). GoesAlong (file_plan name m) now mid (Ok bytes)) l f) (along_without_memory _ mid)))
+    (along_then (file_plan name (min FILE_BYTES left)) _ now mid mid bytes (Err Memory) (subst (λ (m : ℕ). GoesAlong (file_plan name m) now mid (Ok bytes)) l f)
+    (along_without_memory _ mid)))
 
 -- all files were had
 pub rules_whole : (names : List (List ℕ)) (i : ℕ) (whole : Plan (List Text)) (before now : FilesView) (texts all : List Text) (left : ℕ)

@@ -16,7 +16,11 @@ listed_within (Err fault) = tt
 
 rules_within : (left : ℕ) (names : List (List ℕ)) → KeepsWithin FILE_BYTES (rules_plan left names)
 rules_within left [] = tt
-rules_within left (name ∷ names) = (at_most left, λ bytes. within_then FILE_BYTES (rules_plan (left - length bytes) names) _ (rules_within (left - length bytes) names) (λ texts. tt))
+rules_within left (name ∷ names) = (
+  at_most left,
+  λ bytes. within_then FILE_BYTES (rules_plan (left - length bytes) names) _
+      (rules_within (left - length bytes) names) (λ texts. tt),
+)
   where
     at_most : (n : ℕ) → min FILE_BYTES n ≤ FILE_BYTES
     at_most n = omega arith

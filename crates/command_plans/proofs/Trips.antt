@@ -52,14 +52,16 @@ still plan view result walk = record {
 pub along_done : {A : Type 0} (view : FilesView) (all : A) → GoesAlong (done all) view view (Ok all)
 along_done view all = still (done all) view (Ok all) ends
 
-pub along_refused : {A : Type 0} (view : FilesView) (refusal : Refusal) → GoesAlong {Gathered = A} (refuses (refusal_line refusal)) view view (Err (Refused refusal))
+pub along_refused : {A : Type 0} (view : FilesView) (refusal : Refusal)
+    → GoesAlong {Gathered = A} (refuses (refusal_line refusal)) view view (Err (Refused refusal))
 along_refused view refusal = still (refuses (refusal_line refusal)) view (Err (Refused refusal)) ends_refused
 
 pub along_without_memory : {A : Type 0} (plan : Plan A) (view : FilesView) → GoesAlong plan view view (Err Memory)
 along_without_memory plan view = still plan view (Err Memory) ends_without_memory
 
 -- a step that ended without memory hands that on
-pub exits_without_memory : {A : Type 0} (plan : Plan A) (view : FilesView) (result : Result A Ending) → IsErrAnd result (λ e. e ≡ Memory) → GoesAlong plan view view result
+pub exits_without_memory : {A : Type 0} (plan : Plan A) (view : FilesView) (result : Result A Ending) → IsErrAnd result (λ e. e ≡ Memory)
+    → GoesAlong plan view view result
 exits_without_memory plan view (Ok all) h = absurd h
 exits_without_memory plan view (Err e) h = subst (λ x. GoesAlong plan view view (Err x)) (sym h) (along_without_memory plan view)
 
@@ -67,21 +69,23 @@ exits_without_memory plan view (Err e) h = subst (λ x. GoesAlong plan view view
 pub exits_ended : {A B : Type 0} (plan : Plan A) (next : A → Plan B) (before after : FilesView) (ending : Ending) (result : Result B Ending)
     → GoesAlong plan before after (Err ending) → IsErrAnd result (λ e. e ≡ ending) → GoesAlong (and_then plan next) before after result
 exits_ended plan next before after ending (Ok all) a h = absurd h
-exits_ended plan next before after ending (Err e) a h = subst (λ x. GoesAlong (and_then plan next) before after (Err x)) (sym h) (along_ended plan next before after ending a)
+exits_ended plan next before after ending (Err e) a h = subst (λ x. GoesAlong (and_then plan next) before after (Err x)) (sym h)
+    (along_ended plan next before after ending a)
 
 -- one fetch, under a name that is a copy
 pub along_fetch : (copy name : List ℕ) (limit : ℕ) (before after : FilesView) (made : List Attempt) (result : Result (List ℕ) Ending)
     → copy ≡ name → Walks before.known_files (file_plan copy limit) made (limit + 1) result
     → after.known_files ≡ before.known_files → after.attempts ≡ before.attempts ++ made → after.taken ≤ before.taken + (limit + 1)
     → GoesAlong (file_plan name limit) before after result
-along_fetch copy name limit before after made result same walk known_files attempts taken = subst (λ (n : List ℕ). GoesAlong (file_plan n limit) before after result) same (record {
-  known_files = known_files;
-  made = made;
-  spent = limit + 1;
-  walk = walk;
-  attempts = attempts;
-  taken = taken;
-})
+along_fetch copy name limit before after made result same walk known_files attempts taken = subst
+    (λ (n : List ℕ). GoesAlong (file_plan n limit) before after result) same (record {
+      known_files = known_files;
+      made = made;
+      spent = limit + 1;
+      walk = walk;
+      attempts = attempts;
+      taken = taken;
+    })
 
 -- a walk that had the one file that it asked for
 pub walks_one : (known_files : Option Disk) (name bytes all : List ℕ) (limit : ℕ) → Holds known_files name bytes → length bytes ≤ limit → all ≡ bytes

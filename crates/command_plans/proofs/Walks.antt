@@ -1,5 +1,6 @@
 -- What holds of every walk along a plan.
-use Rattle.std.proofs.Common.{◌≡◌, ◌<◌, ◌≤◌, ◌+◌, ℕ, true, false, List, [], ◌∷◌, ◌++◌, length, Option, Some, None, Result, Ok, Err, refl, sym, ap, ◌∙◌, subst, cond, arith, add_assoc, zero-add, nat_le}
+use Rattle.std.proofs.Common.{◌≡◌, ◌<◌, ◌≤◌, ◌+◌, ℕ, true, false, List, [], ◌∷◌, ◌++◌, length, Option, Some, None, Result, Ok, Err, refl, sym, ap, ◌∙◌, subst}
+use Rattle.std.proofs.Common.{cond, arith, add_assoc, zero-add, nat_le}
 use Rattle.std.proofs.lemmas.Bool.Decides.{nat_tests}
 use Rattle.std.specs.Prelude.{IsSomeAnd}
 use Rattle.m_ports.specs.Files.{Holds, HoldsMoreThan}
@@ -29,8 +30,10 @@ some_of None P h = absurd h
 some_of (Some x) P h = (x, refl, h)
 
 -- a walk that gathered something, and one that goes on with it
-pub walks_then : {A B : Type 0} (known_files : Option Disk) (next : A → Plan B) (plan : Plan A) (made more : List Attempt) (spent further : ℕ) (all : A) (first : Result A Ending) (result : Result B Ending)
-    → Walks known_files plan made spent first → first ≡ Ok all → Walks known_files (next all) more further result → Walks known_files (and_then plan next) (made ++ more) (spent + further) result
+pub walks_then : {A B : Type 0} (known_files : Option Disk) (next : A → Plan B) (plan : Plan A) (made more : List Attempt) (spent further : ℕ) (all : A)
+    (first : Result A Ending) (result : Result B Ending)
+    → Walks known_files plan made spent first → first ≡ Ok all → Walks known_files (next all) more further result
+    → Walks known_files (and_then plan next) (made ++ more) (spent + further) result
 walks_then known_files next plan made more spent further all first result (ends {all = one}) e w =
     let s : one ≡ all = cc in
     subst (λ n. Walks known_files (next one) more n result) (sym (zero-add further)) (subst (λ x. Walks known_files (next x) more further result) (sym s) w)
@@ -39,12 +42,15 @@ walks_then known_files next plan made more spent further all first result ends_w
 walks_then known_files next plan made more spent further all first result fetches_without_memory e w = cc
 walks_then known_files next plan made more spent further all first result fails e w = cc
 walks_then known_files next plan made more spent further all first result (finds_too_long h) e w = cc
-walks_then known_files next plan made more spent further all first result (goes_on {name = name} {limit = limit} {behind = behind} {made = rest} {spent = cost} bytes h l walk) e w =
-    subst (λ n. Walks known_files (fetches name limit (λ b. and_then (behind b) next)) (record { name = name; failed = false } ∷ (rest ++ more)) n result) (sym (add_assoc (limit + 1) cost further))
+walks_then known_files next plan made more spent further all first result (goes_on {name = name} {limit = limit} {behind = behind} {made = rest} {spent = cost}
+    bytes h l walk) e w =
+    subst (λ n. Walks known_files (fetches name limit (λ b. and_then (behind b) next)) (record { name = name; failed = false } ∷ (rest ++ more)) n result)
+    (sym (add_assoc (limit + 1) cost further))
     (goes_on bytes h l (walks_then known_files next (behind bytes) rest more cost further all first result walk e w))
 
 -- what ended a plan ends it also where another was to follow
-pub walks_ended : {A B : Type 0} (known_files : Option Disk) (next : A → Plan B) (plan : Plan A) (made : List Attempt) (spent : ℕ) (ending : Ending) (first : Result A Ending)
+pub walks_ended : {A B : Type 0} (known_files : Option Disk) (next : A → Plan B) (plan : Plan A) (made : List Attempt) (spent : ℕ) (ending : Ending)
+    (first : Result A Ending)
     → Walks known_files plan made spent first → first ≡ Err ending → Walks known_files (and_then plan next) made spent (Err ending)
 walks_ended known_files next plan made spent ending first ends e = cc
 walks_ended {B = B} known_files next plan made spent ending first (ends_refused {refusal = refusal}) e =
@@ -54,9 +60,11 @@ walks_ended known_files next plan made spent ending first ends_without_memory e 
 walks_ended known_files next plan made spent ending first (fetches_without_memory {limit = limit}) e =
     let s : Memory ≡ ending = cc in subst (λ x. Walks known_files (and_then plan next) [] (limit + 1) (Err x)) s fetches_without_memory
 walks_ended known_files next plan made spent ending first (fails {name = name} {limit = limit}) e =
-    let s : Unreadable name ≡ ending = cc in subst (λ x. Walks known_files (and_then plan next) (record { name = name; failed = true } ∷ []) (limit + 1) (Err x)) s fails
+    let s : Unreadable name ≡ ending = cc in subst (λ x. Walks known_files (and_then plan next) (record { name = name; failed = true } ∷ []) (limit + 1)
+    (Err x)) s fails
 walks_ended known_files next plan made spent ending first (finds_too_long {name = name} {limit = limit} h) e =
-    let s : Refused (FileTooLong name) ≡ ending = cc in subst (λ x. Walks known_files (and_then plan next) (record { name = name; failed = false } ∷ []) (limit + 1) (Err x)) s (finds_too_long h)
+    let s : Refused (FileTooLong name) ≡ ending = cc in subst (λ x. Walks known_files (and_then plan next) (record { name = name; failed = false } ∷ [])
+    (limit + 1) (Err x)) s (finds_too_long h)
 walks_ended known_files next plan made spent ending first (goes_on {behind = behind} {made = rest} {spent = cost} bytes h l walk) e =
     goes_on bytes h l (walks_ended known_files next (behind bytes) rest cost ending first walk e)
 
@@ -94,7 +102,8 @@ walks_to_end known_files disk plan made spent result fails t = tt
 walks_to_end known_files disk plan made spent result (finds_too_long {name = name} {limit = limit} {behind = behind} h) t =
     let P : Option Disk → Type 0 = λ u. HoldsMoreThan limit u name in
     let s = some_of (disk name) (λ bytes. limit < length bytes) (subst P (t refl) h) in
-    ap (fetched_end name limit (λ b. end_of disk (behind b))) s.1 ∙ ap (λ b. cond b (end_of disk (behind s.0)) (refused (too_long_line name))) (above (length s.0) limit s.2)
+    ap (fetched_end name limit (λ b. end_of disk (behind b))) s.1 ∙ ap (λ b. cond b (end_of disk (behind s.0)) (refused (too_long_line name)))
+    (above (length s.0) limit s.2)
 walks_to_end known_files disk plan made spent result (goes_on {name = name} {limit = limit} {behind = behind} {made = rest} {spent = cost} bytes h l walk) t =
     subst (λ end. EndsAt end result)
     (sym (ap (fetched_end name limit (λ b. end_of disk (behind b))) (held known_files name bytes h disk (t refl))
@@ -108,13 +117,20 @@ FitsAttempts made (Err (Refused refusal)) = NoneFailed made
 FitsAttempts made (Err (Unreadable name)) = LastFailed made name
 FitsAttempts made (Err Memory) = NoneFailed made
 
-fits_more : {A : Type 0} (name : List ℕ) (made : List Attempt) (result : Result A Ending) → FitsAttempts made result → FitsAttempts (record { name = name; failed = false } ∷ made) result
+fits_more : {A : Type 0} (name : List ℕ) (made : List Attempt) (result : Result A Ending) → FitsAttempts made result
+    → FitsAttempts (record { name = name; failed = false } ∷ made) result
 fits_more name made (Ok all) h = (refl, h)
 fits_more name made (Err (Refused refusal)) h = (refl, h)
-fits_more name made (Err (Unreadable other)) h = record { before = record { name = name; failed = false } ∷ h.before; last = ap (λ l. record { name = name; failed = false } ∷ l) h.last; others = (refl, h.others) }
+fits_more name made (Err (Unreadable other)) h = record {
+  before = record { name = name; failed = false } ∷ h.before;
+  last = ap
+      (λ l. record { name = name; failed = false } ∷ l) h.last;
+  others = (refl, h.others);
+}
 fits_more name made (Err Memory) h = (refl, h)
 
-pub walks_fit : {A : Type 0} (known_files : Option Disk) (plan : Plan A) (made : List Attempt) (spent : ℕ) (result : Result A Ending) → Walks known_files plan made spent result → FitsAttempts made result
+pub walks_fit : {A : Type 0} (known_files : Option Disk) (plan : Plan A) (made : List Attempt) (spent : ℕ) (result : Result A Ending)
+    → Walks known_files plan made spent result → FitsAttempts made result
 walks_fit known_files plan made spent result ends = tt
 walks_fit known_files plan made spent result ends_refused = tt
 walks_fit known_files plan made spent result ends_without_memory = tt
@@ -131,13 +147,15 @@ SpendsWithin most made spent (Err (Refused refusal)) = spent ≤ allowance most 
 SpendsWithin most made spent (Err (Unreadable name)) = spent ≤ allowance most made
 SpendsWithin most made spent (Err Memory) = spent ≤ allowance most made + (most + 1)
 
-spends_more : {A : Type 0} (most limit : ℕ) (attempt : Attempt) (made : List Attempt) (spent : ℕ) (result : Result A Ending) → limit ≤ most → SpendsWithin most made spent result → SpendsWithin most (attempt ∷ made) (limit + 1 + spent) result
+spends_more : {A : Type 0} (most limit : ℕ) (attempt : Attempt) (made : List Attempt) (spent : ℕ) (result : Result A Ending) → limit ≤ most
+    → SpendsWithin most made spent result → SpendsWithin most (attempt ∷ made) (limit + 1 + spent) result
 spends_more most limit attempt made spent (Ok all) l h = omega (arith, l, h)
 spends_more most limit attempt made spent (Err (Refused refusal)) l h = omega (arith, l, h)
 spends_more most limit attempt made spent (Err (Unreadable name)) l h = omega (arith, l, h)
 spends_more most limit attempt made spent (Err Memory) l h = omega (arith, l, h)
 
-pub walks_within : {A : Type 0} (known_files : Option Disk) (most : ℕ) (plan : Plan A) (made : List Attempt) (spent : ℕ) (result : Result A Ending) → KeepsWithin most plan → Walks known_files plan made spent result → SpendsWithin most made spent result
+pub walks_within : {A : Type 0} (known_files : Option Disk) (most : ℕ) (plan : Plan A) (made : List Attempt) (spent : ℕ) (result : Result A Ending)
+    → KeepsWithin most plan → Walks known_files plan made spent result → SpendsWithin most made spent result
 walks_within known_files most plan made spent result k ends = omega arith
 walks_within known_files most plan made spent result k ends_refused = omega arith
 walks_within known_files most plan made spent result k ends_without_memory = omega arith
@@ -145,4 +163,5 @@ walks_within known_files most plan made spent result k fetches_without_memory = 
 walks_within known_files most plan made spent result k fails = omega (arith, k.0)
 walks_within known_files most plan made spent result k (finds_too_long h) = omega (arith, k.0)
 walks_within known_files most plan made spent result k (goes_on {name = name} {limit = limit} {behind = behind} {made = rest} {spent = cost} bytes h l walk) =
-    spends_more most limit (record { name = name; failed = false }) rest cost result k.0 (walks_within known_files most (behind bytes) rest cost result (k.1 bytes) walk)
+    spends_more most limit (record { name = name; failed = false }) rest cost result k.0
+    (walks_within known_files most (behind bytes) rest cost result (k.1 bytes) walk)

@@ -9,7 +9,8 @@ KeepsWithin most (refuses line) = Unit {0}
 KeepsWithin most (fetches name limit behind) = (limit ≤ most) × ((bytes : List ℕ) → KeepsWithin most (behind bytes))
 
 -- one plan, and another after it
-pub within_then : {A B : Type 0} (most : ℕ) (plan : Plan A) (next : A → Plan B) → KeepsWithin most plan → ((all : A) → KeepsWithin most (next all)) → KeepsWithin most (and_then plan next)
+pub within_then : {A B : Type 0} (most : ℕ) (plan : Plan A) (next : A → Plan B) → KeepsWithin most plan → ((all : A) → KeepsWithin most (next all))
+    → KeepsWithin most (and_then plan next)
 within_then most (done all) next k n = n all
 within_then most (refuses line) next k n = tt
 within_then most (fetches name limit behind) next k n = (k.0, λ bytes. within_then most (behind bytes) next (k.1 bytes) n)

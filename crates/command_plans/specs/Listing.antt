@@ -25,7 +25,8 @@ pub record AreGood (application : List ℕ) (others lines : List (List ℕ)) : T
 pub data IsFirstBad : List (List ℕ) → ℕ → Type 0 where
   missing : IsFirstBad [] 1
   no_word : {line : List ℕ} {lines : List (List ℕ)} → (IsWord line → ⊥) → IsFirstBad (line ∷ lines) 1
-  no_name : {lines : List (List ℕ)} {number : ℕ} (application bad : List ℕ) (good others : List (List ℕ)) → AreGood application good (application ∷ good) → (IsFileLine bad → ⊥)
+  no_name : {lines : List (List ℕ)} {number : ℕ} (application bad : List ℕ) (good others : List (List ℕ)) → AreGood application good (application ∷ good)
+      → (IsFileLine bad → ⊥)
       → lines ≡ application ∷ (good ++ bad ∷ others) → number ≡ 2 + length good → IsFirstBad lines number
 
 -- A list file says this: the first line is the application, and the others that aren't empty are the files, not too many.

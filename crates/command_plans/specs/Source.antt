@@ -36,7 +36,8 @@ list_plan name = and_then (file_plan name FILE_BYTES) (λ bytes. listed (reading
 abbrev pub rules_plan : (left : ℕ) → List (List ℕ) → Plan (List Text)
 rules_plan left [] = done []
 rules_plan left (name ∷ names) =
-    and_then (file_plan name (min FILE_BYTES left)) (λ bytes. and_then (rules_plan (left - length bytes) names) (λ texts. done (record { name = name; bytes = bytes } ∷ texts)))
+    and_then (file_plan name (min FILE_BYTES left))
+    (λ bytes. and_then (rules_plan (left - length bytes) names) (λ texts. done (record { name = name; bytes = bytes } ∷ texts)))
 
 -- a driver or requests, where there are any
 abbrev pub optional_plan : List ℕ → Plan (Option (List ℕ))

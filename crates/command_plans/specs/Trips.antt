@@ -17,7 +17,8 @@ pub data Walks {Gathered : Type 0} (known_files : Option Disk) : Plan Gathered �
   ends : {all : Gathered} → Walks known_files (done all) [] 0 (Ok all)
   ends_refused : {refusal : Refusal} → Walks known_files (refuses (refusal_line refusal)) [] 0 (Err (Refused refusal))
   ends_without_memory : {plan : Plan Gathered} → Walks known_files plan [] 0 (Err Memory)
-  fetches_without_memory : {name : List ℕ} {limit : ℕ} {behind : List ℕ → Plan Gathered} → Walks known_files (fetches name limit behind) [] (limit + 1) (Err Memory)
+  fetches_without_memory : {name : List ℕ} {limit : ℕ} {behind : List ℕ → Plan Gathered}
+      → Walks known_files (fetches name limit behind) [] (limit + 1) (Err Memory)
   fails : {name : List ℕ} {limit : ℕ} {behind : List ℕ → Plan Gathered}
       → Walks known_files (fetches name limit behind) (record { name = name; failed = true } ∷ []) (limit + 1) (Err (Unreadable name))
   finds_too_long : {name : List ℕ} {limit : ℕ} {behind : List ℕ → Plan Gathered} → HoldsMoreThan limit known_files name

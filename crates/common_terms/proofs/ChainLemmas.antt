@@ -1,5 +1,6 @@
 -- Nodes in chains.
-use Rattle.std.proofs.Common.{◌≡◌, ◌≢◌, ℕ, zero, suc, ◌+◌, ◌%◌, ◌<◌, ◌≤◌, Bool, true, false, eqb, List, [], ◌∷◌, ◌++◌, length, take, get_or, set, refl, ap, sym, ◌∙◌, subst, ⊎_elim, arith}
+use Rattle.std.proofs.Common.{◌≡◌, ◌≢◌, ℕ, zero, suc, ◌+◌, ◌%◌, ◌<◌, ◌≤◌, Bool, true, false, eqb, List, [], ◌∷◌, ◌++◌, length, take, get_or, set, refl, ap, sym}
+use Rattle.std.proofs.Common.{◌∙◌, subst, ⊎_elim, arith}
 use Rattle.std.specs.Prelude.{if◌then◌else◌}
 use Rattle.std.proofs.lemmas.Bool.{cases_lt, eqb-true, eqb-false, eq-eqb}
 use Rattle.std.proofs.lemmas.List.{length_push, get_or_append_left, get_or_push, get_or-take, length-take-le, get_or-set_same, get_or-set_other, length-set}
@@ -57,14 +58,16 @@ last-other f b n e = ap (λ d. if d then suc n else last_in f b n) e
 pub chained-none : (links : List Link) (heads : List ℕ) → ((b : ℕ) → b < length heads → get_or heads b 0 ≡ 0) → AreChained links heads 0
 chained-none links heads empty = record { next = λ i lt. absurd (omega arith); head = λ b lt. empty b lt }
 
-pub chained-same : (links links' : List Link) (heads : List ℕ) (n : ℕ) → ((j : ℕ) → j < n → link_at links' j ≡ link_at links j) → AreChained links heads n → AreChained links' heads n
+pub chained-same : (links links' : List Link) (heads : List ℕ) (n : ℕ) → ((j : ℕ) → j < n → link_at links' j ≡ link_at links j) → AreChained links heads n
+    → AreChained links' heads n
 chained-same links links' heads n same h =
     let m = length heads in
     let f = bucket_of links m in
     let f' = bucket_of links' m in
     let bucket : (j : ℕ) → j < n → f j ≡ f' j = λ j lt. ap (λ (l : Link). l.hash % m) (sym (same j lt)) in
     record {
-      next = λ i lt. ap (λ (l : Link). l.next) (same i lt) ∙ h.next i lt ∙ ap (λ b. last_in f b i) (bucket i lt) ∙ last-same f f' (f' i) i (λ j l. bucket j (omega arith));
+      next = λ i lt. ap (λ (l : Link). l.next) (same i lt) ∙ h.next i lt ∙ ap (λ b. last_in f b i) (bucket i lt)
+          ∙ last-same f f' (f' i) i (λ j l. bucket j (omega arith));
       head = λ b lt. h.head b lt ∙ last-same f f' b n bucket;
     }
 
@@ -95,7 +98,8 @@ chained-step links links' heads heads' i place hashes below here size within buc
       head = λ b lt. go b (omega (arith, size)) (eqb (f' i) b) refl ∙ ap (last_in f' b) (sym s);
     }
   where
-    go : (b : ℕ) → b < length heads → (d : Bool) → eqb (bucket_of links' (length heads') i) b ≡ d → get_or heads' b 0 ≡ last_in (bucket_of links' (length heads')) b (suc i)
+    go : (b : ℕ) → b < length heads → (d : Bool) → eqb (bucket_of links' (length heads') i) b ≡ d
+        → get_or heads' b 0 ≡ last_in (bucket_of links' (length heads')) b (suc i)
     go b lt true d =
         let f' = bucket_of links' (length heads') in
         let same : bucket_of links (length heads) i ≡ f' i = ap (λ x. x % length heads) (sym (hashes i)) ∙ ap (λ m. (link_at links' i).hash % m) (sym size) in
@@ -111,17 +115,21 @@ chained-step links links' heads heads' i place hashes below here size within buc
 abbrev pub no-link : Link
 no-link = record { hash = 0; next = 0 }
 
-pub hashes-set : (links : List Link) (i : ℕ) (link : Link) → i < length links → link.hash ≡ (link_at links i).hash → (j : ℕ) → (link_at (set links i link) j).hash ≡ (link_at links j).hash
+pub hashes-set : (links : List Link) (i : ℕ) (link : Link) → i < length links → link.hash ≡ (link_at links i).hash → (j : ℕ)
+    → (link_at (set links i link) j).hash ≡ (link_at links j).hash
 hashes-set links i link lt same j = go (eqb j i) refl
   where
     go : (d : Bool) → eqb j i ≡ d → (link_at (set links i link) j).hash ≡ (link_at links j).hash
     go true d =
         let e : j ≡ i = eqb-true j i d in
-        ap (λ j. (link_at (set links i link) j).hash) e ∙ ap (λ (l : Link). l.hash) (get_or-set_same links i link no-link lt) ∙ same ∙ ap (λ j. (link_at links j).hash) (sym e)
+        ap (λ j. (link_at (set links i link) j).hash) e ∙ ap (λ (l : Link). l.hash) (get_or-set_same links i link no-link lt) ∙ same
+        ∙ ap (λ j. (link_at links j).hash) (sym e)
     go false d = ap (λ (l : Link). l.hash) (get_or-set_other links i j link no-link (eqb-false j i d))
 
 -- the same by what is written
-pub chained-set : (links : List Link) (heads : List ℕ) (i place : ℕ) (link : Link) → i < length links → place < length heads → place ≡ bucket_of links (length heads) i → link.hash ≡ (link_at links i).hash → link.next ≡ get_or heads place 0 → AreChained links heads i → AreChained (set links i link) (set heads place (i + 1)) (i + 1)
+pub chained-set : (links : List Link) (heads : List ℕ) (i place : ℕ) (link : Link) → i < length links → place < length heads
+    → place ≡ bucket_of links (length heads) i → link.hash ≡ (link_at links i).hash → link.next ≡ get_or heads place 0 → AreChained links heads i
+    → AreChained (set links i link) (set heads place (i + 1)) (i + 1)
 chained-set links heads i place link lt within bucket same next h =
     chained-step links (set links i link) heads (set heads place (i + 1)) i place (hashes-set links i link lt same)
     (λ j l. ap (λ (l : Link). l.next) (get_or-set_other links i j link no-link (λ (e : j ≡ i). absurd (omega arith))))
@@ -134,10 +142,16 @@ chained-set links heads i place link lt within bucket same next h =
 -- ---- the table
 
 pub table-none : (key : Key) → IsTable key [] [] []
-table-none key = record { linked = omega arith; room = omega arith; hashed = λ i lt. absurd (omega arith); chained = record { next = λ i lt. absurd (omega arith); head = λ b lt. absurd (omega arith) } }
+table-none key = record {
+  linked = omega arith;
+  room = omega arith;
+  hashed = λ i lt. absurd (omega arith);
+  chained = record { next = λ i lt. absurd (omega arith); head = λ b lt. absurd (omega arith) };
+}
 
 -- with other links past those of the nodes
-pub table-same : (key : Key) (nodes : List Node) (links links' : List Link) (heads : List ℕ) → length nodes ≤ length links' → ((j : ℕ) → j < length nodes → link_at links' j ≡ link_at links j) → IsTable key nodes links heads → IsTable key nodes links' heads
+pub table-same : (key : Key) (nodes : List Node) (links links' : List Link) (heads : List ℕ) → length nodes ≤ length links'
+    → ((j : ℕ) → j < length nodes → link_at links' j ≡ link_at links j) → IsTable key nodes links heads → IsTable key nodes links' heads
 table-same key nodes links links' heads linked same h = record {
   linked = linked;
   room = h.room;
@@ -146,7 +160,9 @@ table-same key nodes links links' heads linked same h = record {
 }
 
 -- with other buckets
-pub table-again : (key : Key) (nodes : List Node) (links links' : List Link) (heads heads' : List ℕ) → length links' ≡ length links → length nodes ≤ length heads' → ((j : ℕ) → (link_at links' j).hash ≡ (link_at links j).hash) → AreChained links' heads' (length nodes) → IsTable key nodes links heads → IsTable key nodes links' heads'
+pub table-again : (key : Key) (nodes : List Node) (links links' : List Link) (heads heads' : List ℕ) → length links' ≡ length links
+    → length nodes ≤ length heads' → ((j : ℕ) → (link_at links' j).hash ≡ (link_at links j).hash) → AreChained links' heads' (length nodes)
+    → IsTable key nodes links heads → IsTable key nodes links' heads'
 table-again key nodes links links' heads heads' size room hashes chained h =
     let linked : length nodes ≤ length links = h.linked in
     record {
@@ -163,13 +179,17 @@ cut-same links link n j le lt =
     get_or_append_left (take n links) (link ∷ []) (record { hash = 0; next = 0 }) j (omega arith) ∙ get_or-take n links j (record { hash = 0; next = 0 }) lt
 
 pub cut-last : (links : List Link) (link : Link) (n : ℕ) → n ≤ length links → link_at (take n links ++ link ∷ []) n ≡ link
-cut-last links link n le = let size : length (take n links) ≡ n = length-take-le n links le in get_or_push (take n links) link (record { hash = 0; next = 0 }) n size
+cut-last links link n le = let size : length (take n links) ≡ n = length-take-le n links le in get_or_push (take n links) link (record { hash = 0; next = 0 }) n
+    size
 
 pub cut-length : (links : List Link) (link : Link) (n : ℕ) → n ≤ length links → length (take n links ++ link ∷ []) ≡ n + 1
 cut-length links link n le = let size : length (take n links) ≡ n = length-take-le n links le in omega (arith, length_push (take n links) link)
 
 -- one more node
-pub table-push : (key : Key) (nodes : List Node) (node : Node) (links links' : List Link) (heads heads' : List ℕ) → length links' ≡ length nodes + 1 → length nodes < length heads → length heads' ≡ length heads → ((j : ℕ) → j < length nodes → (link_at links' j).hash ≡ (link_at links j).hash) → (link_at links' (length nodes)).hash ≡ node_hash key node → AreChained links' heads' (length nodes + 1) → IsTable key nodes links heads → IsTable key (nodes ++ node ∷ []) links' heads'
+pub table-push : (key : Key) (nodes : List Node) (node : Node) (links links' : List Link) (heads heads' : List ℕ) → length links' ≡ length nodes + 1
+    → length nodes < length heads → length heads' ≡ length heads → ((j : ℕ) → j < length nodes → (link_at links' j).hash ≡ (link_at links j).hash)
+    → (link_at links' (length nodes)).hash ≡ node_hash key node → AreChained links' heads' (length nodes + 1) → IsTable key nodes links heads
+    → IsTable key (nodes ++ node ∷ []) links' heads'
 table-push key nodes node links links' heads heads' size room size' hashes here chained h =
     let more : length (nodes ++ node ∷ []) ≡ length nodes + 1 = length_push nodes node in
     record {
@@ -190,24 +210,32 @@ table-push key nodes node links links' heads heads' size room size' hashes here 
 abbrev link-of : ℕ → Link
 link-of hash = record { hash = hash; next = 0 }
 
-pub cut-table : (key : Key) (nodes : List Node) (links links' : List Link) (heads : List ℕ) (n : ℕ) → n ≡ length nodes → links' ≡ take n links → IsTable key nodes links heads → IsTable key nodes links' heads
+pub cut-table : (key : Key) (nodes : List Node) (links links' : List Link) (heads : List ℕ) (n : ℕ) → n ≡ length nodes → links' ≡ take n links
+    → IsTable key nodes links heads → IsTable key nodes links' heads
 cut-table key nodes links links' heads n e cut h =
     let linked : length nodes ≤ length links = h.linked in
     let size : length (take n links) ≡ n = length-take-le n links (omega arith) in
     subst (λ xs. IsTable key nodes xs heads) (sym cut)
     (table-same key nodes links (take n links) heads (omega arith) (λ j lt. get_or-take n links j no-link (omega arith)) h)
 
-pub longer-table : (key : Key) (nodes : List Node) (links links' links'' : List Link) (heads : List ℕ) (n hash : ℕ) → n ≡ length nodes → links' ≡ take n links → links'' ≡ links' ++ link-of hash ∷ [] → IsTable key nodes links heads → IsTable key nodes links'' heads
+pub longer-table : (key : Key) (nodes : List Node) (links links' links'' : List Link) (heads : List ℕ) (n hash : ℕ) → n ≡ length nodes → links' ≡ take n links
+    → links'' ≡ links' ++ link-of hash ∷ [] → IsTable key nodes links heads → IsTable key nodes links'' heads
 longer-table key nodes links links' links'' heads n hash e cut more h =
     let linked : length nodes ≤ length links = h.linked in
     let le : n ≤ length links = omega arith in
     subst (λ xs. IsTable key nodes xs heads) (sym (more ∙ ap (λ xs. xs ++ link-of hash ∷ []) cut))
-    (table-same key nodes links (take n links ++ link-of hash ∷ []) heads (omega (arith, cut-length links (link-of hash) n le)) (λ j lt. cut-same links (link-of hash) n j le (omega arith)) h)
+    (table-same key nodes links (take n links ++ link-of hash ∷ []) heads (omega (arith, cut-length links (link-of hash) n le))
+    (λ j lt. cut-same links (link-of hash) n j le (omega arith)) h)
 
-pub longer-length : (nodes : List Node) (links links' links'' : List Link) (n hash : ℕ) → n ≡ length nodes → length nodes ≤ length links → links' ≡ take n links → links'' ≡ links' ++ link-of hash ∷ [] → length links'' ≡ n + 1
-longer-length nodes links links' links'' n hash e linked cut more = ap length (more ∙ ap (λ xs. xs ++ link-of hash ∷ []) cut) ∙ cut-length links (link-of hash) n (omega arith)
+pub longer-length : (nodes : List Node) (links links' links'' : List Link) (n hash : ℕ) → n ≡ length nodes → length nodes ≤ length links → links' ≡ take n links
+    → links'' ≡ links' ++ link-of hash ∷ [] → length links'' ≡ n + 1
+longer-length nodes links links' links'' n hash e linked cut more = ap length (more ∙ ap (λ xs. xs ++ link-of hash ∷ []) cut)
+    ∙ cut-length links (link-of hash) n (omega arith)
 
-pub table-added : (key : Key) (nodes : List Node) (node : Node) (links links' links'' new : List Link) (heads heads' : List ℕ) (n hash : ℕ) → n ≡ length nodes → links' ≡ take n links → links'' ≡ links' ++ link-of hash ∷ [] → hash ≡ node_hash key node → length nodes < length heads → length new ≡ length links'' → length heads' ≡ length heads → ((j : ℕ) → (link_at new j).hash ≡ (link_at links'' j).hash) → AreChained new heads' (n + 1) → IsTable key nodes links heads → IsTable key (nodes ++ node ∷ []) new heads'
+pub table-added : (key : Key) (nodes : List Node) (node : Node) (links links' links'' new : List Link) (heads heads' : List ℕ) (n hash : ℕ) → n ≡ length nodes
+    → links' ≡ take n links → links'' ≡ links' ++ link-of hash ∷ [] → hash ≡ node_hash key node → length nodes < length heads → length new ≡ length links''
+    → length heads' ≡ length heads → ((j : ℕ) → (link_at new j).hash ≡ (link_at links'' j).hash) → AreChained new heads' (n + 1) → IsTable key nodes links heads
+    → IsTable key (nodes ++ node ∷ []) new heads'
 table-added key nodes node links links' links'' new heads heads' n hash e cut more is room size size' hashes chained h =
     let linked : length nodes ≤ length links = h.linked in
     let le : n ≤ length links = omega arith in
@@ -216,7 +244,8 @@ table-added key nodes node links links' links'' new heads heads' n hash e cut mo
     let count : n + 1 ≡ length nodes + 1 = omega arith in
     table-push key nodes node links new heads heads' (omega arith) room size'
     (λ j lt. hashes j ∙ ap (λ xs. (link_at xs j).hash) whole ∙ ap (λ (l : Link). l.hash) (cut-same links (link-of hash) n j le (omega arith)))
-    (ap (λ k. (link_at new k).hash) (sym e) ∙ hashes n ∙ ap (λ xs. (link_at xs n).hash) whole ∙ ap (λ (l : Link). l.hash) (cut-last links (link-of hash) n le) ∙ is)
+    (ap (λ k. (link_at new k).hash) (sym e) ∙ hashes n ∙ ap (λ xs. (link_at xs n).hash) whole ∙ ap (λ (l : Link). l.hash) (cut-last links (link-of hash) n le)
+    ∙ is)
     (subst (AreChained new heads') count chained) h
 
 -- ---- the search
@@ -227,10 +256,12 @@ pub record IsSearch (nodes : List Node) (links : List Link) (heads : List ℕ) (
   pub chain : (i : ℕ) → left ≡ suc i → bucket_of links (length heads) i ≡ b
   pub above : (j : ℕ) → left ≤ j → j < length nodes → node_at nodes j ≡ node → ⊥
 
-in-bucket : (key : Key) (nodes : List Node) (links : List Link) (heads : List ℕ) (node : Node) (b j : ℕ) → IsTable key nodes links heads → b ≡ node_hash key node % length heads → j < length nodes → node_at nodes j ≡ node → bucket_of links (length heads) j ≡ b
+in-bucket : (key : Key) (nodes : List Node) (links : List Link) (heads : List ℕ) (node : Node) (b j : ℕ) → IsTable key nodes links heads
+    → b ≡ node_hash key node % length heads → j < length nodes → node_at nodes j ≡ node → bucket_of links (length heads) j ≡ b
 in-bucket key nodes links heads node b j h e lt is = ap (λ x. x % length heads) (h.hashed j lt ∙ ap (node_hash key) is) ∙ sym e
 
-pub search-start : (key : Key) (nodes : List Node) (links : List Link) (heads : List ℕ) (node : Node) (b left : ℕ) → IsTable key nodes links heads → b ≡ node_hash key node % length heads → b < length heads → left ≡ get_or heads b 0 → IsSearch nodes links heads node b left
+pub search-start : (key : Key) (nodes : List Node) (links : List Link) (heads : List ℕ) (node : Node) (b left : ℕ) → IsTable key nodes links heads
+    → b ≡ node_hash key node % length heads → b < length heads → left ≡ get_or heads b 0 → IsSearch nodes links heads node b left
 search-start key nodes links heads node b left h e within is =
     let f = bucket_of links (length heads) in
     let n = length nodes in
@@ -241,7 +272,9 @@ search-start key nodes links heads node b left h e within is =
       above = λ j le lt d. let l : j < last_in f b n = last-after f b n j lt (in-bucket key nodes links heads node b j h e lt d) in absurd (omega arith);
     }
 
-pub search-next : (key : Key) (nodes : List Node) (links : List Link) (heads : List ℕ) (node : Node) (b left i left' : ℕ) → IsTable key nodes links heads → b ≡ node_hash key node % length heads → left ≡ suc i → (node_at nodes i ≡ node → ⊥) → left' ≡ (link_at links i).next → IsSearch nodes links heads node b left → IsSearch nodes links heads node b left' × (left' < left)
+pub search-next : (key : Key) (nodes : List Node) (links : List Link) (heads : List ℕ) (node : Node) (b left i left' : ℕ) → IsTable key nodes links heads
+    → b ≡ node_hash key node % length heads → left ≡ suc i → (node_at nodes i ≡ node → ⊥) → left' ≡ (link_at links i).next
+    → IsSearch nodes links heads node b left → IsSearch nodes links heads node b left' × (left' < left)
 search-next key nodes links heads node b left i left' h e d other is s =
     let f = bucket_of links (length heads) in
     let within : left ≤ length nodes = s.within in
@@ -262,5 +295,6 @@ search-next key nodes links heads node b left i left' h e d other is s =
       omega arith,
     )
 
-pub search-none : (nodes : List Node) (links : List Link) (heads : List ℕ) (node : Node) (b left : ℕ) → IsSearch nodes links heads node b left → left ≡ 0 → IsAbsent nodes node
+pub search-none : (nodes : List Node) (links : List Link) (heads : List ℕ) (node : Node) (b left : ℕ) → IsSearch nodes links heads node b left → left ≡ 0
+    → IsAbsent nodes node
 search-none nodes links heads node b left s e j lt is = s.above j (omega arith) lt is

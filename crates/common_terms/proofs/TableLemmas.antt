@@ -13,7 +13,8 @@ pub entered-found : (nodes : List Node) (node : Node) (k : ℕ) → k < length n
 entered-found nodes node k lt is = record { within = lt; is = is; adds = inl refl }
 
 -- a node that was added
-pub entered-added : {E : Type 0} (r : Result ℕ E) (old mid new : List Node) (node : Node) → mid ≡ old → IsAbsent old node → IfOk r (λ k. k ≡ length mid) → OnOk r (new ≡ mid ++ node ∷ []) → IfOk r (IsEntered old new node)
+pub entered-added : {E : Type 0} (r : Result ℕ E) (old mid new : List Node) (node : Node) → mid ≡ old → IsAbsent old node → IfOk r (λ k. k ≡ length mid)
+    → OnOk r (new ≡ mid ++ node ∷ []) → IfOk r (IsEntered old new node)
 entered-added (Err e) old mid new node same absent number added = tt
 entered-added (Ok k) old mid new node same absent number added =
     let whole : new ≡ old ++ node ∷ [] = added ∙ ap (λ xs. xs ++ node ∷ []) same in
@@ -29,7 +30,8 @@ pub apart-none : AreApart []
 apart-none p q lt l e = absurd (omega arith)
 
 push-cases : (nodes : List Node) (node : Node) (p : ℕ) → p < length (nodes ++ node ∷ []) → (p < length nodes) ⊎ (p ≡ length nodes)
-push-cases nodes node p lt = ⊎_elim (λ l. inl l) (λ (g : length nodes ≤ p). let e : p ≡ length nodes = omega (arith, length_push nodes node) in inr e) (cases_lt p (length nodes))
+push-cases nodes node p lt = ⊎_elim (λ l. inl l) (λ (g : length nodes ≤ p). let e : p ≡ length nodes = omega (arith, length_push nodes node) in inr e)
+    (cases_lt p (length nodes))
 
 apart-push : (nodes : List Node) (node : Node) → AreApart nodes → IsAbsent nodes node → AreApart (nodes ++ node ∷ [])
 apart-push nodes node apart absent p q lp lq e = ⊎_elim
@@ -58,11 +60,13 @@ few-entered old new node k entered = ⊎_elim
     entered.adds
 
 -- the same, whatever the table answers
-pub apart-either : {E : Type 0} (r : Result ℕ E) (old new : List Node) (node : Node) → AreApart old → IfOk r (IsEntered old new node) → OnErr r (new ≡ old) → AreApart new
+pub apart-either : {E : Type 0} (r : Result ℕ E) (old new : List Node) (node : Node) → AreApart old → IfOk r (IsEntered old new node) → OnErr r (new ≡ old)
+    → AreApart new
 apart-either (Ok k) old new node apart entered same = apart-entered old new node k apart entered
 apart-either (Err e) old new node apart entered same = subst AreApart (sym same) apart
 
-pub few-either : {E : Type 0} (r : Result ℕ E) (old new : List Node) (node : Node) → IfOk r (IsEntered old new node) → OnErr r (new ≡ old) → length new ≤ length old + 1
+pub few-either : {E : Type 0} (r : Result ℕ E) (old new : List Node) (node : Node) → IfOk r (IsEntered old new node) → OnErr r (new ≡ old)
+    → length new ≤ length old + 1
 few-either (Ok k) old new node entered same = few-entered old new node k entered
 few-either (Err e) old new node entered same = let z : length new ≡ length old = ap length same in omega arith
 

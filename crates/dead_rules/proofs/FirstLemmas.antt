@@ -1,5 +1,6 @@
 -- Of equal checks the first alone.
-use Rattle.std.proofs.Common.{◌≡◌, ℕ, suc, zero, ◌+◌, ◌<◌, ◌≤◌, Bool, true, false, List, [], ◌∷◌, ◌++◌, length, map, refl, ap, sym, ◌∙◌, subst, inl, inr, ⊎_elim, arith}
+use Rattle.std.proofs.Common.{◌≡◌, ℕ, suc, zero, ◌+◌, ◌<◌, ◌≤◌, Bool, true, false, List, [], ◌∷◌, ◌++◌, length, map, refl, ap, sym, ◌∙◌, subst, inl, inr}
+use Rattle.std.proofs.Common.{⊎_elim, arith}
 use Rattle.std.specs.Prelude.{Option, Some, None}
 use Rattle.std.specs.Option.{option_or, option_map_or}
 use Rattle.std.proofs.lemmas.Bool.{cases_lt}
@@ -53,7 +54,8 @@ node-of checks j lt = get_or-map check_node checks j no-check (Lit Undef) lt
 
 -- ---- a check is taken
 
-pub taken-there : (table : List Node) (old : List Check) (check : Check) (new : List Node) (number : ℕ) → table ≡ map check_node old → IsEntered table new (check_node check) number → (number ≡ length table → ⊥)
+pub taken-there : (table : List Node) (old : List Check) (check : Check) (new : List Node) (number : ℕ) → table ≡ map check_node old
+    → IsEntered table new (check_node check) number → (number ≡ length table → ⊥)
     → (new ≡ table) × IsTaken old old check
 taken-there table old check new number e entered other =
     let size : length table ≡ length old = ap length e ∙ length-map old check_node in
@@ -68,12 +70,14 @@ taken-there table old check new number e entered other =
     let size' : length new ≡ length table + 1 = ap length more.0 ∙ length_push table (check_node check) in
     let lt : number < length new = entered.within in
     ⊎_elim
-    (λ (k : number < length table). absurd (more.1 number k (sym (get_or_append_left table (check_node check ∷ []) (Lit Undef) number k) ∙ sym (ap (λ ns. node_at ns number) more.0) ∙ entered.is)))
+    (λ (k : number < length table). absurd (more.1 number k (sym (get_or_append_left table (check_node check ∷ []) (Lit Undef) number k)
+    ∙ sym (ap (λ ns. node_at ns number) more.0) ∙ entered.is)))
     (λ (g : length table ≤ number). absurd (other (omega arith)))
     (cases_lt number (length table)))
     entered.adds
 
-pub taken-added : (table : List Node) (old : List Check) (check : Check) (new : List Node) (number : ℕ) → table ≡ map check_node old → IsEntered table new (check_node check) number → number ≡ length table
+pub taken-added : (table : List Node) (old : List Check) (check : Check) (new : List Node) (number : ℕ) → table ≡ map check_node old
+    → IsEntered table new (check_node check) number → number ≡ length table
     → (new ≡ map check_node (old ++ check ∷ [])) × IsTaken old (old ++ check ∷ []) check
 taken-added table old check new number e entered last =
     let size : length table ≡ length old = ap length e ∙ length-map old check_node in
@@ -106,13 +110,16 @@ or-twice None None = refl
 
 stop-push : (vs : List Value) (checks : List Check) (c : Check) → first_stop vs (checks ++ c ∷ []) ≡ option_or (first_stop vs checks) (check_stop vs c)
 stop-push vs [] c = or-none (check_stop vs c)
-stop-push vs (x ∷ checks) c = ap (option_or (check_stop vs x)) (stop-push vs checks c) ∙ sym (or-three (check_stop vs x) (first_stop vs checks) (check_stop vs c))
+stop-push vs (x ∷ checks) c = ap (option_or (check_stop vs x)) (stop-push vs checks c)
+    ∙ sym (or-three (check_stop vs x) (first_stop vs checks) (check_stop vs c))
 
-stop-again : (vs : List Value) (checks : List Check) (j : ℕ) → j < length checks → option_or (first_stop vs checks) (check_stop vs (check_at checks j)) ≡ first_stop vs checks
+stop-again : (vs : List Value) (checks : List Check) (j : ℕ) → j < length checks
+    → option_or (first_stop vs checks) (check_stop vs (check_at checks j)) ≡ first_stop vs checks
 stop-again vs [] j lt = absurd (omega arith)
 stop-again vs (x ∷ checks) zero lt = or-twice (check_stop vs x) (first_stop vs checks)
 stop-again vs (x ∷ checks) (suc j) lt =
-    or-three (check_stop vs x) (first_stop vs checks) (check_stop vs (check_at checks j)) ∙ ap (option_or (check_stop vs x)) (stop-again vs checks j (omega arith))
+    or-three (check_stop vs x) (first_stop vs checks) (check_stop vs (check_at checks j))
+    ∙ ap (option_or (check_stop vs x)) (stop-again vs checks j (omega arith))
 
 -- ---- the loop
 
@@ -143,10 +150,12 @@ with-there old new c k lt is h =
           (λ (m : i < length old). let f = h.all i m in (f.0, f.1, f.2 ∙ sym (at-left old c i m)))
           (λ (g : length old ≤ i). (k, lt, is ∙ sym (at-last old c i (omega arith))))
           (cases_lt i (length old));
-      stop = λ vs. sym (stop-push vs old c ∙ ap (λ s. option_or s (check_stop vs c)) (sym (h.stop vs)) ∙ ap (λ d. option_or (first_stop vs new) (check_stop vs d)) (sym is) ∙ stop-again vs new k lt);
+      stop = λ vs. sym (stop-push vs old c ∙ ap (λ s. option_or s (check_stop vs c)) (sym (h.stop vs))
+          ∙ ap (λ d. option_or (first_stop vs new) (check_stop vs d)) (sym is) ∙ stop-again vs new k lt);
     }
 
-with-added : (old new : List Check) (c : Check) → ((j : ℕ) → j < length new → check_at new j ≡ c → ⊥) → AreFirsts old new → AreFirsts (old ++ c ∷ []) (new ++ c ∷ [])
+with-added : (old new : List Check) (c : Check) → ((j : ℕ) → j < length new → check_at new j ≡ c → ⊥) → AreFirsts old new
+    → AreFirsts (old ++ c ∷ []) (new ++ c ∷ [])
 with-added old new c absent h =
     let size : length (old ++ c ∷ []) ≡ length old + 1 = length_push old c in
     let size' : length (new ++ c ∷ []) ≡ length new + 1 = length_push new c in
@@ -164,11 +173,21 @@ with-added old new c absent h =
           (cases_lt i (length new));
       few = omega arith;
       from = λ j l. ⊎_elim
-          (λ (m : j < length new). let f = h.from j m in let g : f.0 < length old = f.1 in (f.0, omega arith, at-left new c j m ∙ f.2 ∙ sym (at-left old c f.0 g)))
+          (λ (m : j < length new). let f = h.from j m in let g : f.0 < length old = f.1 in (
+            f.0,
+            omega arith,
+            at-left new c j m ∙ f.2
+                ∙ sym (at-left old c f.0 g),
+          ))
           (λ (g : length new ≤ j). (length old, omega arith, at-last new c j (omega arith) ∙ sym (at-last old c (length old) refl)))
           (cases_lt j (length new));
       all = λ i l. ⊎_elim
-          (λ (m : i < length old). let f = h.all i m in let g : f.0 < length new = f.1 in (f.0, omega arith, at-left new c f.0 g ∙ f.2 ∙ sym (at-left old c i m)))
+          (λ (m : i < length old). let f = h.all i m in let g : f.0 < length new = f.1 in (
+            f.0,
+            omega arith,
+            at-left new c f.0 g ∙ f.2
+                ∙ sym (at-left old c i m),
+          ))
           (λ (g : length old ≤ i). (length new, omega arith, at-last new c (length new) refl ∙ sym (at-last old c i (omega arith))))
           (cases_lt i (length old));
       stop = λ vs. stop-push vs new c ∙ ap (λ s. option_or s (check_stop vs c)) (h.stop vs) ∙ sym (stop-push vs old c);
@@ -186,7 +205,8 @@ becomes-firsts flat checks valid h = record {
     nodes = valid.nodes;
     checks = all-from (IsCheck (length flat.nodes)) no-check checks (λ j lt.
         let f = h.from j lt in
-        subst (IsCheck (length flat.nodes)) (sym f.2) (one_of_all (IsCheck (length flat.nodes)) flat.checks f.0 (check_at flat.checks f.0) valid.checks (slice_get-get_or flat.checks f.0 _ f.1)));
+        subst (IsCheck (length flat.nodes)) (sym f.2) (one_of_all (IsCheck (length flat.nodes)) flat.checks f.0 (check_at flat.checks f.0) valid.checks
+        (slice_get-get_or flat.checks f.0 _ f.1)));
     outputs = valid.outputs;
   };
   inputs = refl;
@@ -194,7 +214,8 @@ becomes-firsts flat checks valid h = record {
   nodes = omega arith;
   checks = h.few;
   labels = λ j lt. let f = h.from j lt in (f.0, f.1, ap (λ (c : Check). c.label) f.2);
-  answer = λ inputs plain. let vs = node_values inputs flat.nodes in ap (λ found. option_map_or Stopped found (Values (map (value_at vs) flat.outputs))) (h.stop vs);
+  answer = λ inputs plain. let vs = node_values inputs flat.nodes in ap (λ found. option_map_or Stopped found (Values (map (value_at vs) flat.outputs)))
+      (h.stop vs);
 }
 
 root-stays : (flat : Flat) (checks : List Check) (x : ℕ) → AreFirsts flat.checks checks → IsRoot flat x → IsRoot (with_checks flat checks) x

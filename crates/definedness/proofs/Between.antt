@@ -56,7 +56,8 @@ pub swapped : (p q z : ℤ) → Between p q z → Between q p z
 swapped p q z h = ⊎_elim (λ i. inr i) (λ i. inl i) h
 
 pub rounded_between : (p q z : ℤ) (d : ℕ) → 0 < d → Between p q z → Between (rounded p (pos d)) (rounded q (pos d)) (rounded z (pos d))
-rounded_between p q z d some h = grown p q z (rounded p (pos d)) (rounded q (pos d)) (rounded z (pos d)) (rounded_grows p z d some) (rounded_grows z q d some) (rounded_grows q z d some) (rounded_grows z p d some) h
+rounded_between p q z d some h = grown p q z (rounded p (pos d)) (rounded q (pos d)) (rounded z (pos d)) (rounded_grows p z d some) (rounded_grows z q d some)
+    (rounded_grows q z d some) (rounded_grows z p d some) h
 
 -- ---- products
 
@@ -86,7 +87,8 @@ products_between (negsuc n) a b x l u =
 
 -- the same with the numbers before it
 pub multiples_between : (k a b x : ℤ) → a ≤ℤ x → x ≤ℤ b → Between (a *ℤ k) (b *ℤ k) (x *ℤ k)
-multiples_between k a b x l u = subst (λ p. Between p (b *ℤ k) (x *ℤ k)) (*ℤ_comm k a) (subst (λ p. Between (k *ℤ a) p (x *ℤ k)) (*ℤ_comm k b) (subst (Between (k *ℤ a) (k *ℤ b)) (*ℤ_comm k x) (products_between k a b x l u)))
+multiples_between k a b x l u = subst (λ p. Between p (b *ℤ k) (x *ℤ k)) (*ℤ_comm k a)
+    (subst (λ p. Between (k *ℤ a) p (x *ℤ k)) (*ℤ_comm k b) (subst (Between (k *ℤ a) (k *ℤ b)) (*ℤ_comm k x) (products_between k a b x l u)))
 
 mul_between : (k a b x : ℤ) → a ≤ℤ x → x ≤ℤ b → Between (result_of Mul k a) (result_of Mul k b) (result_of Mul k x)
 mul_between k a b x l u = rounded_between (k *ℤ a) (k *ℤ b) (k *ℤ x) unit (omega arith) (products_between k a b x l u)
@@ -96,5 +98,6 @@ mul_across k a b x l u = rounded_between (a *ℤ k) (b *ℤ k) (x *ℤ k) unit (
 
 pub products_hold : (r s : ℤ × ℤ) (x y : ℤ) → InRange r x → InRange s y → InRange (corners Mul r s) (result_of Mul x y)
 products_hold r s x y h i =
-    two_steps (result_of Mul r.0 s.0) (result_of Mul r.0 s.1) (result_of Mul r.1 s.0) (result_of Mul r.1 s.1) (result_of Mul r.0 y) (result_of Mul r.1 y) (result_of Mul x y)
+    two_steps (result_of Mul r.0 s.0) (result_of Mul r.0 s.1) (result_of Mul r.1 s.0) (result_of Mul r.1 s.1) (result_of Mul r.0 y) (result_of Mul r.1 y)
+    (result_of Mul x y)
     (mul_between r.0 s.0 s.1 y i.0 i.1) (mul_between r.1 s.0 s.1 y i.0 i.1) (mul_across y r.0 r.1 x h.0 h.1)

@@ -1,5 +1,6 @@
 -- What is known of numbers beyond the amounts.
-use Rattle.std.proofs.Common.{◌≡◌, ℕ, zero, suc, ◌+◌, ◌*◌, ◌<◌, ◌≤◌, Bool, true, false, ℤ, pos, negsuc, neg_ℤ, ◌-ℤ◌, ◌*ℤ◌, ◌≤ℤ◌, ◌<ℤ◌, ◌⊎◌, unsigned_abs, refl, ap, sym, ◌∙◌, inl, inr, ⊎_elim, arith}
+use Rattle.std.proofs.Common.{◌≡◌, ℕ, zero, suc, ◌+◌, ◌*◌, ◌<◌, ◌≤◌, Bool, true, false, ℤ, pos, negsuc, neg_ℤ, ◌-ℤ◌, ◌*ℤ◌, ◌≤ℤ◌, ◌<ℤ◌, ◌⊎◌, unsigned_abs, refl}
+use Rattle.std.proofs.Common.{ap, sym, ◌∙◌, inl, inr, ⊎_elim, arith}
 use Rattle.std.proofs.lemmas.Bool.{le-leb, lt-leb, cases_lt}
 use Rattle.std.proofs.lemmas.Int.{ints, clamps, to_z-of_z}
 use Rattle.std.specs.Int.{is_negative, int_min, int_max, w128, cast_unsigned, cast_signed}
@@ -138,7 +139,8 @@ product_beyond x y h =
     let n = nearest (unsigned_abs (x *ℤ y)) unit in
     let great : most < n = omega (arith, h, size_of_signed b n) in
     ⊎_elim
-    (λ (e : is_negative (x *ℤ y) ≡ differ (is_negative x) (is_negative y)). limited_signed b n great ∙ ap (λ s. signed s (most + 1)) (differ_false (is_negative (x *ℤ y)) ∙ e))
+    (λ (e : is_negative (x *ℤ y) ≡ differ (is_negative x) (is_negative y)). limited_signed b n great
+    ∙ ap (λ s. signed s (most + 1)) (differ_false (is_negative (x *ℤ y)) ∙ e))
     (λ (e : x *ℤ y ≡ pos 0). absurd (none e great))
     (sign_of_product x y)
   where
@@ -171,12 +173,14 @@ is_beyond op x y e h = ⊎_elim
     (λ (d : op ≡ Div). rw d (quotient_beyond x y (rw d at h)))
     e
 
-pub corner_number : (op : Op) (x y z : ℤ) (v : Value) → (op ≡ Mul) ⊎ (op ≡ Div) → v ≡ op_value op (Num x) (Num y) Undef → v ≡ Num z → z ≡ limited (result_of op x y)
+pub corner_number : (op : Op) (x y z : ℤ) (v : Value) → (op ≡ Mul) ⊎ (op ≡ Div) → v ≡ op_value op (Num x) (Num y) Undef → v ≡ Num z
+    → z ≡ limited (result_of op x y)
 corner_number op x y z v e is num =
     let b = bounded_is_num (result_of op x y) z (sym (numbers_value op x y e) ∙ sym is ∙ num) in
     b.0 ∙ sym (limited_small (result_of op x y) b.1)
 
-pub corner_beyond : (op : Op) (x y : ℤ) (v : Value) → (op ≡ Mul) ⊎ (op ≡ Div) → v ≡ op_value op (Num x) (Num y) Undef → (v ≡ Undef) ⊎ (v ≡ Over) → signed_beyond x y ≡ limited (result_of op x y)
+pub corner_beyond : (op : Op) (x y : ℤ) (v : Value) → (op ≡ Mul) ⊎ (op ≡ Div) → v ≡ op_value op (Num x) (Num y) Undef → (v ≡ Undef) ⊎ (v ≡ Over)
+    → signed_beyond x y ≡ limited (result_of op x y)
 corner_beyond op x y v e is none =
     let b : v ≡ bounded (result_of op x y) = is ∙ numbers_value op x y e in
     ⊎_elim
@@ -190,24 +194,34 @@ corner_beyond op x y v e is none =
 pub kept : (r z : ℤ) → FitsSigned w128 r → r ≡ z → cast_signed w128 (cast_unsigned w128 r) ≡ z
 kept r z f e = to_z-of_z w128 r f ∙ e
 
-pub pair_kept : (q r y z : ℤ) → FitsSigned w128 q → FitsSigned w128 r → q ≡ y → r ≡ z → ◌≡◌ {A = ℤ × ℤ} (cast_signed w128 (cast_unsigned w128 q), cast_signed w128 (cast_unsigned w128 r)) (y, z)
+pub pair_kept : (q r y z : ℤ) → FitsSigned w128 q → FitsSigned w128 r → q ≡ y → r ≡ z
+    → ◌≡◌ {A = ℤ × ℤ} (cast_signed w128 (cast_unsigned w128 q), cast_signed w128 (cast_unsigned w128 r)) (y, z)
 pair_kept q r y z f g d e = rw (kept q y f d, kept r z g e) refl
 
-pub range_kept : (q r : ℤ) (s : ℤ × ℤ) → FitsSigned w128 q → FitsSigned w128 r → q ≡ limited s.0 → r ≡ limited s.1 → ◌≡◌ {A = ℤ × ℤ} (cast_signed w128 (cast_unsigned w128 q), cast_signed w128 (cast_unsigned w128 r)) (limited_range s)
+pub range_kept : (q r : ℤ) (s : ℤ × ℤ) → FitsSigned w128 q → FitsSigned w128 r → q ≡ limited s.0 → r ≡ limited s.1
+    → ◌≡◌ {A = ℤ × ℤ} (cast_signed w128 (cast_unsigned w128 q), cast_signed w128 (cast_unsigned w128 r)) (limited_range s)
 unfolding limited_range
 range_kept q r s f g d e = pair_kept q r (limited s.0) (limited s.1) f g d e
 
-pub least_kept : (p q r s i j k l : ℤ) → FitsSigned w128 p → FitsSigned w128 q → FitsSigned w128 r → FitsSigned w128 s → p ≡ limited i → q ≡ limited j → r ≡ limited k → s ≡ limited l → least_of (cast_signed w128 (cast_unsigned w128 p)) (cast_signed w128 (cast_unsigned w128 q)) (cast_signed w128 (cast_unsigned w128 r)) (cast_signed w128 (cast_unsigned w128 s)) ≡ limited (least_of i j k l)
-least_kept p q r s i j k l e f g h a b c d = rw (kept p (limited i) e a, kept q (limited j) f b, kept r (limited k) g c, kept s (limited l) h d) (limited_least i j k l)
+pub least_kept : (p q r s i j k l : ℤ) → FitsSigned w128 p → FitsSigned w128 q → FitsSigned w128 r → FitsSigned w128 s → p ≡ limited i → q ≡ limited j
+    → r ≡ limited k → s ≡ limited l → least_of (cast_signed w128 (cast_unsigned w128 p)) (cast_signed w128 (cast_unsigned w128 q))
+    (cast_signed w128 (cast_unsigned w128 r)) (cast_signed w128 (cast_unsigned w128 s)) ≡ limited (least_of i j k l)
+least_kept p q r s i j k l e f g h a b c d = rw (kept p (limited i) e a, kept q (limited j) f b, kept r (limited k) g c, kept s (limited l) h d)
+    (limited_least i j k l)
 
-pub greatest_kept : (p q r s i j k l : ℤ) → FitsSigned w128 p → FitsSigned w128 q → FitsSigned w128 r → FitsSigned w128 s → p ≡ limited i → q ≡ limited j → r ≡ limited k → s ≡ limited l → greatest_of (cast_signed w128 (cast_unsigned w128 p)) (cast_signed w128 (cast_unsigned w128 q)) (cast_signed w128 (cast_unsigned w128 r)) (cast_signed w128 (cast_unsigned w128 s)) ≡ limited (greatest_of i j k l)
-greatest_kept p q r s i j k l e f g h a b c d = rw (kept p (limited i) e a, kept q (limited j) f b, kept r (limited k) g c, kept s (limited l) h d) (limited_greatest i j k l)
+pub greatest_kept : (p q r s i j k l : ℤ) → FitsSigned w128 p → FitsSigned w128 q → FitsSigned w128 r → FitsSigned w128 s → p ≡ limited i → q ≡ limited j
+    → r ≡ limited k → s ≡ limited l → greatest_of (cast_signed w128 (cast_unsigned w128 p)) (cast_signed w128 (cast_unsigned w128 q))
+    (cast_signed w128 (cast_unsigned w128 r)) (cast_signed w128 (cast_unsigned w128 s)) ≡ limited (greatest_of i j k l)
+greatest_kept p q r s i j k l e f g h a b c d = rw (kept p (limited i) e a, kept q (limited j) f b, kept r (limited k) g c, kept s (limited l) h d)
+    (limited_greatest i j k l)
 
 opposite_kept : (z : ℤ) → unsigned_abs z ≤ most * unit → cast_signed w128 (cast_unsigned w128 (pos 0 -ℤ z)) ≡ neg_ℤ z
 opposite_kept (pos n) h = omega (arith, ints)
 opposite_kept (negsuc n) h = omega (arith, ints)
 
-pub opposites_kept : (g z : ℤ) → FitsSigned w128 g → unsigned_abs g ≤ most * unit → g ≡ z → ◌≡◌ {A = ℤ × ℤ} (cast_signed w128 (cast_unsigned w128 (pos 0 -ℤ cast_signed w128 (cast_unsigned w128 g))), cast_signed w128 (cast_unsigned w128 g)) (neg_ℤ z, z)
+pub opposites_kept : (g z : ℤ) → FitsSigned w128 g → unsigned_abs g ≤ most * unit → g ≡ z
+    → ◌≡◌ {A = ℤ × ℤ} (cast_signed w128 (cast_unsigned w128 (pos 0 -ℤ cast_signed w128 (cast_unsigned w128 g))), cast_signed w128 (cast_unsigned w128 g))
+    (neg_ℤ z, z)
 opposites_kept g z f h e = rw (kept g g f refl, opposite_kept g h) (rw e refl)
 
 -- ---- quotients, by what divisors there are
@@ -220,7 +234,8 @@ pub quotients_by_zero : (r s : ℤ × ℤ) → has_zero s ≡ true → has_other
 unfolding quotients
 quotients_by_zero r s h k = rw (h, k) refl
 
-pub quotients_by_both : (r s : ℤ × ℤ) → has_zero s ≡ true → has_other s ≡ true → quotients r s ≡ (neg_ℤ (greatest_size r *ℤ pos unit), greatest_size r *ℤ pos unit)
+pub quotients_by_both : (r s : ℤ × ℤ) → has_zero s ≡ true → has_other s ≡ true
+    → quotients r s ≡ (neg_ℤ (greatest_size r *ℤ pos unit), greatest_size r *ℤ pos unit)
 unfolding quotients
 quotients_by_both r s h k = rw (h, k) refl
 

@@ -62,18 +62,21 @@ pub ordered_same : (r s : ℤ × ℤ) → limited_range r ≡ limited_range s �
 unfolding limited_range
 ordered_same r s e h = subst (λ p. p.0 ≤ℤ p.1) (sym e) (limited_grows s.0 s.1 h)
 
-pub cut_ordered : (low high : ℤ) → limited low ≤ℤ limited high → lowest_amount ≤ℤ high → low ≤ℤ highest_amount → int_max lowest_amount low ≤ℤ int_min high highest_amount
+pub cut_ordered : (low high : ℤ) → limited low ≤ℤ limited high → lowest_amount ≤ℤ high → low ≤ℤ highest_amount
+    → int_max lowest_amount low ≤ℤ int_min high highest_amount
 unfolding limited
 cut_ordered low high h a b = omega (arith, ints, clamps)
 
-pub cut_is_interval : (low high : ℤ) → limited low ≤ℤ limited high → lowest_amount ≤ℤ high → low ≤ℤ highest_amount → IsInterval (int_max lowest_amount low, int_min high highest_amount)
+pub cut_is_interval : (low high : ℤ) → limited low ≤ℤ limited high → lowest_amount ≤ℤ high → low ≤ℤ highest_amount
+    → IsInterval (int_max lowest_amount low, int_min high highest_amount)
 cut_is_interval low high h a b = record {
   low = record { low = omega (arith, ints, clamps); high = omega (arith, ints, clamps) };
   ordered = cut_ordered low high h a b;
   high = record { low = omega (arith, ints, clamps); high = omega (arith, ints, clamps) };
 }
 
-within_is_some : (low high : ℤ) → limited low ≤ℤ limited high → int_lt low lowest_amount ≡ false → int_lt highest_amount high ≡ false → is_some (cut_to_amounts (low, high)) ≡ true
+within_is_some : (low high : ℤ) → limited low ≤ℤ limited high → int_lt low lowest_amount ≡ false → int_lt highest_amount high ≡ false
+    → is_some (cut_to_amounts (low, high)) ≡ true
 unfolding limited
 within_is_some low high h a b =
     let l : lowest_amount ≤ℤ low = grind (arith, ints) in
@@ -84,20 +87,24 @@ within_is_some low high h a b =
 leaves_or_some : (low high : ℤ) → limited low ≤ℤ limited high → (leaves_amounts (low, high) ≡ true) ⊎ (is_some (cut_to_amounts (low, high)) ≡ true)
 leaves_or_some low high h = go (int_lt low lowest_amount) (int_lt highest_amount high) refl refl
   where
-    go : (p q : Bool) → int_lt low lowest_amount ≡ p → int_lt highest_amount high ≡ q → (leaves_amounts (low, high) ≡ true) ⊎ (is_some (cut_to_amounts (low, high)) ≡ true)
+    go : (p q : Bool) → int_lt low lowest_amount ≡ p → int_lt highest_amount high ≡ q
+        → (leaves_amounts (low, high) ≡ true) ⊎ (is_some (cut_to_amounts (low, high)) ≡ true)
     go true q d e = inl (or_left _ _ d)
     go false true d e = inl (or_right (int_lt low lowest_amount) _ e)
     go false false d e = inr (within_is_some low high h d e)
 
-pub some_value : (u o n : Bool) (low high : ℤ) → limited low ≤ℤ limited high → n ≡ (o || leaves_amounts (low, high)) → IsTrue (u || n || is_some (cut_to_amounts (low, high)))
+pub some_value : (u o n : Bool) (low high : ℤ) → limited low ≤ℤ limited high → n ≡ (o || leaves_amounts (low, high))
+    → IsTrue (u || n || is_some (cut_to_amounts (low, high)))
 some_value u o n low high h e = ⊎_elim
     (λ (l : leaves_amounts (low, high) ≡ true). or_left (u || n) _ (or_right u n (e ∙ or_right o _ l)))
     (λ (s : is_some (cut_to_amounts (low, high)) ≡ true). or_right (u || n) _ s)
     (leaves_or_some low high h)
 
 -- a pair as the program keeps it is that pair
-pub range_is_kept : (r : ℤ × ℤ) → FitsSigned w128 r.0 → FitsSigned w128 r.1 → ◌≡◌ {A = ℤ × ℤ} (cast_signed w128 (cast_unsigned w128 r.0), cast_signed w128 (cast_unsigned w128 r.1)) r
+pub range_is_kept : (r : ℤ × ℤ) → FitsSigned w128 r.0 → FitsSigned w128 r.1
+    → ◌≡◌ {A = ℤ × ℤ} (cast_signed w128 (cast_unsigned w128 r.0), cast_signed w128 (cast_unsigned w128 r.1)) r
 range_is_kept r f g = rw (to_z-of_z w128 r.0 f, to_z-of_z w128 r.1 g) refl
 
-pub kept_ordered : (r s : ℤ × ℤ) → FitsSigned w128 r.0 → FitsSigned w128 r.1 → limited_range r ≡ limited_range s → s.0 ≤ℤ s.1 → limited (cast_signed w128 (cast_unsigned w128 r.0)) ≤ℤ limited (cast_signed w128 (cast_unsigned w128 r.1))
+pub kept_ordered : (r s : ℤ × ℤ) → FitsSigned w128 r.0 → FitsSigned w128 r.1 → limited_range r ≡ limited_range s → s.0 ≤ℤ s.1
+    → limited (cast_signed w128 (cast_unsigned w128 r.0)) ≤ℤ limited (cast_signed w128 (cast_unsigned w128 r.1))
 kept_ordered r s f g e h = rw (to_z-of_z w128 r.0 f, to_z-of_z w128 r.1 g) (ordered_same r s e h)

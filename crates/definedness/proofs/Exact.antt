@@ -1,5 +1,6 @@
 -- The ends of what an operator gives of two intervals are results of numbers of these.
-use Rattle.std.proofs.Common.{◌≡◌, ℕ, ◌<◌, Bool, true, false, not, ℤ, pos, negsuc, neg_ℤ, ◌≤ℤ◌, ◌<ℤ◌, ◌⊎◌, unsigned_abs, refl, ap, sym, ◌∙◌, subst, inl, inr, ⊎_elim, arith}
+use Rattle.std.proofs.Common.{◌≡◌, ℕ, ◌<◌, Bool, true, false, not, ℤ, pos, negsuc, neg_ℤ, ◌≤ℤ◌, ◌<ℤ◌, ◌⊎◌, unsigned_abs, refl, ap, sym, ◌∙◌, subst, inl, inr}
+use Rattle.std.proofs.Common.{⊎_elim, arith}
 use mathlib.Core.Bool.{◌&&◌, ◌||◌}
 use Rattle.std.proofs.lemmas.Bool.{true≢false, ne_eqb}
 use Rattle.std.proofs.lemmas.Int.{ints, clamps, by_lt_z}
@@ -7,11 +8,13 @@ use Rattle.std.specs.Int.{int_min, int_max}
 use Rattle.std.specs.Ordering.{int_eq}
 use Rattle.std.specs.Prelude.{int_lt, int_le, IsTrue}
 use Rattle.m_fixed.specs.declared.operator.Op.{Op}
-use Rattle.m_fixed.specs.declared.operator.Op.TheVariants.{Add, Sub, Mul, Div, Neg, Eq, Ne, Lt, Le, Gt, Ge, And, Or, Not, Present, Abs, Positive, PositiveOrNull, Null, Arr, Inf, Max, Min, Truth, Choose, At}
+use Rattle.m_fixed.specs.declared.operator.Op.TheVariants.{Add, Sub, Mul, Div, Neg, Eq, Ne, Lt, Le, Gt, Ge, And, Or, Not, Present, Abs, Positive}
+use Rattle.m_fixed.specs.declared.operator.Op.TheVariants.{PositiveOrNull, Null, Arr, Inf, Max, Min, Truth, Choose, At}
 use Rattle.m_fixed.specs.Amounts.{unit}
 use Rattle.m_fixed.specs.Operators.{result_of, truth, is_zero, cut, quotient}
 use Rattle.definedness.specs.Ranges.{InRange, alone, has_zero, has_other}
-use Rattle.definedness.specs.Results.{truths, may_be_less, may_be_at_most, may_be_equal, may_differ, cut_range, least_of, greatest_of, corners, quotients, least_size, greatest_size, results_of, IsResult, is_exact}
+use Rattle.definedness.specs.Results.{truths, may_be_less, may_be_at_most, may_be_equal, may_differ, cut_range, least_of, greatest_of, corners, quotients}
+use Rattle.definedness.specs.Results.{least_size, greatest_size, results_of, IsResult, is_exact}
 use Rattle.definedness.proofs.Beyond.{quotients_by_others, quotients_by_zero}
 use Rattle.definedness.proofs.Holding.{results_hold}
 use Rattle.definedness.proofs.Wholes.{cut_grows}
@@ -51,11 +54,13 @@ four m p q r s z n e a b =
 
 least_is_one : (p q r s : ℤ) → (least_of p q r s ≡ p) ⊎ (least_of p q r s ≡ q) ⊎ (least_of p q r s ≡ r) ⊎ (least_of p q r s ≡ s)
 unfolding least_of
-least_is_one p q r s = four (int_min p q) p q r s (int_min (int_min p q) (int_min r s)) (int_min r s) (lesser_is (int_min p q) (int_min r s)) (lesser_is p q) (lesser_is r s)
+least_is_one p q r s = four (int_min p q) p q r s (int_min (int_min p q) (int_min r s)) (int_min r s) (lesser_is (int_min p q) (int_min r s)) (lesser_is p q)
+    (lesser_is r s)
 
 greatest_is_one : (p q r s : ℤ) → (greatest_of p q r s ≡ p) ⊎ (greatest_of p q r s ≡ q) ⊎ (greatest_of p q r s ≡ r) ⊎ (greatest_of p q r s ≡ s)
 unfolding greatest_of
-greatest_is_one p q r s = four (int_max p q) p q r s (int_max (int_max p q) (int_max r s)) (int_max r s) (greater_is (int_max p q) (int_max r s)) (greater_is p q) (greater_is r s)
+greatest_is_one p q r s = four (int_max p q) p q r s (int_max (int_max p q) (int_max r s)) (int_max r s) (greater_is (int_max p q) (int_max r s))
+    (greater_is p q) (greater_is r s)
 
 corner_ends : (op : Op) (r s : ℤ × ℤ) → r.0 ≤ℤ r.1 → s.0 ≤ℤ s.1 → HasEnds op r s (corners op r s)
 corner_ends op r s h i =
@@ -142,19 +147,23 @@ zero_or_less : (b : Bool) → truth b ≤ℤ pos 0 → b ≡ false
 zero_or_less false h = refl
 zero_or_less true h = absurd (omega (arith, ints))
 
-test_ends : (op : Op) (t : ℤ → ℤ → Bool) (p f : Bool) (r s : ℤ × ℤ) → r.0 ≤ℤ r.1 → s.0 ≤ℤ s.1 → ((x y : ℤ) → result_of op x y ≡ truth (t x y)) → results_of op r s ≡ truths p f → (p ≡ true → IsTested t true r s) → (f ≡ true → IsTested t false r s) → HasEnds op r s (results_of op r s)
+test_ends : (op : Op) (t : ℤ → ℤ → Bool) (p f : Bool) (r s : ℤ × ℤ) → r.0 ≤ℤ r.1 → s.0 ≤ℤ s.1 → ((x y : ℤ) → result_of op x y ≡ truth (t x y))
+    → results_of op r s ≡ truths p f → (p ≡ true → IsTested t true r s) → (f ≡ true → IsTested t false r s) → HasEnds op r s (results_of op r s)
 test_ends op t p f r s h i same e a b = subst (HasEnds op r s) (sym e) (record { least = least f refl; greatest = greatest p refl })
   where
     here : InRange (truths p f) (truth (t r.0 s.0))
-    here = subst (λ z. InRange (truths p f) z) (same r.0 s.0) (subst (λ v. InRange v (result_of op r.0 s.0)) e (results_hold op r s r.0 s.0 (low r h) (low s i)))
+    here = subst (λ z. InRange (truths p f) z) (same r.0 s.0)
+        (subst (λ v. InRange v (result_of op r.0 s.0)) e (results_hold op r s r.0 s.0 (low r h) (low s i)))
 
     least : (g : Bool) → f ≡ g → IsResult op r s (truth (not f))
     least true d = let w = b d in at op r s w.first w.second (truth (not f)) w.in_first w.in_second (same w.first w.second ∙ ap truth (w.is ∙ sym (ap not d)))
-    least false d = at op r s r.0 s.0 (truth (not f)) (low r h) (low s i) (same r.0 s.0 ∙ ap truth (unit_or_more (t r.0 s.0) (subst (λ g. truth (not g) ≤ℤ truth (t r.0 s.0)) d here.0) ∙ sym (ap not d)))
+    least false d = at op r s r.0 s.0 (truth (not f)) (low r h) (low s i) (same r.0 s.0
+        ∙ ap truth (unit_or_more (t r.0 s.0) (subst (λ g. truth (not g) ≤ℤ truth (t r.0 s.0)) d here.0) ∙ sym (ap not d)))
 
     greatest : (g : Bool) → p ≡ g → IsResult op r s (truth p)
     greatest true d = let w = a d in at op r s w.first w.second (truth p) w.in_first w.in_second (same w.first w.second ∙ ap truth (w.is ∙ sym d))
-    greatest false d = at op r s r.0 s.0 (truth p) (low r h) (low s i) (same r.0 s.0 ∙ ap truth (zero_or_less (t r.0 s.0) (subst (λ g. truth (t r.0 s.0) ≤ℤ truth g) d here.1) ∙ sym d))
+    greatest false d = at op r s r.0 s.0 (truth p) (low r h) (low s i) (same r.0 s.0
+        ∙ ap truth (zero_or_less (t r.0 s.0) (subst (λ g. truth (t r.0 s.0) ≤ℤ truth g) d here.1) ∙ sym d))
 
 less_tested : (r s : ℤ × ℤ) → r.0 ≤ℤ r.1 → s.0 ≤ℤ s.1 → may_be_less r s ≡ true → IsTested int_lt true r s
 less_tested r s h i e = tested int_lt true r s r.0 s.1 (low r h) (high s i) e
@@ -203,13 +212,16 @@ more_differs : (x y : ℤ) → int_lt y x ≡ true → int_eq x y ≡ false
 more_differs x y e = grind (arith, ints)
 
 -- numbers that one function makes equal, where the greatest of each is no less than the least of the other
-meeting : (f : ℤ → ℤ) (r s : ℤ × ℤ) → ((x y : ℤ) → x ≤ℤ y → f x ≤ℤ f y) → r.0 ≤ℤ r.1 → s.0 ≤ℤ s.1 → may_be_equal (f r.0, f r.1) (f s.0, f s.1) ≡ true → IsTested (λ x y. int_eq (f x) (f y)) true r s
+meeting : (f : ℤ → ℤ) (r s : ℤ × ℤ) → ((x y : ℤ) → x ≤ℤ y → f x ≤ℤ f y) → r.0 ≤ℤ r.1 → s.0 ≤ℤ s.1 → may_be_equal (f r.0, f r.1) (f s.0, f s.1) ≡ true
+    → IsTested (λ x y. int_eq (f x) (f y)) true r s
 meeting f r s grows h i e = by_lt_z s.0 r.0
     (λ (a : s.0 <ℤ r.0). by_lt_z s.1 r.0
-    (λ (b : s.1 <ℤ r.0). tested (λ x y. int_eq (f x) (f y)) true r s r.0 s.1 (low r h) (high s i) (one (f r.0) (f s.1) (first_true (int_le (f r.0) (f s.1)) (int_le (f s.0) (f r.1)) e) (grows s.1 r.0 (below s.1 r.0 b))))
+    (λ (b : s.1 <ℤ r.0). tested (λ x y. int_eq (f x) (f y)) true r s r.0 s.1 (low r h) (high s i)
+    (one (f r.0) (f s.1) (first_true (int_le (f r.0) (f s.1)) (int_le (f s.0) (f r.1)) e) (grows s.1 r.0 (below s.1 r.0 b))))
     (λ (b : r.0 ≤ℤ s.1). tested (λ x y. int_eq (f x) (f y)) true r s r.0 r.0 (low r h) (below s.0 r.0 a, b) (same_number (f r.0))))
     (λ (a : r.0 ≤ℤ s.0). by_lt_z r.1 s.0
-    (λ (b : r.1 <ℤ s.0). tested (λ x y. int_eq (f x) (f y)) true r s r.1 s.0 (high r h) (low s i) (other (f r.1) (f s.0) (second_true (int_le (f r.0) (f s.1)) (int_le (f s.0) (f r.1)) e) (grows r.1 s.0 (below r.1 s.0 b))))
+    (λ (b : r.1 <ℤ s.0). tested (λ x y. int_eq (f x) (f y)) true r s r.1 s.0 (high r h) (low s i)
+    (other (f r.1) (f s.0) (second_true (int_le (f r.0) (f s.1)) (int_le (f s.0) (f r.1)) e) (grows r.1 s.0 (below r.1 s.0 b))))
     (λ (b : s.0 ≤ℤ r.1). tested (λ x y. int_eq (f x) (f y)) true r s s.0 s.0 (a, b) (low s i) (same_number (f s.0))))
   where
     below : (x y : ℤ) → x <ℤ y → x ≤ℤ y
@@ -221,7 +233,8 @@ meeting f r s grows h i e = by_lt_z s.0 r.0
     other : (x y : ℤ) → int_le y x ≡ true → x ≤ℤ y → int_eq x y ≡ true
     other x y e h = grind (arith, ints)
 
-differing : (f : ℤ → ℤ) (r s : ℤ × ℤ) → r.0 ≤ℤ r.1 → s.0 ≤ℤ s.1 → may_differ (f r.0, f r.1) (f s.0, f s.1) ≡ true → IsTested (λ x y. int_eq (f x) (f y)) false r s
+differing : (f : ℤ → ℤ) (r s : ℤ × ℤ) → r.0 ≤ℤ r.1 → s.0 ≤ℤ s.1 → may_differ (f r.0, f r.1) (f s.0, f s.1) ≡ true
+    → IsTested (λ x y. int_eq (f x) (f y)) false r s
 differing f r s h i e = ⊎_elim
     (λ a. tested (λ x y. int_eq (f x) (f y)) false r s r.0 s.1 (low r h) (high s i) (less_differs (f r.0) (f s.1) a))
     (λ b. tested (λ x y. int_eq (f x) (f y)) false r s r.1 s.0 (high r h) (low s i) (more_differs (f r.1) (f s.0) b))
@@ -287,7 +300,8 @@ one_other_tested r s h i e = ⊎_elim
     (one_true (has_other r) (has_other s) e)
 
 zeros_tested : (r s : ℤ × ℤ) → (has_zero r && has_zero s) ≡ true → IsTested one_nonzero false r s
-zeros_tested r s e = tested one_nonzero false r s (pos 0) (pos 0) (zero_in r (first_true (has_zero r) (has_zero s) e)) (zero_in s (second_true (has_zero r) (has_zero s) e)) refl
+zeros_tested r s e = tested one_nonzero false r s (pos 0) (pos 0) (zero_in r (first_true (has_zero r) (has_zero s) e))
+    (zero_in s (second_true (has_zero r) (has_zero s) e)) refl
 
 abbrev zero : ℤ → ℤ → Bool
 zero x y = is_zero x
@@ -306,24 +320,34 @@ ends_are_results Sub r s h i x = record { least = at Sub r s r.0 s.1 _ (low r h)
 ends_are_results Mul r s h i x = corner_ends Mul r s h i
 ends_are_results Div r s h i x = quotient_ends r s h i x
 ends_are_results Neg r s h i x = record { least = at Neg r s r.1 s.0 _ (high r h) (low s i) refl; greatest = at Neg r s r.0 s.0 _ (low r h) (low s i) refl }
-ends_are_results Eq r s h i x = test_ends Eq int_eq (may_be_equal r s) (may_differ r s) r s h i (λ x y. refl) refl (meeting (λ x. x) r s (λ x y h. h) h i) (differing (λ x. x) r s h i)
-ends_are_results Ne r s h i x = test_ends Ne (λ x y. not (int_eq x y)) (may_differ r s) (may_be_equal r s) r s h i (λ x y. refl) refl (λ e. opposite int_eq false r s (differing (λ x. x) r s h i e)) (λ e. opposite int_eq true r s (meeting (λ x. x) r s (λ x y h. h) h i e))
-ends_are_results Lt r s h i x = test_ends Lt int_lt (may_be_less r s) (may_be_at_most s r) r s h i (λ x y. refl) refl (less_tested r s h i) (not_less_tested r s h i)
-ends_are_results Le r s h i x = test_ends Le int_le (may_be_at_most r s) (may_be_less s r) r s h i (λ x y. refl) refl (at_most_tested r s h i) (not_at_most_tested r s h i)
-ends_are_results Gt r s h i x = test_ends Gt (λ x y. int_lt y x) (may_be_less s r) (may_be_at_most r s) r s h i (λ x y. refl) refl (λ e. turned int_lt true s r (less_tested s r i h e)) (λ e. turned int_lt false s r (not_less_tested s r i h e))
-ends_are_results Ge r s h i x = test_ends Ge (λ x y. int_le y x) (may_be_at_most s r) (may_be_less r s) r s h i (λ x y. refl) refl (λ e. turned int_le true s r (at_most_tested s r i h e)) (λ e. turned int_le false s r (not_at_most_tested s r i h e))
-ends_are_results And r s h i x = test_ends And nonzero (has_other r && has_other s) (has_zero r || has_zero s) r s h i (λ x y. refl) refl (both_tested r s h i) (one_zero_tested r s h i)
-ends_are_results Or r s h i x = test_ends Or one_nonzero (has_other r || has_other s) (has_zero r && has_zero s) r s h i (λ x y. refl) refl (one_other_tested r s h i) (zeros_tested r s)
+ends_are_results Eq r s h i x = test_ends Eq int_eq (may_be_equal r s) (may_differ r s) r s h i (λ x y. refl) refl (meeting (λ x. x) r s (λ x y h. h) h i)
+    (differing (λ x. x) r s h i)
+ends_are_results Ne r s h i x = test_ends Ne (λ x y. not (int_eq x y)) (may_differ r s) (may_be_equal r s) r s h i (λ x y. refl) refl
+    (λ e. opposite int_eq false r s (differing (λ x. x) r s h i e)) (λ e. opposite int_eq true r s (meeting (λ x. x) r s (λ x y h. h) h i e))
+ends_are_results Lt r s h i x = test_ends Lt int_lt (may_be_less r s) (may_be_at_most s r) r s h i (λ x y. refl) refl (less_tested r s h i)
+    (not_less_tested r s h i)
+ends_are_results Le r s h i x = test_ends Le int_le (may_be_at_most r s) (may_be_less s r) r s h i (λ x y. refl) refl (at_most_tested r s h i)
+    (not_at_most_tested r s h i)
+ends_are_results Gt r s h i x = test_ends Gt (λ x y. int_lt y x) (may_be_less s r) (may_be_at_most r s) r s h i (λ x y. refl) refl
+    (λ e. turned int_lt true s r (less_tested s r i h e)) (λ e. turned int_lt false s r (not_less_tested s r i h e))
+ends_are_results Ge r s h i x = test_ends Ge (λ x y. int_le y x) (may_be_at_most s r) (may_be_less r s) r s h i (λ x y. refl) refl
+    (λ e. turned int_le true s r (at_most_tested s r i h e)) (λ e. turned int_le false s r (not_at_most_tested s r i h e))
+ends_are_results And r s h i x = test_ends And nonzero (has_other r && has_other s) (has_zero r || has_zero s) r s h i (λ x y. refl) refl (both_tested r s h i)
+    (one_zero_tested r s h i)
+ends_are_results Or r s h i x = test_ends Or one_nonzero (has_other r || has_other s) (has_zero r && has_zero s) r s h i (λ x y. refl) refl
+    (one_other_tested r s h i) (zeros_tested r s)
 ends_are_results Not r s h i x = test_ends Not zero (has_zero r) (has_other r) r s h i (λ x y. refl) refl (zero_tested r s i) (other_tested r s h i)
 ends_are_results Present r s h i x = let one = at Present r s r.0 s.0 (pos unit) (low r h) (low s i) refl in record { least = one; greatest = one }
 ends_are_results Abs r s h i x = record { least = least_size_is r s h i; greatest = greatest_size_is r s h i }
-ends_are_results Positive r s h i x = test_ends Positive (λ x y. int_lt (pos 0) x) (may_be_less (alone (pos 0)) r) (may_be_at_most r (alone (pos 0))) r s h i (λ x y. refl) refl
+ends_are_results Positive r s h i x = test_ends Positive (λ x y. int_lt (pos 0) x) (may_be_less (alone (pos 0)) r) (may_be_at_most r (alone (pos 0))) r s h i
+    (λ x y. refl) refl
     (λ e. tested (λ x y. int_lt (pos 0) x) true r s r.1 s.0 (high r h) (low s i) e)
     (λ e. tested (λ x y. int_lt (pos 0) x) false r s r.0 s.0 (low r h) (low s i) (not_above r.0 e))
   where
     not_above : (z : ℤ) → int_le z (pos 0) ≡ true → int_lt (pos 0) z ≡ false
     not_above z e = grind (arith, ints)
-ends_are_results PositiveOrNull r s h i x = test_ends PositiveOrNull (λ x y. int_le (pos 0) x) (may_be_at_most (alone (pos 0)) r) (may_be_less r (alone (pos 0))) r s h i (λ x y. refl) refl
+ends_are_results PositiveOrNull r s h i x = test_ends PositiveOrNull (λ x y. int_le (pos 0) x) (may_be_at_most (alone (pos 0)) r)
+    (may_be_less r (alone (pos 0))) r s h i (λ x y. refl) refl
     (λ e. tested (λ x y. int_le (pos 0) x) true r s r.1 s.0 (high r h) (low s i) e)
     (λ e. tested (λ x y. int_le (pos 0) x) false r s r.0 s.0 (low r h) (low s i) (not_from r.0 e))
   where
@@ -334,6 +358,12 @@ ends_are_results Arr r s h i x = record { least = at Arr r s r.0 s.0 _ (low r h)
 ends_are_results Inf r s h i x = record { least = at Inf r s r.0 s.0 _ (low r h) (low s i) refl; greatest = at Inf r s r.1 s.0 _ (high r h) (low s i) refl }
 ends_are_results Max r s h i x = record { least = at Max r s r.0 s.0 _ (low r h) (low s i) refl; greatest = at Max r s r.1 s.1 _ (high r h) (high s i) refl }
 ends_are_results Min r s h i x = record { least = at Min r s r.0 s.0 _ (low r h) (low s i) refl; greatest = at Min r s r.1 s.1 _ (high r h) (high s i) refl }
-ends_are_results Truth r s h i x = test_ends Truth (λ x y. not (is_zero x)) (has_other r) (has_zero r) r s h i (λ x y. refl) refl (λ e. opposite zero false r s (other_tested r s h i e)) (λ e. opposite zero true r s (zero_tested r s i e))
-ends_are_results Choose r s h i x = record { least = at Choose r s r.0 s.0 _ (low r h) (low s i) refl; greatest = at Choose r s r.0 s.1 _ (low r h) (high s i) refl }
-ends_are_results At r s h i x = test_ends At (λ x y. int_eq (cut x) (cut y)) (may_be_equal (cut_range r) (cut_range s)) (may_differ (cut_range r) (cut_range s)) r s h i (λ x y. refl) refl (meeting cut r s cut_grows h i) (differing cut r s h i)
+ends_are_results Truth r s h i x = test_ends Truth (λ x y. not (is_zero x)) (has_other r) (has_zero r) r s h i (λ x y. refl) refl
+    (λ e. opposite zero false r s (other_tested r s h i e)) (λ e. opposite zero true r s (zero_tested r s i e))
+ends_are_results Choose r s h i x = record {
+  least = at Choose r s r.0 s.0 _ (low r h) (low s i) refl;
+  greatest = at Choose r s r.0 s.1 _ (low r h) (high s i)
+      refl;
+}
+ends_are_results At r s h i x = test_ends At (λ x y. int_eq (cut x) (cut y)) (may_be_equal (cut_range r) (cut_range s)) (may_differ (cut_range r) (cut_range s))
+    r s h i (λ x y. refl) refl (meeting cut r s cut_grows h i) (differing cut r s h i)

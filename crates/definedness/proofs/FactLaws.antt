@@ -12,9 +12,12 @@ use Rattle.m_fixed.specs.declared.operator.Op.TheVariants.{Neg, Not, Present, Ab
 use Rattle.m_fixed.specs.Amounts.{IsAmount, unit}
 use Rattle.m_fixed.specs.Laws.{IsValue}
 use Rattle.m_fixed.specs.Operators.{op_value, of_one, of_two, bounded, result_of, truth, truth_of, chosen, is_zero, counts_undefined_as_zero}
-use Rattle.definedness.specs.Ranges.{InRange, InSome, IsWithin, alone, join, has_zero, has_other, may_be_zero, may_be_other, lowest_amount, highest_amount, cut_to_amounts, leaves_amounts}
+use Rattle.definedness.specs.Ranges.{InRange, InSome, IsWithin, alone, join, has_zero, has_other, may_be_zero, may_be_other, lowest_amount, highest_amount}
+use Rattle.definedness.specs.Ranges.{cut_to_amounts, leaves_amounts}
 use Rattle.definedness.specs.Results.{results_of}
-use Rattle.definedness.specs.Facts.{Possible, Holds, IsFact, one_number, one_of, one_value, is_over_alone, over_alone, fact_of_value, fact_of_input, bounded_fact, fact_of_ranges, presence, fact_of_one, widened, fact_of_two_widened, fact_of_two, truths_of, truth_fact, either, branches, under_condition, choice, fact_of}
+use Rattle.definedness.specs.Facts.{Possible, Holds, IsFact, one_number, one_of, one_value, is_over_alone, over_alone, fact_of_value, fact_of_input}
+use Rattle.definedness.specs.Facts.{bounded_fact, fact_of_ranges, presence, fact_of_one, widened, fact_of_two_widened, fact_of_two, truths_of, truth_fact}
+use Rattle.definedness.specs.Facts.{either, branches, under_condition, choice, fact_of}
 use Rattle.definedness.proofs.Beyond.{bounded_amount, is_over_below, is_over_above}
 use Rattle.definedness.proofs.Cuts.{below, not_below}
 use Rattle.definedness.proofs.Holding.{results_hold, in_truths, in_alone, zero_in, other_in, not_true, not_false}
@@ -41,7 +44,8 @@ in_cut : (r : ℤ × ℤ) (z : ℤ) → InRange r z → lowest_amount ≤ℤ z �
 in_cut r z h l u =
     let a : r.0 ≤ℤ z = h.0 in
     let b : z ≤ℤ r.1 = h.1 in
-    rw (not_below r.1 lowest_amount (omega (arith, ints)), not_below highest_amount r.0 (omega (arith, ints))) (omega (arith, ints, clamps), omega (arith, ints, clamps))
+    rw (not_below r.1 lowest_amount (omega (arith, ints)), not_below highest_amount r.0 (omega (arith, ints)))
+    (omega (arith, ints, clamps), omega (arith, ints, clamps))
 
 amount_of_size : (z : ℤ) → lowest_amount ≤ℤ z → z ≤ℤ highest_amount → IsAmount z
 amount_of_size z l u = record { low = l; high = u }
@@ -52,9 +56,11 @@ bounded_holds u o r z h =
     let l : r.0 ≤ℤ z = h.0 in
     let g : z ≤ℤ r.1 = h.1 in
     by_lt_z z lowest_amount
-    (λ lt. rw (is_over_below z lt) (or_right o (leaves_amounts r) (or_left (int_lt r.0 lowest_amount) (int_lt highest_amount r.1) (below r.0 lowest_amount (omega (arith, ints))))))
+    (λ lt. rw (is_over_below z lt) (or_right o (leaves_amounts r)
+    (or_left (int_lt r.0 lowest_amount) (int_lt highest_amount r.1) (below r.0 lowest_amount (omega (arith, ints))))))
     (λ ge. by_lt_z highest_amount z
-    (λ gt. rw (is_over_above z gt) (or_right o (leaves_amounts r) (or_right (int_lt r.0 lowest_amount) (int_lt highest_amount r.1) (below highest_amount r.1 (omega (arith, ints))))))
+    (λ gt. rw (is_over_above z gt) (or_right o (leaves_amounts r)
+    (or_right (int_lt r.0 lowest_amount) (int_lt highest_amount r.1) (below highest_amount r.1 (omega (arith, ints))))))
     (λ le. rw (bounded_amount z (amount_of_size z ge le)) (in_cut r z h ge le)))
 
 -- ---- what an operator gives of intervals
@@ -69,7 +75,8 @@ over_of_ranges op u o (Some r) (Some s) h = or_left o (leaves_amounts (results_o
 over_of_ranges op u o None s h = h
 over_of_ranges op u o (Some r) None h = h
 
-number_of_ranges : (op : Op) (u o : Bool) (r s : Option (ℤ × ℤ)) (x y : ℤ) → InSome r x → InSome s y → Holds (fact_of_ranges op u o r s) (bounded (result_of op x y))
+number_of_ranges : (op : Op) (u o : Bool) (r s : Option (ℤ × ℤ)) (x y : ℤ) → InSome r x → InSome s y
+    → Holds (fact_of_ranges op u o r s) (bounded (result_of op x y))
 number_of_ranges op u o (Some r) (Some s) x y h i = bounded_holds u o (results_of op r s) (result_of op x y) (results_hold op r s x y h i)
 number_of_ranges op u o None s x y h i = absurd h
 number_of_ranges op u o (Some r) None x y h i = absurd i
@@ -93,7 +100,8 @@ one_strict f k a v hf p h = go (is_over_alone f) refl
     go true e = subst (Holds over_alone) (sym (p (alone_over f a e hf))) refl
     go false e = h
 
-two_strict : (f g k : Possible) (a b v : Value) → Holds f a → Holds g b → (a ≡ Over → v ≡ Over) → (b ≡ Over → v ≡ Over) → Holds k v → Holds (if is_over_alone f || is_over_alone g then over_alone else k) v
+two_strict : (f g k : Possible) (a b v : Value) → Holds f a → Holds g b → (a ≡ Over → v ≡ Over) → (b ≡ Over → v ≡ Over) → Holds k v
+    → Holds (if is_over_alone f || is_over_alone g then over_alone else k) v
 two_strict f g k a b v hf hg p q h = go (is_over_alone f) (is_over_alone g) refl refl
   where
     go : (x y : Bool) → is_over_alone f ≡ x → is_over_alone g ≡ y → Holds (if x || y then over_alone else k) v
@@ -104,13 +112,19 @@ two_strict f g k a b v hf hg p q h = go (is_over_alone f) (is_over_alone g) refl
 -- ---- one argument
 
 -- an operator of one argument that keeps undefined and Over
-one_holds : (op : Op) (f : Possible) (a : Value) → of_one op Over ≡ Over → of_one op Undef ≡ Undef → ((x : ℤ) → of_one op (Num x) ≡ bounded (result_of op x (pos 0))) → Holds f a → Holds (if is_over_alone f then over_alone else fact_of_ranges op f.undef f.over f.range (Some (alone (pos 0)))) (of_one op a)
-one_holds op f a over undef number h = one_strict f (fact_of_ranges op f.undef f.over f.range (Some (alone (pos 0)))) a (of_one op a) h (λ e. ap (of_one op) e ∙ over) (go a h)
+one_holds : (op : Op) (f : Possible) (a : Value) → of_one op Over ≡ Over → of_one op Undef ≡ Undef
+    → ((x : ℤ) → of_one op (Num x) ≡ bounded (result_of op x (pos 0))) → Holds f a
+    → Holds (if is_over_alone f then over_alone else fact_of_ranges op f.undef f.over f.range (Some (alone (pos 0)))) (of_one op a)
+one_holds op f a over undef number h = one_strict f (fact_of_ranges op f.undef f.over f.range (Some (alone (pos 0)))) a (of_one op a) h (λ e. ap (of_one op) e
+    ∙ over) (go a h)
   where
     go : (a : Value) → Holds f a → Holds (fact_of_ranges op f.undef f.over f.range (Some (alone (pos 0)))) (of_one op a)
-    go Over h = subst (Holds (fact_of_ranges op f.undef f.over f.range (Some (alone (pos 0))))) (sym over) (over_of_ranges op f.undef f.over f.range (Some (alone (pos 0))) h)
-    go Undef h = subst (Holds (fact_of_ranges op f.undef f.over f.range (Some (alone (pos 0))))) (sym undef) (undef_of_ranges op f.undef f.over f.range (Some (alone (pos 0))) h)
-    go (Num x) h = subst (Holds (fact_of_ranges op f.undef f.over f.range (Some (alone (pos 0))))) (sym (number x)) (number_of_ranges op f.undef f.over f.range (Some (alone (pos 0))) x (pos 0) h (in_alone (pos 0)))
+    go Over h = subst (Holds (fact_of_ranges op f.undef f.over f.range (Some (alone (pos 0))))) (sym over)
+        (over_of_ranges op f.undef f.over f.range (Some (alone (pos 0))) h)
+    go Undef h = subst (Holds (fact_of_ranges op f.undef f.over f.range (Some (alone (pos 0))))) (sym undef)
+        (undef_of_ranges op f.undef f.over f.range (Some (alone (pos 0))) h)
+    go (Num x) h = subst (Holds (fact_of_ranges op f.undef f.over f.range (Some (alone (pos 0))))) (sym (number x))
+        (number_of_ranges op f.undef f.over f.range (Some (alone (pos 0))) x (pos 0) h (in_alone (pos 0)))
 
 absent_holds : (u : Bool) (r : Option (ℤ × ℤ)) → u ≡ true → InRange (presence u r) (pos 0)
 absent_holds u None h = in_alone (pos 0)
@@ -136,7 +150,8 @@ over_second op (Num x) = refl
 over_second op Over = refl
 
 -- where undefined makes the result undefined
-strict_holds : (op : Op) (f g : Possible) (a b : Value) → counts_undefined_as_zero op ≡ false → Holds f a → Holds g b → Holds (fact_of_ranges op (f.undef || g.undef) (f.over || g.over) f.range g.range) (of_two op a b)
+strict_holds : (op : Op) (f g : Possible) (a b : Value) → counts_undefined_as_zero op ≡ false → Holds f a → Holds g b
+    → Holds (fact_of_ranges op (f.undef || g.undef) (f.over || g.over) f.range g.range) (of_two op a b)
 strict_holds op f g Over b e h i = over_of_ranges op (f.undef || g.undef) (f.over || g.over) f.range g.range (or_left f.over g.over h)
 strict_holds op f g Undef Over e h i = over_of_ranges op (f.undef || g.undef) (f.over || g.over) f.range g.range (or_right f.over g.over i)
 strict_holds op f g (Num x) Over e h i = over_of_ranges op (f.undef || g.undef) (f.over || g.over) f.range g.range (or_right f.over g.over i)
@@ -175,7 +190,8 @@ undef_widened op f g h = go (is_none f.range && is_none g.range)
     go true = h
     go false = undef_of_ranges op (f.undef && g.undef) (f.over || g.over) (widened f) (widened g) h
 
-number_widened : (op : Op) (f g : Possible) (x y : ℤ) → (InSome f.range x ⊎ InSome g.range y) → InSome (widened f) x → InSome (widened g) y → Holds (fact_of_two_widened op f g) (bounded (result_of op x y))
+number_widened : (op : Op) (f g : Possible) (x y : ℤ) → (InSome f.range x ⊎ InSome g.range y) → InSome (widened f) x → InSome (widened g) y
+    → Holds (fact_of_two_widened op f g) (bounded (result_of op x y))
 number_widened op f g x y some h i = go f.range g.range some
   where
     there : Holds (wide op f g) (bounded (result_of op x y))
@@ -187,7 +203,8 @@ number_widened op f g x y some h i = go f.range g.range some
     go (Some r) s some = there
 
 -- where undefined counts as 0 beside a number
-widened_holds : (op : Op) (f g : Possible) (a b : Value) → counts_undefined_as_zero op ≡ true → Holds f a → Holds g b → Holds (fact_of_two_widened op f g) (of_two op a b)
+widened_holds : (op : Op) (f g : Possible) (a b : Value) → counts_undefined_as_zero op ≡ true → Holds f a → Holds g b
+    → Holds (fact_of_two_widened op f g) (of_two op a b)
 widened_holds op f g Over b e h i = over_widened op f g (or_left f.over g.over h)
 widened_holds op f g Undef Over e h i = over_widened op f g (or_right f.over g.over i)
 widened_holds op f g (Num x) Over e h i = over_widened op f g (or_right f.over g.over i)
@@ -196,12 +213,16 @@ widened_holds op f g Undef (Num y) e h i = rw e (number_widened op f g (pos 0) y
 widened_holds op f g (Num x) Undef e h i = rw e (number_widened op f g x (pos 0) (inl h) (in_widened f x h) (zero_widened g i))
 widened_holds op f g (Num x) (Num y) e h i = number_widened op f g x y (inl h) (in_widened f x h) (in_widened g y i)
 
-two_holds : (op : Op) (f g : Possible) (a b : Value) → Holds f a → Holds g b → Holds (if is_over_alone f || is_over_alone g then over_alone else fact_of_two op f g) (of_two op a b)
-two_holds op f g a b h i = two_strict f g (fact_of_two op f g) a b (of_two op a b) h i (λ e. ap (λ v. of_two op v b) e) (λ e. ap (of_two op a) e ∙ over_second op a) (go (counts_undefined_as_zero op) refl)
+two_holds : (op : Op) (f g : Possible) (a b : Value) → Holds f a → Holds g b
+    → Holds (if is_over_alone f || is_over_alone g then over_alone else fact_of_two op f g) (of_two op a b)
+two_holds op f g a b h i = two_strict f g (fact_of_two op f g) a b (of_two op a b) h i (λ e. ap (λ v. of_two op v b) e) (λ e. ap (of_two op a) e
+    ∙ over_second op a) (go (counts_undefined_as_zero op) refl)
   where
     go : (z : Bool) → counts_undefined_as_zero op ≡ z → Holds (fact_of_two op f g) (of_two op a b)
-    go true e = subst (λ z. Holds (if z then fact_of_two_widened op f g else fact_of_ranges op (f.undef || g.undef) (f.over || g.over) f.range g.range) (of_two op a b)) (sym e) (widened_holds op f g a b e h i)
-    go false e = subst (λ z. Holds (if z then fact_of_two_widened op f g else fact_of_ranges op (f.undef || g.undef) (f.over || g.over) f.range g.range) (of_two op a b)) (sym e) (strict_holds op f g a b e h i)
+    go true e = subst (λ z. Holds (if z then fact_of_two_widened op f g else fact_of_ranges op (f.undef || g.undef) (f.over || g.over) f.range g.range)
+        (of_two op a b)) (sym e) (widened_holds op f g a b e h i)
+    go false e = subst (λ z. Holds (if z then fact_of_two_widened op f g else fact_of_ranges op (f.undef || g.undef) (f.over || g.over) f.range g.range)
+        (of_two op a b)) (sym e) (strict_holds op f g a b e h i)
 
 -- ---- the two that select
 
@@ -211,7 +232,8 @@ other_truth o (Some r) h = in_truths (has_other r) (o || has_zero r) false (λ e
 
 number_truth : (o : Bool) (r : Option (ℤ × ℤ)) (x : ℤ) → InSome r x → InRange (truths_of o r) (truth (not (is_zero x)))
 number_truth o None x h = absurd h
-number_truth o (Some r) x h = in_truths (has_other r) (o || has_zero r) (not (is_zero x)) (λ e. other_in r x h (not_true (is_zero x) e)) (λ e. or_right o (has_zero r) (zero_in r x h (not_false (is_zero x) e)))
+number_truth o (Some r) x h = in_truths (has_other r) (o || has_zero r) (not (is_zero x)) (λ e. other_in r x h (not_true (is_zero x) e))
+    (λ e. or_right o (has_zero r) (zero_in r x h (not_false (is_zero x) e)))
 
 truth_holds : (f : Possible) (a : Value) → Holds f a → Holds (truth_fact f) (truth_of a)
 truth_holds f Undef h = other_truth (f.undef || f.over) f.range (or_left f.undef f.over h)

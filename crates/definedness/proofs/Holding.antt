@@ -7,7 +7,8 @@ use Rattle.std.specs.Int.{int_min, int_max}
 use Rattle.std.specs.Ordering.{int_eq}
 use Rattle.std.specs.Prelude.{int_lt, int_le}
 use Rattle.m_fixed.specs.declared.operator.Op.{Op}
-use Rattle.m_fixed.specs.declared.operator.Op.TheVariants.{Add, Sub, Mul, Div, Neg, Eq, Ne, Lt, Le, Gt, Ge, And, Or, Not, Present, Abs, Positive, PositiveOrNull, Null, Arr, Inf, Max, Min, Truth, Choose, At}
+use Rattle.m_fixed.specs.declared.operator.Op.TheVariants.{Add, Sub, Mul, Div, Neg, Eq, Ne, Lt, Le, Gt, Ge, And, Or, Not, Present, Abs, Positive}
+use Rattle.m_fixed.specs.declared.operator.Op.TheVariants.{PositiveOrNull, Null, Arr, Inf, Max, Min, Truth, Choose, At}
 use Rattle.m_fixed.specs.Amounts.{unit}
 use Rattle.m_fixed.specs.Operators.{result_of, truth, is_zero, cut}
 use Rattle.definedness.specs.Ranges.{InRange, alone, has_zero, has_other}
@@ -179,28 +180,38 @@ results_hold Mul r s x y h i = products_hold r s x y h i
 results_hold Div r s x y h i = quotients_hold r s x y h i
 results_hold Neg r s x y h i = opposite_holds r s x h
 results_hold Eq r s x y h i = equal_holds r s x y h i
-results_hold Ne r s x y h i = in_truths (may_differ r s) (may_be_equal r s) (not (int_eq x y)) (λ e. is_other r s x y h i (not_true (int_eq x y) e)) (λ e. is_equal r s x y h i (not_false (int_eq x y) e))
+results_hold Ne r s x y h i = in_truths (may_differ r s) (may_be_equal r s) (not (int_eq x y)) (λ e. is_other r s x y h i (not_true (int_eq x y) e))
+    (λ e. is_equal r s x y h i (not_false (int_eq x y) e))
 results_hold Lt r s x y h i = in_truths (may_be_less r s) (may_be_at_most s r) (int_lt x y) (is_less r s x y h i) (λ e. is_at_most s r y x i h (not_less x y e))
-results_hold Le r s x y h i = in_truths (may_be_at_most r s) (may_be_less s r) (int_le x y) (is_at_most r s x y h i) (λ e. is_less s r y x i h (not_at_most x y e))
+results_hold Le r s x y h i = in_truths (may_be_at_most r s) (may_be_less s r) (int_le x y) (is_at_most r s x y h i)
+    (λ e. is_less s r y x i h (not_at_most x y e))
 results_hold Gt r s x y h i = in_truths (may_be_less s r) (may_be_at_most r s) (int_lt y x) (is_less s r y x i h) (λ e. is_at_most r s x y h i (not_less y x e))
-results_hold Ge r s x y h i = in_truths (may_be_at_most s r) (may_be_less r s) (int_le y x) (is_at_most s r y x i h) (λ e. is_less r s x y h i (not_at_most y x e))
+results_hold Ge r s x y h i = in_truths (may_be_at_most s r) (may_be_less r s) (int_le y x) (is_at_most s r y x i h)
+    (λ e. is_less r s x y h i (not_at_most y x e))
 results_hold And r s x y h i = in_truths (has_other r && has_other s) (has_zero r || has_zero s) (not (is_zero x) && not (is_zero y))
-    (and_both (not (is_zero x)) (not (is_zero y)) (has_other r) (has_other s) (λ e. other_in r x h (not_true (is_zero x) e)) (λ e. other_in s y i (not_true (is_zero y) e)))
-    (and_one (not (is_zero x)) (not (is_zero y)) (has_zero r) (has_zero s) (λ e. zero_in r x h (not_false (is_zero x) e)) (λ e. zero_in s y i (not_false (is_zero y) e)))
+    (and_both (not (is_zero x)) (not (is_zero y)) (has_other r) (has_other s) (λ e. other_in r x h (not_true (is_zero x) e))
+    (λ e. other_in s y i (not_true (is_zero y) e)))
+    (and_one (not (is_zero x)) (not (is_zero y)) (has_zero r) (has_zero s) (λ e. zero_in r x h (not_false (is_zero x) e))
+    (λ e. zero_in s y i (not_false (is_zero y) e)))
 results_hold Or r s x y h i = in_truths (has_other r || has_other s) (has_zero r && has_zero s) (not (is_zero x) || not (is_zero y))
-    (or_one (not (is_zero x)) (not (is_zero y)) (has_other r) (has_other s) (λ e. other_in r x h (not_true (is_zero x) e)) (λ e. other_in s y i (not_true (is_zero y) e)))
-    (or_both (not (is_zero x)) (not (is_zero y)) (has_zero r) (has_zero s) (λ e. zero_in r x h (not_false (is_zero x) e)) (λ e. zero_in s y i (not_false (is_zero y) e)))
+    (or_one (not (is_zero x)) (not (is_zero y)) (has_other r) (has_other s) (λ e. other_in r x h (not_true (is_zero x) e))
+    (λ e. other_in s y i (not_true (is_zero y) e)))
+    (or_both (not (is_zero x)) (not (is_zero y)) (has_zero r) (has_zero s) (λ e. zero_in r x h (not_false (is_zero x) e))
+    (λ e. zero_in s y i (not_false (is_zero y) e)))
 results_hold Not r s x y h i = in_truths (has_zero r) (has_other r) (is_zero x) (zero_in r x h) (other_in r x h)
 results_hold Present r s x y h i = in_alone (pos unit)
 results_hold Abs r s x y h i = size_holds r x h
-results_hold Positive r s x y h i = in_truths (may_be_less (alone (pos 0)) r) (may_be_at_most r (alone (pos 0))) (int_lt (pos 0) x) (is_less (alone (pos 0)) r (pos 0) x (in_alone (pos 0)) h) (λ e. is_at_most r (alone (pos 0)) x (pos 0) h (in_alone (pos 0)) (not_less (pos 0) x e))
-results_hold PositiveOrNull r s x y h i = in_truths (may_be_at_most (alone (pos 0)) r) (may_be_less r (alone (pos 0))) (int_le (pos 0) x) (is_at_most (alone (pos 0)) r (pos 0) x (in_alone (pos 0)) h) (λ e. is_less r (alone (pos 0)) x (pos 0) h (in_alone (pos 0)) (not_at_most (pos 0) x e))
+results_hold Positive r s x y h i = in_truths (may_be_less (alone (pos 0)) r) (may_be_at_most r (alone (pos 0))) (int_lt (pos 0) x)
+    (is_less (alone (pos 0)) r (pos 0) x (in_alone (pos 0)) h) (λ e. is_at_most r (alone (pos 0)) x (pos 0) h (in_alone (pos 0)) (not_less (pos 0) x e))
+results_hold PositiveOrNull r s x y h i = in_truths (may_be_at_most (alone (pos 0)) r) (may_be_less r (alone (pos 0))) (int_le (pos 0) x)
+    (is_at_most (alone (pos 0)) r (pos 0) x (in_alone (pos 0)) h) (λ e. is_less r (alone (pos 0)) x (pos 0) h (in_alone (pos 0)) (not_at_most (pos 0) x e))
 results_hold Null r s x y h i = in_truths (has_zero r) (has_other r) (is_zero x) (zero_in r x h) (other_in r x h)
 results_hold Arr r s x y h i = (arr_grows r.0 x h.0, arr_grows x r.1 h.1)
 results_hold Inf r s x y h i = (inf_grows r.0 x h.0, inf_grows x r.1 h.1)
 results_hold Max r s x y h i = greater_holds r s x y h i
 results_hold Min r s x y h i = lesser_holds r s x y h i
-results_hold Truth r s x y h i = in_truths (has_other r) (has_zero r) (not (is_zero x)) (λ e. other_in r x h (not_true (is_zero x) e)) (λ e. zero_in r x h (not_false (is_zero x) e))
+results_hold Truth r s x y h i = in_truths (has_other r) (has_zero r) (not (is_zero x)) (λ e. other_in r x h (not_true (is_zero x) e))
+    (λ e. zero_in r x h (not_false (is_zero x) e))
 results_hold Choose r s x y h i = i
 results_hold At r s x y h i = equal_holds (cut_range r) (cut_range s) (cut x) (cut y) (cut_in r x h) (cut_in s y i)
 

@@ -1,5 +1,6 @@
 -- Quotients of numbers of two intervals.
-use Rattle.std.proofs.Common.{◌≡◌, ℕ, zero, suc, ◌*◌, ◌<◌, ◌≤◌, Bool, true, false, ℤ, pos, negsuc, neg_ℤ, ◌≤ℤ◌, ◌<ℤ◌, ◌*ℤ◌, ◌⊎◌, unsigned_abs, refl, ap, sym, ◌∙◌, subst, inl, inr, ⊎_elim, arith}
+use Rattle.std.proofs.Common.{◌≡◌, ℕ, zero, suc, ◌*◌, ◌<◌, ◌≤◌, Bool, true, false, ℤ, pos, negsuc, neg_ℤ, ◌≤ℤ◌, ◌<ℤ◌, ◌*ℤ◌, ◌⊎◌, unsigned_abs, refl, ap, sym}
+use Rattle.std.proofs.Common.{◌∙◌, subst, inl, inr, ⊎_elim, arith}
 use mathlib.Core.Bool.{◌&&◌}
 use Rattle.std.proofs.Math.Dec.{eqb-suc-zero}
 use Rattle.std.proofs.lemmas.Int.{ints, clamps, by_lt_z}
@@ -21,7 +22,8 @@ quotient_at x y h = rw h refl
 -- ---- one divisor
 
 opposite_between : (p q z : ℤ) (d : ℕ) → Between p q z → Between (rounded p (negsuc d)) (rounded q (negsuc d)) (rounded z (negsuc d))
-opposite_between p q z d h = rw (rounded_opposite p d, rounded_opposite q d, rounded_opposite z d) (opposite (rounded p (pos (suc d))) (rounded q (pos (suc d))) (rounded z (pos (suc d))) (rounded_between p q z (suc d) (omega arith) h))
+opposite_between p q z d h = rw (rounded_opposite p d, rounded_opposite q d, rounded_opposite z d)
+    (opposite (rounded p (pos (suc d))) (rounded q (pos (suc d))) (rounded z (pos (suc d))) (rounded_between p q z (suc d) (omega arith) h))
 
 divided_between : (p q z y : ℤ) → is_zero y ≡ false → Between p q z → Between (rounded p y) (rounded q y) (rounded z y)
 divided_between p q z (pos zero) e h = absurd (true≢false e)
@@ -47,7 +49,11 @@ rounded_falls : (z : ℤ) (i j k : ℕ) → 0 < i → i ≤ j → j ≤ k → Be
 rounded_falls (pos n) i j k some a b = rw (rounded_above n i, rounded_above n j, rounded_above n k)
     (inr (nearer (nearest n k) (nearest n j) (nearest_falls n j k (omega arith) b), nearer (nearest n j) (nearest n i) (nearest_falls n i j some a)))
 rounded_falls (negsuc n) i j k some a b = rw (rounded_below n i, rounded_below n j, rounded_below n k)
-    (inl (farther (nearest (suc n) j) (nearest (suc n) i) (nearest_falls (suc n) i j some a), farther (nearest (suc n) k) (nearest (suc n) j) (nearest_falls (suc n) j k (omega arith) b)))
+    (inl (
+      farther (nearest (suc n) j) (nearest (suc n) i) (nearest_falls (suc n) i j some a),
+      farther (nearest (suc n) k) (nearest (suc n) j)
+          (nearest_falls (suc n) j k (omega arith) b),
+    ))
 
 -- divisors above zero
 along_above : (z c d y : ℤ) → pos 0 <ℤ c → c ≤ℤ y → y ≤ℤ d → Between (rounded z c) (rounded z d) (rounded z y)
@@ -69,7 +75,8 @@ along_above z (pos i) (negsuc k) (pos j) some l u = absurd (none u)
 along_below : (z c d y : ℤ) → d <ℤ pos 0 → c ≤ℤ y → y ≤ℤ d → Between (rounded z c) (rounded z d) (rounded z y)
 along_below z (negsuc i) (negsuc k) (negsuc j) some l u =
     rw (rounded_opposite z i, rounded_opposite z j, rounded_opposite z k)
-    (swapped _ _ _ (opposite (rounded z (pos (suc k))) (rounded z (pos (suc i))) (rounded z (pos (suc j))) (rounded_falls z (suc k) (suc j) (suc i) (omega arith) (omega (arith, ints)) (omega (arith, ints)))))
+    (swapped _ _ _ (opposite (rounded z (pos (suc k))) (rounded z (pos (suc i))) (rounded z (pos (suc j)))
+    (rounded_falls z (suc k) (suc j) (suc i) (omega arith) (omega (arith, ints)) (omega (arith, ints)))))
 along_below z c (pos k) y some l u = absurd (none some)
   where
     none : pos k <ℤ pos 0 → ⊥
@@ -172,4 +179,5 @@ quotients_hold r s x y h i = go (has_zero s) (has_other s) refl refl
         let z = zero_alone s y d e i in
         let v : quotient x y ≡ pos 0 = ap (quotient x) z in
         rw (quotients_by_zero r s d e, v) (omega (arith, ints), omega (arith, ints))
-    go true true d e = subst (λ v. InRange v (quotient x y)) (sym (quotients_by_both r s d e)) (in_both (quotient x y) (greatest_size r) (unsigned_abs x) (quotient_size x y) (size_in r x h))
+    go true true d e = subst (λ v. InRange v (quotient x y)) (sym (quotients_by_both r s d e))
+        (in_both (quotient x y) (greatest_size r) (unsigned_abs x) (quotient_size x y) (size_in r x h))

@@ -61,12 +61,14 @@ rounded_opposite (negsuc n) d = rw (not_negative (suc d)) (sym (twice_negated (n
     twice_negated (suc n) = refl
 
 pub rounded_grows : (y z : ℤ) (d : ℕ) → 0 < d → y ≤ℤ z → rounded y (pos d) ≤ℤ rounded z (pos d)
-rounded_grows (pos m) (pos n) d some h = rw (rounded_above m d, rounded_above n d) (above (nearest m d) (nearest n d) (nearest_grows m n d some (omega (arith, ints))))
+rounded_grows (pos m) (pos n) d some h = rw (rounded_above m d, rounded_above n d)
+    (above (nearest m d) (nearest n d) (nearest_grows m n d some (omega (arith, ints))))
   where
     above : (m n : ℕ) → m ≤ n → pos m ≤ℤ pos n
     above m n h = omega (arith, ints)
 rounded_grows (negsuc m) (pos n) d some h = rw (rounded_below m d, rounded_above n d) (negated_below (nearest (suc m) d) (nearest n d))
-rounded_grows (negsuc m) (negsuc n) d some h = rw (rounded_below m d, rounded_below n d) (negated_grows (nearest (suc n) d) (nearest (suc m) d) (nearest_grows (suc n) (suc m) d some (omega (arith, ints))))
+rounded_grows (negsuc m) (negsuc n) d some h = rw (rounded_below m d, rounded_below n d)
+    (negated_grows (nearest (suc n) d) (nearest (suc m) d) (nearest_grows (suc n) (suc m) d some (omega (arith, ints))))
 rounded_grows (pos m) (negsuc n) d some h = absurd (none h)
   where
     none : pos m ≤ℤ negsuc n → ⊥

@@ -52,7 +52,8 @@ whole_value op x e h = ⊎_elim
     (λ (i : op ≡ Inf). rw i (bounded_amount (result_of Inf x (pos 0)) (inf_is_amount x h)))
     e
 
-pub whole_number : (op : Op) (x z : ℤ) (v : Value) → (op ≡ Arr) ⊎ (op ≡ Inf) → IsAmount x → v ≡ op_value op (Num x) Undef Undef → v ≡ Num z → z ≡ result_of op x (pos 0)
+pub whole_number : (op : Op) (x z : ℤ) (v : Value) → (op ≡ Arr) ⊎ (op ≡ Inf) → IsAmount x → v ≡ op_value op (Num x) Undef Undef → v ≡ Num z
+    → z ≡ result_of op x (pos 0)
 whole_number op x z v e h is num = num_same z (result_of op x (pos 0)) (sym num ∙ is ∙ whole_value op x e h)
 
 pub whole_is_number : (op : Op) (x : ℤ) (v : Value) → (op ≡ Arr) ⊎ (op ≡ Inf) → IsAmount x → v ≡ op_value op (Num x) Undef Undef → (v ≡ Undef) ⊎ (v ≡ Over) → ⊥

@@ -6,7 +6,8 @@ use Rattle.m_fixed.specs.declared.amount.Value.TheVariants.{Undef, Num, Over}
 use Rattle.m_fixed.specs.declared.operator.Op.{Op}
 use Rattle.m_fixed.specs.declared.operator.Op.TheVariants.{Present, Truth, Choose}
 use Rattle.m_fixed.specs.Operators.{arity_of, counts_undefined_as_zero}
-use Rattle.definedness.specs.Ranges.{InSome, IsWithin, alone, join, has_zero, has_other, may_be_zero, may_be_other, lowest_amount, highest_amount, cut_to_amounts, leaves_amounts}
+use Rattle.definedness.specs.Ranges.{InSome, IsWithin, alone, join, has_zero, has_other, may_be_zero, may_be_other, lowest_amount, highest_amount}
+use Rattle.definedness.specs.Ranges.{cut_to_amounts, leaves_amounts}
 use Rattle.definedness.specs.Results.{truths, results_of}
 
 -- the possible values: undefined, Over, and the numbers of an interval

@@ -2,7 +2,8 @@
 use Rattle.std.specs.Prelude.{◌≡◌, Bool, true, not, ◌&&◌, ◌||◌, ℤ, pos, neg_ℤ, ◌*ℤ◌, int_lt, int_le, if◌then◌else◌}
 use Rattle.std.specs.Int.{int_min, int_max}
 use Rattle.m_fixed.specs.declared.operator.Op.{Op}
-use Rattle.m_fixed.specs.declared.operator.Op.TheVariants.{Add, Sub, Mul, Div, Neg, Eq, Ne, Lt, Le, Gt, Ge, And, Or, Not, Present, Abs, Positive, PositiveOrNull, Null, Arr, Inf, Max, Min, Truth, Choose, At}
+use Rattle.m_fixed.specs.declared.operator.Op.TheVariants.{Add, Sub, Mul, Div, Neg, Eq, Ne, Lt, Le, Gt, Ge, And, Or, Not, Present, Abs, Positive}
+use Rattle.m_fixed.specs.declared.operator.Op.TheVariants.{PositiveOrNull, Null, Arr, Inf, Max, Min, Truth, Choose, At}
 use Rattle.m_fixed.specs.Amounts.{unit}
 use Rattle.m_fixed.specs.Operators.{result_of, truth, cut}
 use Rattle.definedness.specs.Ranges.{InRange, alone, has_zero, has_other}
@@ -43,8 +44,11 @@ greatest_of p q r s = int_max (int_max p q) (int_max r s)
 
 -- from the least to the greatest of what the operator gives of the ends
 abbrev pub corners : Op → ℤ × ℤ → ℤ × ℤ → ℤ × ℤ
-corners op r s =
-    (least_of (result_of op r.0 s.0) (result_of op r.0 s.1) (result_of op r.1 s.0) (result_of op r.1 s.1), greatest_of (result_of op r.0 s.0) (result_of op r.0 s.1) (result_of op r.1 s.0) (result_of op r.1 s.1))
+corners op r s = (
+  least_of (result_of op r.0 s.0) (result_of op r.0 s.1) (result_of op r.1 s.0) (result_of op r.1 s.1),
+  greatest_of (result_of op r.0 s.0)
+      (result_of op r.0 s.1) (result_of op r.1 s.0) (result_of op r.1 s.1),
+)
 
 -- the greatest absolute value of its numbers
 abbrev pub greatest_size : ℤ × ℤ → ℤ

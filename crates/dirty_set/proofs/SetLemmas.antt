@@ -1,5 +1,6 @@
 -- Sets with a summary: their lists, one change after another, and the next member.
-use Rattle.std.proofs.Common.{◌≡◌, ◌≢◌, ℕ, ◌*◌, ◌/◌, ◌<◌, ◌≤◌, Bool, true, false, not, eqb, length, get_or, set, map, replicate, List, sym, ap, subst, ◌∙◌, ⊎_elim, arith}
+use Rattle.std.proofs.Common.{◌≡◌, ◌≢◌, ℕ, ◌*◌, ◌/◌, ◌<◌, ◌≤◌, Bool, true, false, not, eqb, length, get_or, set, map, replicate, List, sym, ap, subst, ◌∙◌}
+use Rattle.std.proofs.Common.{⊎_elim, arith}
 use Rattle.std.specs.List.{range_with_len}
 use Rattle.std.proofs.lemmas.Bool.{cases_eq, cases_lt, eq-eqb, ne_eqb, eqb-true, false≢true}
 use Rattle.std.proofs.lemmas.List.{get_or-set_same, get_or-set_other, get_or_past, length-set, length-replicate, get_or-replicate, ext_get_or}
@@ -31,8 +32,10 @@ list_set f g n k b h here others =
     let below : i < n = omega arith in
     let there : get_or (map g (range_with_len 0 n)) i false ≡ g i = get_or-map-range_with_len g 0 n i i false below (omega arith) in
     ⊎_elim
-    (λ (is : i ≡ k). there ∙ ap g is ∙ here ∙ sym (ap (λ j. get_or (set (map f (range_with_len 0 n)) k b) j false) is ∙ get_or-set_same (map f (range_with_len 0 n)) k b false (omega arith)))
-    (λ (ne : i ≢ k). there ∙ others i ne ∙ sym (get_or-set_other (map f (range_with_len 0 n)) k i b false ne ∙ get_or-map-range_with_len f 0 n i i false below (omega arith)))
+    (λ (is : i ≡ k). there ∙ ap g is ∙ here ∙ sym (ap (λ j. get_or (set (map f (range_with_len 0 n)) k b) j false) is
+    ∙ get_or-set_same (map f (range_with_len 0 n)) k b false (omega arith)))
+    (λ (ne : i ≢ k). there ∙ others i ne ∙ sym (get_or-set_other (map f (range_with_len 0 n)) k i b false ne
+    ∙ get_or-map-range_with_len f 0 n i i false below (omega arith)))
     (cases_eq i k))
 
 pub members_with : (words : List ℕ) (n k : ℕ) → k < n → k / 64 < length words → members (with_bit words k) n ≡ set (members words n) k true
@@ -114,7 +117,8 @@ summed_without words summary n k h below some =
       summed = λ v.
           ⊎_elim
           (λ (is : v ≡ w). subst (λ u. has summary u ≡ not (eqb (word_at (without_bit words k) u) 0)) (sym is)
-          (h.summed w ∙ ap not (ne_eqb (word_at words w) 0 (word_without words k room.0 some)) ∙ sym (ap not (ne_eqb (word_at (without_bit words k) w) 0 some))))
+          (h.summed w ∙ ap not (ne_eqb (word_at words w) 0 (word_without words k room.0 some))
+          ∙ sym (ap not (ne_eqb (word_at (without_bit words k) w) 0 some))))
           (λ (ne : v ≢ w). h.summed v ∙ sym (ap (λ x. not (eqb x 0)) (get_or-set_other words w v _ 0 ne)))
           (cases_eq v w);
     }
@@ -187,7 +191,8 @@ has_within words summary n k h some = ⊎_elim (λ lt. lt) (λ ge. absurd (false
 
 pub all_false : (xs : List Bool) (n : ℕ) → length xs ≡ n → ((k : ℕ) → is_member xs k ≡ false) → xs ≡ replicate n false
 all_false xs n so_many none =
-    ext_get_or false xs (replicate n false) (so_many ∙ sym (length-replicate n false)) (λ i within. none i ∙ sym (get_or-replicate n i false false (omega arith)))
+    ext_get_or false xs (replicate n false) (so_many ∙ sym (length-replicate n false)) (λ i within. none i
+    ∙ sym (get_or-replicate n i false false (omega arith)))
 
 pub none_of_zeros : (words : List ℕ) (m n : ℕ) → words ≡ replicate m 0 → members words n ≡ replicate n false
 none_of_zeros words m n zeros =
@@ -199,4 +204,5 @@ none_of_zeros words m n zeros =
     (cases_lt k n))
   where
     zero_at : (w : ℕ) → word_at (replicate m 0) w ≡ 0
-    zero_at w = ⊎_elim (λ (lt : w < m). get_or-replicate m w 0 0 lt) (λ (ge : m ≤ w). get_or_past (replicate m 0) w 0 (omega (arith, length-replicate {A = ℕ} m 0))) (cases_lt w m)
+    zero_at w = ⊎_elim (λ (lt : w < m). get_or-replicate m w 0 0 lt)
+        (λ (ge : m ≤ w). get_or_past (replicate m 0) w 0 (omega (arith, length-replicate {A = ℕ} m 0))) (cases_lt w m)

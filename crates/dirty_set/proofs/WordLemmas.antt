@@ -1,9 +1,11 @@
 -- Bits of words, one change after another, and the next bit.
-use Rattle.std.proofs.Common.{◌≡◌, ◌≢◌, ℕ, ◌+◌, ◌-◌, ◌*◌, ◌/◌, ◌%◌, ◌^◌, ◌<◌, ◌≤◌, true, false, not, eqb, length, set, List, bit_and, bit_or, w64, refl, sym, ap, ◌∙◌, ⊎_elim, arith, shr-shr}
+use Rattle.std.proofs.Common.{◌≡◌, ◌≢◌, ℕ, ◌+◌, ◌-◌, ◌*◌, ◌/◌, ◌%◌, ◌^◌, ◌<◌, ◌≤◌, true, false, not, eqb, length, set, List, bit_and, bit_or, w64, refl, sym}
+use Rattle.std.proofs.Common.{ap, ◌∙◌, ⊎_elim, arith, shr-shr}
 use Rattle.std.specs.Int.{bit_at, bit_not, trailing_zeros}
 use Rattle.std.proofs.lemmas.Bool.{cases_eq, cases_lt, eq-eqb, ne_eqb, eqb-true, not-false, false≢true}
 use Rattle.std.proofs.lemmas.List.{get_or-set_same, get_or-set_other, get_or_past}
-use Rattle.std.proofs.lemmas.Nat.Bits.{bit_at-zero, bit_at-trailing_zeros, bit_at_set_same, bit_at_set_other, bit_at_clear_same, bit_at_clear_other, bit_at_above}
+use Rattle.std.proofs.lemmas.Nat.Bits.{bit_at-zero, bit_at-trailing_zeros, bit_at_set_same, bit_at_set_other, bit_at_clear_same, bit_at_clear_other}
+use Rattle.std.proofs.lemmas.Nat.Bits.{bit_at_above}
 use lib.Bits.{and_le_l}
 use Rattle.std.proofs.Math.Nat.{div-le_self}
 use Rattle.dirty_set.specs.Members.{IsNext}
@@ -40,8 +42,11 @@ lowest_is word k fits some =
           let split : k + (i - k) ≡ i = omega arith in
           let below : i - k < z = omega arith in
           zero_is word i (ap (bit_at word) (sym split) ∙ sym (shifted word k (i - k)) ∙ h.2 (i - k) below);
-    } in
-    (next, ⊎_elim (λ lt. lt) (λ ge. absurd (let zero : bit_at word (k + z) ≡ 0 = bit_at_above word 64 (k + z) fits ge in omega (arith, one, zero))) (cases_lt (k + z) 64))
+    } in (
+      next,
+      ⊎_elim (λ lt. lt) (λ ge. absurd (let zero : bit_at word (k + z) ≡ 0 = bit_at_above word 64 (k + z) fits ge in omega (arith, one, zero)))
+          (cases_lt (k + z) 64),
+    )
 
 -- ---- words
 
@@ -80,7 +85,8 @@ has_with_other words k i h ne =
 pub has_without_same : (words : List ℕ) (k : ℕ) → k / 64 < length words → has (without_bit words k) k ≡ false
 has_without_same words k h =
     has_in words (k / 64) (bit_and (word_at words (k / 64)) (bit_not w64 (1 * 2 ^ (k % 64) % 2 ^ 64))) k h refl
-    ∙ zero_is (bit_and (word_at words (k / 64)) (bit_not w64 (1 * 2 ^ (k % 64) % 2 ^ 64))) (k % 64) (bit_at_clear_same w64 (word_at words (k / 64)) (k % 64) (low_bits k))
+    ∙ zero_is (bit_and (word_at words (k / 64)) (bit_not w64 (1 * 2 ^ (k % 64) % 2 ^ 64))) (k % 64)
+    (bit_at_clear_same w64 (word_at words (k / 64)) (k % 64) (low_bits k))
 
 pub has_without_other : (words : List ℕ) (k i : ℕ) → k / 64 < length words → i ≢ k → has (without_bit words k) i ≡ has words i
 has_without_other words k i h ne =
@@ -127,7 +133,8 @@ next_in words p w from k start small past next =
     }
 
 -- the same of a word without a bit
-pub none_in : (words : List ℕ) (p w from : ℕ) → from ≤ 64 → ((i : ℕ) → p ≤ i → i < 64 * w + from → has words i ≡ false) → ((i : ℕ) → from ≤ i → is_one (word_at words w) i ≡ false)
+pub none_in : (words : List ℕ) (p w from : ℕ) → from ≤ 64 → ((i : ℕ) → p ≤ i → i < 64 * w + from → has words i ≡ false)
+    → ((i : ℕ) → from ≤ i → is_one (word_at words w) i ≡ false)
     → (i : ℕ) → p ≤ i → i < 64 * (w + 1) → has words i ≡ false
 none_in words p w from small past none i low high =
     ⊎_elim
@@ -155,7 +162,8 @@ word_some words summary w h some =
 
 pub word_there : (words summary : List ℕ) (w : ℕ) → Sums words summary → has summary w ≡ true → w < length words
 word_there words summary w h some =
-    ⊎_elim (λ lt. lt) (λ ge. absurd (let zero : word_at words w ≡ 0 = get_or_past words w 0 ge in omega (arith, word_some words summary w h some, zero))) (cases_lt w (length words))
+    ⊎_elim (λ lt. lt) (λ ge. absurd (let zero : word_at words w ≡ 0 = get_or_past words w 0 ge in omega (arith, word_some words summary w h some, zero)))
+    (cases_lt w (length words))
 
 -- no number of words up to v, by the summary
 pub none_between : (words summary : List ℕ) (p w v : ℕ) → Sums words summary → ((i : ℕ) → p ≤ i → i < 64 * (w + 1) → has words i ≡ false)
@@ -175,7 +183,8 @@ none_behind words summary p w h near far i low =
     none_between words summary p w (i / 64 + 1) h near (λ j from below. far j from) i low (omega arith)
 
 -- the same of p in the middle of a word without a bit from there on
-pub none_near : (words : List ℕ) (p : ℕ) → ((i : ℕ) → p % 64 ≤ i → is_one (word_at words (p / 64)) i ≡ false) → (i : ℕ) → p ≤ i → i < 64 * (p / 64 + 1) → has words i ≡ false
+pub none_near : (words : List ℕ) (p : ℕ) → ((i : ℕ) → p % 64 ≤ i → is_one (word_at words (p / 64)) i ≡ false) → (i : ℕ) → p ≤ i → i < 64 * (p / 64 + 1)
+    → has words i ≡ false
 none_near words p none =
     none_in words p (p / 64) (p % 64) (omega arith) (λ i low high. absurd (omega arith)) none
 

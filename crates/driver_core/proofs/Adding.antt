@@ -1,5 +1,6 @@
 -- What an index has after one more cell.
-use Rattle.std.proofs.Common.{◌≡◌, ◌≤◌, ◌<◌, ◌+◌, ◌-◌, ℕ, ℤ, zero, suc, Bool, true, false, cond, not, ltb, List, [], ◌∷◌, ◌++◌, length, drop, get_or, inl, inr, refl, sym, ap, ◌∙◌, subst, append_assoc, length-append, add-one, arith}
+use Rattle.std.proofs.Common.{◌≡◌, ◌≤◌, ◌<◌, ◌+◌, ◌-◌, ℕ, ℤ, zero, suc, Bool, true, false, cond, not, ltb, List, [], ◌∷◌, ◌++◌, length, drop, get_or, inl, inr}
+use Rattle.std.proofs.Common.{refl, sym, ap, ◌∙◌, subst, append_assoc, length-append, add-one, arith}
 use mathlib.Core.Bool.{◌||◌, ◌&&◌}
 use Rattle.std.specs.Prelude.{Option, Some, None, slice_get}
 use Rattle.std.specs.declared.cmp.Ordering.{Ordering}
@@ -45,7 +46,8 @@ key-other n m x v h = key-other-by n m (int_cmp x v) (nat_cmp n m) refl h
 
 -- ---- numbers of attributes
 
-inj-by : (a b n : List ℕ) (o q : Option ℕ) (s t : Bool) (i : ℕ) → bytes_eq a n ≡ s → bytes_eq b n ≡ t → cond s (Some 0) (option_map (λ k. k + 1) o) ≡ Some i → cond t (Some 0) (option_map (λ k. k + 1) q) ≡ Some i
+inj-by : (a b n : List ℕ) (o q : Option ℕ) (s t : Bool) (i : ℕ) → bytes_eq a n ≡ s → bytes_eq b n ≡ t → cond s (Some 0) (option_map (λ k. k + 1) o) ≡ Some i
+    → cond t (Some 0) (option_map (λ k. k + 1) q) ≡ Some i
     → ((k : ℕ) → o ≡ Some k → q ≡ Some k → a ≡ b) → a ≡ b
 inj-by a b n o q true true i e f g h rest = same a n e ∙ sym (same b n f)
 inj-by a b n o q true false i e f g h rest = let z : 0 ≡ i = cc in let k = shifted-some q i h in absurd (omega (arith, z, k.2))
@@ -126,7 +128,8 @@ module _ (names later : List (List ℕ)) (groups after : BTreeMap (ℕ × ℤ) (
   added-by : (a : List ℕ) (v : ℤ) (b : Bool) → bytes_eq a x ≡ b → group_in behind a v ≡ group_in before a v ++ cond (b && int_eq value v) (cell ∷ []) []
   added-by a v true e =
       subst (λ y. group_in behind y v ≡ group_in before y v ++ cond (int_eq value v) (cell ∷ []) []) (sym (same a x e))
-      (ap (group_of behind v) (own-number names later x n number) ∙ own-by v (int_eq value v) refl ∙ ap (λ l. l ++ cond (int_eq value v) (cell ∷ []) []) (sym (old-by v number)))
+      (ap (group_of behind v) (own-number names later x n number) ∙ own-by v (int_eq value v) refl
+      ∙ ap (λ l. l ++ cond (int_eq value v) (cell ∷ []) []) (sym (old-by v number)))
   added-by a v false e =
       ap (group_of behind v) (other-number names later x a n number e) ∙ other-by v (index_of a names) (λ m f. differs names later x a n m number e f)
 
@@ -152,7 +155,8 @@ taken-by : (o : Option ℤ) (value v : ℤ) (cell : ℕ) (first : List ℕ) (s b
 taken-by None value v cell first true false h = append-nil (first ++ [])
 taken-by None value v cell first false false h = append-nil (first ++ [])
 taken-by None value v cell first true true h = absurd (false≢true (sym (h refl)))
-taken-by None value v cell first false true h = ap (λ l. l ++ cond (int_eq value v) (cell ∷ []) []) (append-nil first) ∙ ap (λ t. first ++ cond t (cell ∷ []) []) (sym (or-nothing (int_eq value v)))
+taken-by None value v cell first false true h = ap (λ l. l ++ cond (int_eq value v) (cell ∷ []) []) (append-nil first)
+    ∙ ap (λ t. first ++ cond t (cell ∷ []) []) (sym (or-nothing (int_eq value v)))
 taken-by (Some y) value v cell first false true h = absurd (false≢true (h refl))
 taken-by (Some y) value v cell first true b h = append-nil (first ++ cond (is_one_of (Some y) (v ∷ [])) (cell ∷ []) [])
 taken-by (Some y) value v cell first false false h = append-nil (first ++ cond (is_one_of (Some y) (v ∷ [])) (cell ∷ []) [])
@@ -164,18 +168,21 @@ seen-by None value s false h = ap (λ t. t || false) h
 seen-by (Some y) value s b h = ap (λ t. t || b) h
 
 -- one pair more
-pub one-seen : (ps : List (List ℕ × ℤ)) (pair : List ℕ × ℤ) (seen now : List (List ℕ)) → ((a : List ℕ) → has a seen ≡ is_some (last_value a ps)) → ((a : List ℕ) → has a now ≡ (has a seen || bytes_eq a pair.0))
+pub one-seen : (ps : List (List ℕ × ℤ)) (pair : List ℕ × ℤ) (seen now : List (List ℕ)) → ((a : List ℕ) → has a seen ≡ is_some (last_value a ps))
+    → ((a : List ℕ) → has a now ≡ (has a seen || bytes_eq a pair.0))
     → (a : List ℕ) → has a now ≡ is_some (last_value a (pair ∷ ps))
 one-seen ps pair seen now h k a = k a ∙ seen-by (last_value a ps) pair.1 (has a seen) (bytes_eq a pair.0) (h a)
 
-pub one-taken : (ps : List (List ℕ × ℤ)) (pair : List ℕ × ℤ) (seen : List (List ℕ)) (cell : ℕ) (first so_far now : KindIndex) → ((a : List ℕ) → has a seen ≡ is_some (last_value a ps))
+pub one-taken : (ps : List (List ℕ × ℤ)) (pair : List ℕ × ℤ) (seen : List (List ℕ)) (cell : ℕ) (first so_far now : KindIndex)
+    → ((a : List ℕ) → has a seen ≡ is_some (last_value a ps))
     → ((a : List ℕ) (v : ℤ) → group_in so_far a v ≡ group_in first a v ++ cond (is_one_of (last_value a ps) (v ∷ [])) (cell ∷ []) [])
     → ((a : List ℕ) (v : ℤ) → group_in now a v ≡ group_in so_far a v ++ cond (not (has pair.0 seen) && (bytes_eq a pair.0 && int_eq pair.1 v)) (cell ∷ []) [])
     → (a : List ℕ) (v : ℤ) → group_in now a v ≡ group_in first a v ++ cond (is_one_of (last_value a (pair ∷ ps)) (v ∷ [])) (cell ∷ []) []
 one-taken ps pair seen cell first so_far now h k g a v =
     g a v
     ∙ ap (λ l. l ++ cond (not (has pair.0 seen) && (bytes_eq a pair.0 && int_eq pair.1 v)) (cell ∷ []) []) (k a v)
-    ∙ taken-by (last_value a ps) pair.1 v cell (group_in first a v) (has pair.0 seen) (bytes_eq a pair.0) (λ e. ap (λ y. has y seen) (sym (same a pair.0 e)) ∙ h a)
+    ∙ taken-by (last_value a ps) pair.1 v cell (group_in first a v) (has pair.0 seen) (bytes_eq a pair.0) (λ e. ap (λ y. has y seen) (sym (same a pair.0 e))
+    ∙ h a)
 
 -- the last of what is left, before what is done
 pub back-one : {A : Type 0} (xs : List A) (left : ℕ) (x : A) → 0 < left → left ≤ length xs → x ≡ get_or xs (left - 1) x → drop (left - 1) xs ≡ x ∷ drop left xs
@@ -189,7 +196,8 @@ front-one xs i x l e = drop_more xs i x l ∙ ap (λ y. y ∷ drop (i + 1) xs) (
 
 -- ---- variables in turn
 
-suc-turn : (vs : List Variable) (i : ℕ) (x : Variable) (a : List ℕ) (values : List ℤ) → slice_get vs i ≡ Some x → cells_with a values (drop i vs) ≡ of_kind a values x ++ cells_with a values (drop (suc i) vs)
+suc-turn : (vs : List Variable) (i : ℕ) (x : Variable) (a : List ℕ) (values : List ℤ) → slice_get vs i ≡ Some x
+    → cells_with a values (drop i vs) ≡ of_kind a values x ++ cells_with a values (drop (suc i) vs)
 suc-turn [] i x a values e = absurd (cc)
 suc-turn (y ∷ vs) zero x a values e = let s : y ≡ x = cc in ap (λ z. of_kind a values z ++ cells_with a values vs) s
 suc-turn (y ∷ vs) (suc i) x a values e = suc-turn vs i x a values e

@@ -24,7 +24,8 @@ use Rattle.driver_core.proofs.Orders.{times-append}
 
 pub joined-push : (index : KindIndex) (a : ℕ) (vs : List ℤ) (v : ℤ) → joined index a (vs ++ v ∷ []) ≡ joined index a vs ++ group_at index a v
 joined-push index a [] v = append-nil (group_at index a v)
-joined-push index a (w ∷ vs) v = ap (λ l. group_at index a w ++ l) (joined-push index a vs v) ∙ sym (append_assoc (group_at index a w) (joined index a vs) (group_at index a v))
+joined-push index a (w ∷ vs) v = ap (λ l. group_at index a w ++ l) (joined-push index a vs v)
+    ∙ sym (append_assoc (group_at index a w) (joined index a vs) (group_at index a v))
 
 -- ---- each value once
 
@@ -42,12 +43,16 @@ or-cond true c = refl
 or-cond false c = refl
 
 -- with one more value that is seen
-pub seen-more : (old new : BTreeSet ℤ) (value w : ℤ) → w ≡ value → ((q : ℤ) → contains int_cmp new q ≡ cond (int_eq w q) true (contains int_cmp old q)) → (v : ℤ) → contains int_cmp new v ≡ (int_eq v value || contains int_cmp old v)
+pub seen-more : (old new : BTreeSet ℤ) (value w : ℤ) → w ≡ value → ((q : ℤ) → contains int_cmp new q ≡ cond (int_eq w q) true (contains int_cmp old q))
+    → (v : ℤ) → contains int_cmp new v ≡ (int_eq v value || contains int_cmp old v)
 seen-more old new value w e u v =
-    u v ∙ ap (λ x. cond (int_eq x v) true (contains int_cmp old v)) e ∙ ap (λ b. cond b true (contains int_cmp old v)) (flip-by value v (int_eq value v) (int_eq v value) refl refl) ∙ or-cond (int_eq v value) (contains int_cmp old v)
+    u v ∙ ap (λ x. cond (int_eq x v) true (contains int_cmp old v)) e
+    ∙ ap (λ b. cond b true (contains int_cmp old v)) (flip-by value v (int_eq value v) (int_eq v value) refl refl)
+    ∙ or-cond (int_eq v value) (contains int_cmp old v)
 
 -- a value that wasn't seen is kept
-pub kept-more : (seen : BTreeSet ℤ) (index : KindIndex) (a : ℕ) (value w : ℤ) (fresh : Bool) (old new : List ℕ) → w ≡ value → fresh ≡ not (contains int_cmp seen w) → fresh ≡ true → new ≡ old ++ group_at index a value
+pub kept-more : (seen : BTreeSet ℤ) (index : KindIndex) (a : ℕ) (value w : ℤ) (fresh : Bool) (old new : List ℕ) → w ≡ value
+    → fresh ≡ not (contains int_cmp seen w) → fresh ≡ true → new ≡ old ++ group_at index a value
     → new ≡ old ++ cond (contains int_cmp seen value) [] (group_at index a value)
 kept-more seen index a value w fresh old new e f t g =
     g ∙ ap (λ b. old ++ cond b [] (group_at index a value)) (sym (ap (contains int_cmp seen) (sym e) ∙ not-true (contains int_cmp seen w) (sym f ∙ t)))
@@ -83,7 +88,8 @@ one-again a v vs true None h = refl
 one-again a v vs true (Some y) h = again y v vs (int_eq y v) refl h
 
 one-more : (c n : ℕ) (v : ℤ) (vs : List ℤ) (i : Bool) (o : Option ℤ) → has_amount v vs ≡ false
-    → times c (cond (i && is_one_of o (v ∷ vs)) (n ∷ []) []) ≡ times c (cond (i && is_one_of o (v ∷ [])) (n ∷ []) []) + times c (cond (i && is_one_of o vs) (n ∷ []) [])
+    → times c (cond (i && is_one_of o (v ∷ vs)) (n ∷ []) []) ≡ times c (cond (i && is_one_of o (v ∷ [])) (n ∷ []) []) + times c
+    (cond (i && is_one_of o vs) (n ∷ []) [])
 one-more c n v vs false o h = refl
 one-more c n v vs true None h = refl
 one-more c n v vs true (Some y) h = times-two c n (int_eq y v) (has_amount y vs) (apart y v vs (int_eq y v) refl h)
@@ -104,7 +110,8 @@ with-more c a v vs (x ∷ all) h =
     let t = with-more c a v vs all h in
     omega (arith, p, q, r, s, t)
 
-none-by : (a : List ℕ) (all : List Variable) (i : Bool) (o : Option ℤ) (n : ℕ) → cells_with a [] all ≡ [] → cond (i && is_one_of o []) (n ∷ []) [] ++ cells_with a [] all ≡ []
+none-by : (a : List ℕ) (all : List Variable) (i : Bool) (o : Option ℤ) (n : ℕ) → cells_with a [] all ≡ []
+    → cond (i && is_one_of o []) (n ∷ []) [] ++ cells_with a [] all ≡ []
 none-by a all false o n h = h
 none-by a all true None n h = h
 none-by a all true (Some y) n h = h
@@ -114,7 +121,8 @@ with-none a [] = refl
 with-none a (x ∷ all) = none-by a all (is_input x.item.role) (last_value a x.item.pairs) x.first_cell (with-none a all)
 
 -- a value more, unless it stands again
-pub kept-turn : (c : ℕ) (old now group rest : List ℕ) (s t : Bool) → now ≡ old ++ cond s [] group → s ≡ t → times c old ≡ times c rest → times c now ≡ times c (cond t [] group ++ rest)
+pub kept-turn : (c : ℕ) (old now group rest : List ℕ) (s t : Bool) → now ≡ old ++ cond s [] group → s ≡ t → times c old ≡ times c rest
+    → times c now ≡ times c (cond t [] group ++ rest)
 kept-turn c old now group rest s t e f h =
     let a = ap (times c) (e ∙ ap (λ b. old ++ cond b [] group) f) in
     let p = times-append c old (cond t [] group) in
@@ -124,7 +132,8 @@ kept-turn c old now group rest s t e f h =
 -- ---- an index
 
 -- the group of one more value, unless it stands again
-more-by : (c : ℕ) (all : List Variable) (a : List ℕ) (v : ℤ) (vs : List ℤ) (group rest : List ℕ) (b : Bool) → has_amount v vs ≡ b → group ≡ cells_with a (v ∷ []) all → times c rest ≡ times c (cells_with a vs all)
+more-by : (c : ℕ) (all : List Variable) (a : List ℕ) (v : ℤ) (vs : List ℤ) (group rest : List ℕ) (b : Bool) → has_amount v vs ≡ b
+    → group ≡ cells_with a (v ∷ []) all → times c rest ≡ times c (cells_with a vs all)
     → times c (cond b [] group ++ rest) ≡ times c (cells_with a (v ∷ vs) all)
 more-by c all a v vs group rest true e g h = h ∙ sym (ap (times c) (with-again a v vs all e))
 more-by c all a v vs group rest false e g h =
@@ -133,7 +142,8 @@ more-by c all a v vs group rest false e g h =
     let m = with-more c a v vs all e in
     omega (arith, p, h, k, m)
 
-nothing-by : (c : ℕ) (all : List Variable) (a : List ℕ) (v : ℤ) (vs : List ℤ) (b : Bool) → has_amount v vs ≡ b → [] ≡ cells_with a (v ∷ []) all → times c [] ≡ times c (cells_with a vs all)
+nothing-by : (c : ℕ) (all : List Variable) (a : List ℕ) (v : ℤ) (vs : List ℤ) (b : Bool) → has_amount v vs ≡ b → [] ≡ cells_with a (v ∷ []) all
+    → times c [] ≡ times c (cells_with a vs all)
     → times c [] ≡ times c (cells_with a (v ∷ vs) all)
 nothing-by c all a v vs true e g h = h ∙ sym (ap (times c) (with-again a v vs all e))
 nothing-by c all a v vs false e g h =
@@ -142,12 +152,15 @@ nothing-by c all a v vs false e g h =
     omega (arith, h, k, m)
 
 -- the groups of an attribute's values, each value once, have the cells of the kind
-groups-of : (c : ℕ) (all : List Variable) (index : KindIndex) (a : List ℕ) (n : Option ℕ) → ((v : ℤ) → group_of index v n ≡ cells_with a (v ∷ []) all) → (vs : List ℤ)
+groups-of : (c : ℕ) (all : List Variable) (index : KindIndex) (a : List ℕ) (n : Option ℕ) → ((v : ℤ) → group_of index v n ≡ cells_with a (v ∷ []) all)
+    → (vs : List ℤ)
     → times c (groups_of index vs n) ≡ times c (cells_with a vs all)
 groups-of c all index a None g [] = sym (ap (times c) (with-none a all))
 groups-of c all index a None g (v ∷ vs) = nothing-by c all a v vs (has_amount v vs) refl (g v) (groups-of c all index a None g vs)
 groups-of c all index a (Some n) g [] = sym (ap (times c) (with-none a all))
-groups-of c all index a (Some n) g (v ∷ vs) = more-by c all a v vs (group_at index n v) (groups_at index n vs) (has_amount v vs) refl (g v) (groups-of c all index a (Some n) g vs)
+groups-of c all index a (Some n) g (v ∷ vs) = more-by c all a v vs (group_at index n v) (groups_at index n vs) (has_amount v vs) refl (g v)
+    (groups-of c all index a (Some n) g vs)
 
-pub groups-with : (c : ℕ) (all : List Variable) (index : KindIndex) (a : List ℕ) (vs : List ℤ) → IsIndexOf all index → times c (groups_in index a vs) ≡ times c (cells_with a vs all)
+pub groups-with : (c : ℕ) (all : List Variable) (index : KindIndex) (a : List ℕ) (vs : List ℤ) → IsIndexOf all index
+    → times c (groups_in index a vs) ≡ times c (cells_with a vs all)
 groups-with c all index a vs h = groups-of c all index a (index_of a index.attributes) (h a) vs

@@ -30,7 +30,8 @@ body-at w (b ∷ bs) zero e = refl
 body-at w (b ∷ bs) (suc f) e = body-at w bs f e
 
 -- before the first level nothing costs anything
-pub level-first : (core : Core) (base : Base) (n : ℕ) (weights : List ℕ) → weights ≡ replicate n 0 → (f : ℕ) → get_or weights f 0 ≡ capped (weight_in core base 0 f)
+pub level-first : (core : Core) (base : Base) (n : ℕ) (weights : List ℕ) → weights ≡ replicate n 0 → (f : ℕ)
+    → get_or weights f 0 ≡ capped (weight_in core base 0 f)
 level-first core base n weights e f = ap (λ l. get_or l f 0) e ∙ none n f
   where
     none : (n f : ℕ) → get_or (replicate {A = ℕ} n 0) f 0 ≡ 0
@@ -50,4 +51,5 @@ level-next core base n rules cells weights next er ec before e f =
     ap (λ l. get_or l f 0) e
     ∙ body-at (λ b. capped (block_weight rules cells t b)) core.bodies f refl
     ∙ ap (λ k. capped (block_weight rules k t (body_of core f))) ec
-    ∙ capped-all rules (base_weight base) base.cells t u (λ g. Unit {0}) (omega (arith, er)) (λ g h. let b = before g in omega (arith, b)) (body_of core f) (any-all (body_of core f))
+    ∙ capped-all rules (base_weight base) base.cells t u (λ g. Unit {0}) (omega (arith, er)) (λ g h. let b = before g in omega (arith, b)) (body_of core f)
+    (any-all (body_of core f))

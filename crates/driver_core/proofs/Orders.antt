@@ -1,5 +1,6 @@
 -- A list in ascending order is told by how often each number stands in it.
-use Rattle.std.proofs.Common.{◌≡◌, ◌≤◌, ◌<◌, ◌+◌, ℕ, suc, Bool, true, false, cond, eqb, ltb, leb, List, [], ◌∷◌, ◌++◌, length, get_or, refl, sym, ap, ◌∙◌, arith}
+use Rattle.std.proofs.Common.{◌≡◌, ◌≤◌, ◌<◌, ◌+◌, ℕ, suc, Bool, true, false, cond, eqb, ltb, leb, List, [], ◌∷◌, ◌++◌, length, get_or, refl, sym, ap, ◌∙◌}
+use Rattle.std.proofs.Common.{arith}
 use Rattle.std.specs.List.{sum_by}
 use Rattle.std.specs.List.Sorted.{IsPermutation, IsSorted, IsNonDecreasingBy}
 use Rattle.std.specs.Ordering.{nat_cmp}
@@ -37,7 +38,8 @@ pub times-ascending : (c : ℕ) (ns : List ℕ) → times c (ascending ns) ≡ t
 times-ascending c [] = refl
 times-ascending c (n ∷ ns) = times-placed c n (ascending ns) ∙ ap (λ k. once (eqb c n) + k) (times-ascending c ns)
 
-length-placed-by : (n m : ℕ) (ms : List ℕ) (b : Bool) → length (placed n ms) ≡ suc (length ms) → length (cond b (n ∷ m ∷ ms) (m ∷ placed n ms)) ≡ suc (suc (length ms))
+length-placed-by : (n m : ℕ) (ms : List ℕ) (b : Bool) → length (placed n ms) ≡ suc (length ms)
+    → length (cond b (n ∷ m ∷ ms) (m ∷ placed n ms)) ≡ suc (suc (length ms))
 length-placed-by n m ms true h = refl
 length-placed-by n m ms false h = ap suc h
 
@@ -110,7 +112,11 @@ times-permutation c xs ys p = times-sum c ys ∙ sum_by-IsPermutation (λ n. onc
 
 rises : (least : ℕ) (xs : List ℕ) → ((d : ℕ) → 0 < length xs → least ≤ get_or xs 0 d) → IsNonDecreasingBy (λ n. n) xs → Ascends least xs
 rises least [] h s = tt
-rises least (x ∷ xs) h s = (h x (omega arith), rises x xs (λ d l. s 0 1 d (omega arith) (omega arith)) (λ i j d l k. s (suc i) (suc j) d (omega arith) (omega arith)))
+rises least (x ∷ xs) h s = (
+  h x (omega arith),
+  rises x xs (λ d l. s 0 1 d (omega arith) (omega arith))
+      (λ i j d l k. s (suc i) (suc j) d (omega arith) (omega arith)),
+)
 
 -- the sorted list is the list in ascending order
 pub sorted-ascending : (xs ys : List ℕ) → IsPermutation xs ys → IsSorted nat_cmp ys → ys ≡ ascending xs
@@ -120,7 +126,8 @@ sorted-ascending xs ys p s =
 
 -- lists with the same numbers have one order
 pub one-order : (xs ys : List ℕ) → ((c : ℕ) → times c xs ≡ times c ys) → ascending xs ≡ ascending ys
-one-order xs ys h = same 0 0 (ascending xs) (ascending ys) (ascending-ascends xs) (ascending-ascends ys) (λ c. times-ascending c xs ∙ h c ∙ sym (times-ascending c ys))
+one-order xs ys h = same 0 0 (ascending xs) (ascending ys) (ascending-ascends xs) (ascending-ascends ys) (λ c. times-ascending c xs ∙ h c
+    ∙ sym (times-ascending c ys))
 
 pub times-append : (c : ℕ) (xs ys : List ℕ) → times c (xs ++ ys) ≡ times c xs + times c ys
 times-append c [] ys = omega arith

@@ -3,7 +3,8 @@
 use Rattle.std.specs.Prelude.{ℕ, zero, suc, ◌+◌, ◌*◌, List, length}
 use Rattle.std.specs.List.{sum_by}
 use Rattle.micro_m.specs.declared.base.Base.{Base}
-use Rattle.micro_m.specs.Trees.{Tree, lit as lit_tree, cell as cell_tree, pick, apply as apply_tree, chain as chain_tree, Trees, none, more, Steps as TreeSteps, end, step}
+use Rattle.micro_m.specs.Trees.{Tree, lit as lit_tree, cell as cell_tree, pick, apply as apply_tree, chain as chain_tree, Trees, none, more, Steps as TreeSteps}
+use Rattle.micro_m.specs.Trees.{end, step}
 use Rattle.micro_m.specs.Bases.{Definition}
 use Rattle.micro_m.specs.Failures.{Check}
 use Rattle.driver_core.specs.declared.program.Core.{Core}

@@ -27,25 +27,30 @@ pub plain-within : (inputs : List Value) → ArePlain inputs → AreWithin [] in
 plain-within inputs plain = record { plain = plain; possible = λ n low. absurd (omega (arith, low)) }
 
 -- past the end of the facts an input has the fact of inputs
-pub within-holds : (given : List Possible) (inputs : List Value) (n : ℕ) → AreWithin given inputs → Holds (slice_index_or given n fact_of_input) (slice_index_or inputs n Undef)
+pub within-holds : (given : List Possible) (inputs : List Value) (n : ℕ) → AreWithin given inputs
+    → Holds (slice_index_or given n fact_of_input) (slice_index_or inputs n Undef)
 within-holds given inputs n within =
     ⊎_elim
     (λ (low : n < length given). within.possible n low)
-    (λ (high : length given ≤ n). subst (λ f. Holds f (slice_index_or inputs n Undef)) (sym (get_or_past given n fact_of_input high)) (plain-holds inputs n within.plain))
+    (λ (high : length given ≤ n). subst (λ f. Holds f (slice_index_or inputs n Undef)) (sym (get_or_past given n fact_of_input high))
+    (plain-holds inputs n within.plain))
     (cases_lt n (length given))
 
 -- ---- nodes, where the inputs have facts
 
-step-within : (given : List Possible) (inputs : List Value) (fact : ℕ → Possible) (value : ℕ → Value) (count p : ℕ) (node : Node) → AreWithin given inputs → IsNode count p node
+step-within : (given : List Possible) (inputs : List Value) (fact : ℕ → Possible) (value : ℕ → Value) (count p : ℕ) (node : Node) → AreWithin given inputs
+    → IsNode count p node
     → ((q : ℕ) → q < p → Holds (fact q) (value q)) → Holds (entry_by (facts_with given) fact node) (entry_by (values_for inputs) value node)
 step-within given inputs fact value count p (Input n) within h all = within-holds given inputs n within
 step-within given inputs fact value count p (Lit v) within h all = value_fact_holds v
-step-within given inputs fact value count p (Do op a b c) within h all = operator_fact_holds op (fact a) (fact b) (fact c) (value a) (value b) (value c) (all a h.0) (all b h.1) (all c h.2)
+step-within given inputs fact value count p (Do op a b c) within h all = operator_fact_holds op (fact a) (fact b) (fact c) (value a) (value b) (value c)
+    (all a h.0) (all b h.1) (all c h.2)
 
 holds-both : (f g : Possible) (v w : Value) → f ≡ g → v ≡ w → Holds g w → Holds f v
 holds-both f g v w e d h = subst (λ f. Holds f v) (sym e) (subst (Holds g) (sym d) h)
 
-pub holds-within : (given : List Possible) (inputs : List Value) (count : ℕ) (nodes : List Node) (p : ℕ) → AreWithin given inputs → AreValid count nodes → p < length nodes
+pub holds-within : (given : List Possible) (inputs : List Value) (count : ℕ) (nodes : List Node) (p : ℕ) → AreWithin given inputs → AreValid count nodes
+    → p < length nodes
     → Holds (entry_at (facts_with given) nodes p) (entry_at (values_for inputs) nodes p)
 holds-within given inputs count nodes p within valid = strong (λ p. p < length nodes → Holds (fact p) (value p)) each p
   where
@@ -66,11 +71,14 @@ flat-within given flat inputs p h within lt = holds-within given inputs flat.inp
 
 -- ---- the same where nothing is known of them
 
-pub step-holds : (inputs : List Value) (fact : ℕ → Possible) (value : ℕ → Value) (count p : ℕ) (node : Node) → ArePlain inputs → IsNode count p node → ((q : ℕ) → q < p → Holds (fact q) (value q)) → Holds (entry_by facts fact node) (entry_by (values_for inputs) value node)
+pub step-holds : (inputs : List Value) (fact : ℕ → Possible) (value : ℕ → Value) (count p : ℕ) (node : Node) → ArePlain inputs → IsNode count p node
+    → ((q : ℕ) → q < p → Holds (fact q) (value q)) → Holds (entry_by facts fact node) (entry_by (values_for inputs) value node)
 step-holds inputs fact value count p node plain = step-within [] inputs fact value count p node (plain-within inputs plain)
 
-pub holds-at : (inputs : List Value) (count : ℕ) (nodes : List Node) (p : ℕ) → ArePlain inputs → AreValid count nodes → p < length nodes → Holds (entry_at facts nodes p) (entry_at (values_for inputs) nodes p)
+pub holds-at : (inputs : List Value) (count : ℕ) (nodes : List Node) (p : ℕ) → ArePlain inputs → AreValid count nodes → p < length nodes
+    → Holds (entry_at facts nodes p) (entry_at (values_for inputs) nodes p)
 holds-at inputs count nodes p plain = holds-within [] inputs count nodes p (plain-within inputs plain)
 
-pub flat-holds : (flat : Flat) (inputs : List Value) (p : ℕ) → IsFlat flat → ArePlain inputs → p < length flat.nodes → Holds (entry_at facts flat.nodes p) (value_at (node_values inputs flat.nodes) p)
+pub flat-holds : (flat : Flat) (inputs : List Value) (p : ℕ) → IsFlat flat → ArePlain inputs → p < length flat.nodes
+    → Holds (entry_at facts flat.nodes p) (value_at (node_values inputs flat.nodes) p)
 flat-holds flat inputs p h plain lt = flat-within [] flat inputs p h (plain-within inputs plain) lt

@@ -16,7 +16,8 @@ abbrev more : {X : Type 0} → Reading X → List X → Node → List X
 more reading entries node = entries ++ entry_of reading entries node ∷ []
 
 -- further nodes leave the entries before them
-fold_keeps : {X : Type 0} (reading : Reading X) (nodes : List Node) (entries : List X) (k : ℕ) (d : X) → k < length entries → get_or (fold (more reading) entries nodes) k d ≡ get_or entries k d
+fold_keeps : {X : Type 0} (reading : Reading X) (nodes : List Node) (entries : List X) (k : ℕ) (d : X) → k < length entries
+    → get_or (fold (more reading) entries nodes) k d ≡ get_or entries k d
 fold_keeps reading [] entries k d h = refl
 fold_keeps reading (node ∷ nodes) entries k d h =
     fold_keeps reading nodes (more reading entries node) k d (omega (arith, length-append entries (entry_of reading entries node ∷ [])))

@@ -17,38 +17,45 @@ use Rattle.flat_code.proofs.ReadLemmas.{strong, entry-at, apply-same}
 pub reads-node : (count p x : ℕ) (node : Node) → IsNode count p node → Reads node x → x < p
 reads-node count p x (Input n) h i = absurd i
 reads-node count p x (Lit v) h i = absurd i
-reads-node count p x (Do op a b c) h i = ⊎_elim (λ e. subst (λ x. x < p) (sym e) h.0) (λ j. ⊎_elim (λ e. subst (λ x. x < p) (sym e) h.1) (λ e. subst (λ x. x < p) (sym e) h.2) j) i
+reads-node count p x (Do op a b c) h i = ⊎_elim (λ e. subst (λ x. x < p) (sym e) h.0)
+    (λ j. ⊎_elim (λ e. subst (λ x. x < p) (sym e) h.1) (λ e. subst (λ x. x < p) (sym e) h.2) j) i
 
 pub valid-new : (count : ℕ) (old new : List Node) (kept : ℕ → Bool) (m : ℕ → ℕ) → IsPart old new kept m → AreValid count old → AreValid count new
 valid-new count old new kept m h valid k lt =
     let f = h.from k lt in
     let p = f.0 in
     let node = h.node p f.1 f.2 in
-    subst (λ k. IsNode count k (node_at new k)) f.3 (subst (IsNode count (m p)) (sym node) (go (node_at old p) (valid p f.1) (λ x i. h.order x p f.1 (h.closed p x f.1 f.2 i) f.2)))
+    subst (λ k. IsNode count k (node_at new k)) f.3
+    (subst (IsNode count (m p)) (sym node) (go (node_at old p) (valid p f.1) (λ x i. h.order x p f.1 (h.closed p x f.1 f.2 i) f.2)))
   where
     go : {p : ℕ} (node : Node) → IsNode count p node → ((x : ℕ) → Reads node x → x < p → m x < m p) → IsNode count (m p) (renamed m node)
     go (Input n) i less = i
     go (Lit v) i less = tt
     go (Do op a b c) i less = (less a (inl refl) i.0, less b (inr (inl refl)) i.1, less c (inr (inr refl)) i.2)
 
-pub entry-renamed : {X : Type 0} (r : Reading X) (m : ℕ → ℕ) (new old : ℕ → X) (node : Node) → ((x : ℕ) → Reads node x → new (m x) ≡ old x) → entry_by r new (renamed m node) ≡ entry_by r old node
+pub entry-renamed : {X : Type 0} (r : Reading X) (m : ℕ → ℕ) (new old : ℕ → X) (node : Node) → ((x : ℕ) → Reads node x → new (m x) ≡ old x)
+    → entry_by r new (renamed m node) ≡ entry_by r old node
 entry-renamed r m new old (Input n) same = refl
 entry-renamed r m new old (Lit v) same = refl
 entry-renamed r m new old (Do op a b c) same = apply-same (r.apply op) (same a (inl refl)) (same b (inr (inl refl))) (same c (inr (inr refl)))
 
 -- a kept node has the same entry under its new number, in every reading
-pub part-at : {X : Type 0} (r : Reading X) (count : ℕ) (old new : List Node) (kept : ℕ → Bool) (m : ℕ → ℕ) → IsPart old new kept m → AreValid count old → (p : ℕ) → p < length old → kept p ≡ true → entry_at r new (m p) ≡ entry_at r old p
+pub part-at : {X : Type 0} (r : Reading X) (count : ℕ) (old new : List Node) (kept : ℕ → Bool) (m : ℕ → ℕ) → IsPart old new kept m → AreValid count old
+    → (p : ℕ) → p < length old → kept p ≡ true → entry_at r new (m p) ≡ entry_at r old p
 part-at r count old new kept m h valid p = strong (λ p. p < length old → kept p ≡ true → entry_at r new (m p) ≡ entry_at r old p) each p
   where
-    each : (p : ℕ) → ((q : ℕ) → q < p → q < length old → kept q ≡ true → entry_at r new (m q) ≡ entry_at r old q) → p < length old → kept p ≡ true → entry_at r new (m p) ≡ entry_at r old p
+    each : (p : ℕ) → ((q : ℕ) → q < p → q < length old → kept q ≡ true → entry_at r new (m q) ≡ entry_at r old q) → p < length old → kept p ≡ true
+        → entry_at r new (m p) ≡ entry_at r old p
     each p all lt k =
         entry-at r count new (m p) (valid-new count old new kept m h valid) (h.within p lt k)
         ∙ ap (entry_by r (entry_at r new)) (h.node p lt k)
-        ∙ entry-renamed r m (entry_at r new) (entry_at r old) (node_at old p) (λ x i. let l = reads-node count p x (node_at old p) (valid p lt) i in all x l (omega arith) (h.closed p x lt k i))
+        ∙ entry-renamed r m (entry_at r new) (entry_at r old) (node_at old p) (λ x i. let l = reads-node count p x (node_at old p) (valid p lt) i in all x l
+        (omega arith) (h.closed p x lt k i))
         ∙ sym (entry-at r count old p valid lt)
 
 -- different kept nodes have different numbers
-part-apart : (old new : List Node) (kept : ℕ → Bool) (m : ℕ → ℕ) → IsPart old new kept m → (p q : ℕ) → p < length old → q < length old → kept p ≡ true → kept q ≡ true → m p ≡ m q → p ≡ q
+part-apart : (old new : List Node) (kept : ℕ → Bool) (m : ℕ → ℕ) → IsPart old new kept m → (p q : ℕ) → p < length old → q < length old → kept p ≡ true
+    → kept q ≡ true → m p ≡ m q → p ≡ q
 part-apart old new kept m h p q lp lq kp kq e =
     ⊎_elim
     (λ (l : p < q). let z = h.order p q lq kp kq l in absurd (omega arith))
@@ -102,16 +109,21 @@ folded-part count old new kept m h valid folded = record {
   normal = λ k lt. let f = h.from k lt in
       subst (λ k. IsNormal (node_at new k)) f.3 (subst IsNormal (sym (h.node f.0 f.1 f.2)) (normal-renamed m (node_at old f.0) (folded.normal f.0 f.1)));
   unfixed = λ k lt. let f = h.from k lt in
-      subst (λ k. IsOpen (node_at new k) (entry_at facts new k)) f.3 (subst (λ n. IsOpen n (entry_at facts new (m f.0))) (sym (h.node f.0 f.1 f.2)) (subst (IsOpen (renamed m (node_at old f.0))) (sym (part-at facts count old new kept m h valid f.0 f.1 f.2)) (open-renamed m (node_at old f.0) (entry_at facts old f.0) (folded.unfixed f.0 f.1))));
+      subst (λ k. IsOpen (node_at new k) (entry_at facts new k)) f.3 (subst (λ n. IsOpen n (entry_at facts new (m f.0))) (sym (h.node f.0 f.1 f.2))
+      (subst (IsOpen (renamed m (node_at old f.0))) (sym (part-at facts count old new kept m h valid f.0 f.1 f.2))
+      (open-renamed m (node_at old f.0) (entry_at facts old f.0) (folded.unfixed f.0 f.1))));
   apart = λ j k lj lk e. let f = h.from j lj in let g = h.from k lk in
-      let same : renamed m (node_at old f.0) ≡ renamed m (node_at old g.0) = sym (h.node f.0 f.1 f.2) ∙ ap (node_at new) f.3 ∙ e ∙ sym (ap (node_at new) g.3) ∙ h.node g.0 g.1 g.2 in
+      let same : renamed m (node_at old f.0) ≡ renamed m (node_at old g.0) = sym (h.node f.0 f.1 f.2) ∙ ap (node_at new) f.3 ∙ e ∙ sym (ap (node_at new) g.3)
+      ∙ h.node g.0 g.1 g.2 in
       let nodes : node_at old f.0 ≡ node_at old g.0 = back (node_at old f.0) (node_at old g.0) (number f.0 g.0 f.1 g.1 f.2 g.2) same in
       sym f.3 ∙ ap m (folded.apart f.0 g.0 f.1 g.1 nodes) ∙ g.3;
   formless = λ k lt. let f = h.from k lt in
-      subst (λ k. has_form new (node_at new k) ≡ false) f.3 (ap (has_form new) (h.node f.0 f.1 f.2) ∙ forms f.0 f.1 f.2 (node_at old f.0) (valid f.0 f.1) (λ x i. h.closed f.0 x f.1 f.2 i) ∙ folded.formless f.0 f.1);
+      subst (λ k. has_form new (node_at new k) ≡ false) f.3 (ap (has_form new) (h.node f.0 f.1 f.2)
+      ∙ forms f.0 f.1 f.2 (node_at old f.0) (valid f.0 f.1) (λ x i. h.closed f.0 x f.1 f.2 i) ∙ folded.formless f.0 f.1);
 }
   where
-    number : (p q : ℕ) → p < length old → q < length old → kept p ≡ true → kept q ≡ true → (x y : ℕ) → Reads (node_at old p) x → Reads (node_at old q) y → m x ≡ m y → x ≡ y
+    number : (p q : ℕ) → p < length old → q < length old → kept p ≡ true → kept q ≡ true → (x y : ℕ) → Reads (node_at old p) x → Reads (node_at old q) y
+        → m x ≡ m y → x ≡ y
     number p q lp lq kp kq x y i j =
         let lx = reads-node count p x (node_at old p) (valid p lp) i in
         let ly = reads-node count q y (node_at old q) (valid q lq) j in
@@ -136,7 +148,8 @@ folded-part count old new kept m h valid folded = record {
         let fc : c ≡ c' = one c c' (inr (inr refl)) (inr (inr refl)) ec in
         cc
 
-    forms : (p : ℕ) → p < length old → kept p ≡ true → (node : Node) → IsNode count p node → ((x : ℕ) → Reads node x → kept x ≡ true) → has_form new (renamed m node) ≡ has_form old node
+    forms : (p : ℕ) → p < length old → kept p ≡ true → (node : Node) → IsNode count p node → ((x : ℕ) → Reads node x → kept x ≡ true)
+        → has_form new (renamed m node) ≡ has_form old node
     forms p lt k (Input n) i closed = refl
     forms p lt k (Lit v) i closed = refl
     forms p lt k (Do op a b c) i closed =

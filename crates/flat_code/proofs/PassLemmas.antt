@@ -3,7 +3,8 @@ use Rattle.std.proofs.Common.{◌≤◌, length, ◌∙◌, arith}
 use Rattle.flat_code.specs.declared.program.Flat.{Flat}
 use Rattle.flat_code.specs.Passes.{HaveLabelsOf, Becomes}
 
-pub labels-then : (first second third : Flat) → HaveLabelsOf first.checks second.checks → HaveLabelsOf second.checks third.checks → HaveLabelsOf first.checks third.checks
+pub labels-then : (first second third : Flat) → HaveLabelsOf first.checks second.checks → HaveLabelsOf second.checks third.checks
+    → HaveLabelsOf first.checks third.checks
 labels-then first second third f g j lt =
     let s = g j lt in
     let r = f s.0 s.1 in

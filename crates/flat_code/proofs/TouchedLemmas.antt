@@ -77,7 +77,8 @@ entry_same before now put vs ws (Do op a b c) same h =
 pub some_argument_same : (f g : ℕ → Bool) (node : Node) → ((k : ℕ) → f k ≡ g k) → some_argument f node ≡ some_argument g node
 some_argument_same f g node h = ap (λ test. some_argument test node) (λ i. λ k. h k i)
 
-pub some_argument_below : (m p : ℕ) (f g : ℕ → Bool) (node : Node) → IsNode m p node → ((k : ℕ) → k < p → f k ≡ g k) → some_argument f node ≡ some_argument g node
+pub some_argument_below : (m p : ℕ) (f g : ℕ → Bool) (node : Node) → IsNode m p node → ((k : ℕ) → k < p → f k ≡ g k)
+    → some_argument f node ≡ some_argument g node
 some_argument_below m p f g (Input n) h same = refl
 some_argument_below m p f g (Lit v) h same = refl
 some_argument_below m p f g (Do op a b c) h same =
@@ -101,7 +102,8 @@ either : (s t a b c d x y z : Bool)
     → ((a || (d && x)) || (s && (b || (d && y))) || (t && (c || (d && z)))) ≡ ((a || (s && b) || (t && c)) || (d && (x || (s && y) || (t && z))))
 either s t a b c d x y z = grind arith
 
-pub some_argument_or : (f g : ℕ → Bool) (d : Bool) (node : Node) → some_argument (λ k. f k || (d && g k)) node ≡ (some_argument f node || (d && some_argument g node))
+pub some_argument_or : (f g : ℕ → Bool) (d : Bool) (node : Node)
+    → some_argument (λ k. f k || (d && g k)) node ≡ (some_argument f node || (d && some_argument g node))
 some_argument_or f g true (Input n) = refl
 some_argument_or f g false (Input n) = refl
 some_argument_or f g true (Lit v) = refl
@@ -114,7 +116,8 @@ differs_set : (old kept : List Value) (p : ℕ) (v : Value) → p < length kept 
     → differs (value_at old k) (value_at (set kept p v) k) ≡ (differs (value_at old k) (value_at kept k) || (differs (value_at old p) v && eqb k p))
 differs_set old kept p v h same k = ⊎_elim at_p elsewhere (cases_eq k p)
   where
-    at_p : k ≡ p → differs (value_at old k) (value_at (set kept p v) k) ≡ (differs (value_at old k) (value_at kept k) || (differs (value_at old p) v && eqb k p))
+    at_p : k ≡ p → differs (value_at old k) (value_at (set kept p v) k)
+        ≡ (differs (value_at old k) (value_at kept k) || (differs (value_at old p) v && eqb k p))
     at_p is =
         let new : value_at (set kept p v) p ≡ v = get_or-set_same kept p v Undef h in
         let none : differs (value_at old p) (value_at kept p) ≡ false = ap (differs (value_at old p)) same ∙ differs_self (value_at old p) in
@@ -125,7 +128,8 @@ differs_set old kept p v h same k = ⊎_elim at_p elsewhere (cases_eq k p)
         and_true true = refl
         and_true false = refl
 
-    elsewhere : k ≢ p → differs (value_at old k) (value_at (set kept p v) k) ≡ (differs (value_at old k) (value_at kept k) || (differs (value_at old p) v && eqb k p))
+    elsewhere : k ≢ p → differs (value_at old k) (value_at (set kept p v) k)
+        ≡ (differs (value_at old k) (value_at kept k) || (differs (value_at old p) v && eqb k p))
     elsewhere ne =
         let kept_there : value_at (set kept p v) k ≡ value_at kept k = get_or-set_other kept p k v Undef ne in
         let no : eqb k p ≡ false = ne_eqb k p ne in
@@ -141,26 +145,32 @@ differs_set old kept p v h same k = ⊎_elim at_p elsewhere (cases_eq k p)
 pub touched_set : (put : List Bool) (old kept : List Value) (p : ℕ) (v : Value) (node : Node) → p < length kept → value_at kept p ≡ value_at old p
     → is_touched put old (set kept p v) node ≡ (is_touched put old kept node || (differs (value_at old p) v && some_argument (λ k. eqb k p) node))
 touched_set put old kept p v node h same =
-    let changed : some_argument (λ k. differs (value_at old k) (value_at (set kept p v) k)) node ≡ (some_argument (λ k. differs (value_at old k) (value_at kept k)) node || (differs (value_at old p) v && some_argument (λ k. eqb k p) node)) =
-    some_argument_same (λ k. differs (value_at old k) (value_at (set kept p v) k)) (λ k. differs (value_at old k) (value_at kept k) || (differs (value_at old p) v && eqb k p)) node (differs_set old kept p v h same)
+    let changed : some_argument (λ k. differs (value_at old k) (value_at (set kept p v) k))
+    node ≡ (some_argument (λ k. differs (value_at old k) (value_at kept k)) node || (differs (value_at old p) v && some_argument (λ k. eqb k p) node)) =
+    some_argument_same (λ k. differs (value_at old k) (value_at (set kept p v) k))
+    (λ k. differs (value_at old k) (value_at kept k) || (differs (value_at old p) v && eqb k p)) node (differs_set old kept p v h same)
     ∙ some_argument_or (λ k. differs (value_at old k) (value_at kept k)) (λ k. eqb k p) (differs (value_at old p) v) node in
-    ap (λ b. of_put put node || b) changed ∙ or_assoc (of_put put node) (some_argument (λ k. differs (value_at old k) (value_at kept k)) node) (differs (value_at old p) v && some_argument (λ k. eqb k p) node)
+    ap (λ b. of_put put node || b) changed ∙ or_assoc (of_put put node) (some_argument (λ k. differs (value_at old k) (value_at kept k)) node)
+    (differs (value_at old p) v && some_argument (λ k. eqb k p) node)
   where
     or_assoc : (a b c : Bool) → (a || (b || c)) ≡ ((a || b) || c)
     or_assoc true b c = refl
     or_assoc false b c = refl
 
 -- Whether a node is touched is settled by the new values below it.
-pub touched_below : (m p : ℕ) (put : List Bool) (old new other : List Value) (node : Node) → IsNode m p node → ((k : ℕ) → k < p → value_at new k ≡ value_at other k)
+pub touched_below : (m p : ℕ) (put : List Bool) (old new other : List Value) (node : Node) → IsNode m p node
+    → ((k : ℕ) → k < p → value_at new k ≡ value_at other k)
     → is_touched put old new node ≡ is_touched put old other node
 touched_below m p put old new other node h same =
     ap (λ b. of_put put node || b)
-    (some_argument_below m p (λ k. differs (value_at old k) (value_at new k)) (λ k. differs (value_at old k) (value_at other k)) node h (λ k below. ap (differs (value_at old k)) (same k below)))
+    (some_argument_below m p (λ k. differs (value_at old k) (value_at new k)) (λ k. differs (value_at old k) (value_at other k)) node h
+    (λ k below. ap (differs (value_at old k)) (same k below)))
 
 -- where nothing has a new value, the nodes of inputs that were put are touched, and no other
 pub touched_same : (put : List Bool) (vs : List Value) (node : Node) → is_touched put vs vs node ≡ of_put put node
 touched_same put vs node =
-    ap (λ b. of_put put node || b) (some_argument_same (λ k. differs (value_at vs k) (value_at vs k)) (λ k. false) node (λ k. differs_self (value_at vs k)) ∙ some_argument_none node)
+    ap (λ b. of_put put node || b) (some_argument_same (λ k. differs (value_at vs k) (value_at vs k)) (λ k. false) node (λ k. differs_self (value_at vs k))
+    ∙ some_argument_none node)
     ∙ or_false (of_put put node)
   where
     or_false : (b : Bool) → (b || false) ≡ b

@@ -3,7 +3,8 @@ use Rattle.std.specs.Prelude.{◌≡◌, ℕ, ◌<◌, ◌==◌, Bool, true, fal
 use Rattle.m_fixed.specs.declared.amount.Value.{Value}
 use Rattle.m_fixed.specs.declared.amount.Value.TheVariants.{Undef, Num, Over}
 use Rattle.m_fixed.specs.declared.operator.Op.{Op}
-use Rattle.m_fixed.specs.declared.operator.Op.TheVariants.{Add, Sub, Mul, Neg, Eq, Ne, Lt, Le, Gt, Ge, And, Or, Not, Present, Positive, PositiveOrNull, Null, Truth, Choose, At}
+use Rattle.m_fixed.specs.declared.operator.Op.TheVariants.{Add, Sub, Mul, Neg, Eq, Ne, Lt, Le, Gt, Ge, And, Or, Not, Present, Positive, PositiveOrNull, Null}
+use Rattle.m_fixed.specs.declared.operator.Op.TheVariants.{Truth, Choose, At}
 use Rattle.m_fixed.specs.Operators.{arity_of, is_zero}
 use Rattle.definedness.specs.Facts.{Possible, one_value, is_number, lacks_zero}
 use Rattle.flat_code.specs.declared.program.Node.{Node}
@@ -128,7 +129,8 @@ ReadsCheck check x = (x ≡ check.guard) ⊎ (x ≡ check.condition)
 
 -- an output or a check reads a node
 abbrev pub IsRoot : Flat → ℕ → Type 0
-IsRoot flat x = ((j : ℕ) × (j < length flat.outputs) × (x ≡ slice_index_or flat.outputs j 0)) ⊎ ((j : ℕ) × (j < length flat.checks) × ReadsCheck (check_at flat.checks j) x)
+IsRoot flat x = ((j : ℕ) × (j < length flat.outputs) × (x ≡ slice_index_or flat.outputs j 0)) ⊎ ((j : ℕ) × (j < length flat.checks)
+    × ReadsCheck (check_at flat.checks j) x)
 
 -- a node is read by a check or an output, or by such a node, and so on
 pub data IsReached (flat : Flat) : ℕ → Type 0 where

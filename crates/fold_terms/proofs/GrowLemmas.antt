@@ -25,16 +25,21 @@ err-then (Err e) f p = f p
 
 -- a node of the longer list is one of the shorter one, or the last
 push-cases : (nodes : List Node) (node : Node) (p : ℕ) → p < length (nodes ++ node ∷ []) → (p < length nodes) ⊎ (p ≡ length nodes)
-push-cases nodes node p lt = ⊎_elim (λ l. inl l) (λ (g : length nodes ≤ p). let e : p ≡ length nodes = omega (arith, length_push nodes node) in inr e) (cases_lt p (length nodes))
+push-cases nodes node p lt = ⊎_elim (λ l. inl l) (λ (g : length nodes ≤ p). let e : p ≡ length nodes = omega (arith, length_push nodes node) in inr e)
+    (cases_lt p (length nodes))
 
 -- what holds of all nodes so far and of the one that is added
-each-push : (P : List Node → ℕ → Type 0) (nodes : List Node) (node : Node) → ((p : ℕ) → p < length nodes → P (nodes ++ node ∷ []) p) → P (nodes ++ node ∷ []) (length nodes) → (p : ℕ) → p < length (nodes ++ node ∷ []) → P (nodes ++ node ∷ []) p
+each-push : (P : List Node → ℕ → Type 0) (nodes : List Node) (node : Node) → ((p : ℕ) → p < length nodes → P (nodes ++ node ∷ []) p)
+    → P (nodes ++ node ∷ []) (length nodes) → (p : ℕ) → p < length (nodes ++ node ∷ []) → P (nodes ++ node ∷ []) p
 each-push P nodes node old last p lt = ⊎_elim (λ l. old p l) (λ e. subst (P (nodes ++ node ∷ [])) (sym e) last) (push-cases nodes node p lt)
 
-form-same : (op : Op) {x x' y y' : Node} {f f' g g' : Possible} (same : Bool) → x' ≡ x → y' ≡ y → f' ≡ f → g' ≡ g → form op x' y' f' g' same ≡ form op x y f g same
-form-same op same p q r s = let h : (x x' y y' : Node) (f f' g g' : Possible) → x' ≡ x → y' ≡ y → f' ≡ f → g' ≡ g → form op x' y' f' g' same ≡ form op x y f g same = λ x x' y y' f f' g g' p q r s. cc in h _ _ _ _ _ _ _ _ p q r s
+form-same : (op : Op) {x x' y y' : Node} {f f' g g' : Possible} (same : Bool) → x' ≡ x → y' ≡ y → f' ≡ f → g' ≡ g
+    → form op x' y' f' g' same ≡ form op x y f g same
+form-same op same p q r s = let h : (x x' y y' : Node) (f f' g g' : Possible) → x' ≡ x → y' ≡ y → f' ≡ f → g' ≡ g
+    → form op x' y' f' g' same ≡ form op x y f g same = λ x x' y y' f f' g g' p q r s. cc in h _ _ _ _ _ _ _ _ p q r s
 
-form-push : (count : ℕ) (nodes : List Node) (last : Node) (p : ℕ) (node : Node) → p ≤ length nodes → IsNode count p node → has_form (nodes ++ last ∷ []) node ≡ has_form nodes node
+form-push : (count : ℕ) (nodes : List Node) (last : Node) (p : ℕ) (node : Node) → p ≤ length nodes → IsNode count p node
+    → has_form (nodes ++ last ∷ []) node ≡ has_form nodes node
 form-push count nodes last p (Input n) le h = refl
 form-push count nodes last p (Lit v) le h = refl
 form-push count nodes last p (Do op a b c) le h =
@@ -45,7 +50,13 @@ form-push count nodes last p (Do op a b c) le h =
 pub built-none : (count : ℕ) → IsBuilt count [] []
 built-none count = record {
   valid = λ p lt. absurd (omega arith);
-  folded = record { normal = λ p lt. absurd (omega arith); unfixed = λ p lt. absurd (omega arith); apart = λ p q lt l e. absurd (omega arith); formless = λ p lt. absurd (omega arith) };
+  folded = record {
+    normal = λ p lt. absurd (omega arith);
+    unfixed = λ p lt. absurd (omega arith);
+    apart = λ p q lt l e. absurd (omega arith);
+    formless = λ p
+        lt. absurd (omega arith);
+  };
   noted = refl;
   possible = λ p lt. absurd (omega arith);
 }
@@ -56,7 +67,9 @@ valid-push count nodes node valid h = each-push (λ nodes p. IsNode count p (nod
     (subst (IsNode count (length nodes)) (sym (node-last nodes node (length nodes) refl)) h)
 
 -- a node that is in form and that isn't there yet is added
-pub built-push : (count : ℕ) (nodes : List Node) (known : List Possible) (node : Node) (fact : Possible) → IsBuilt count nodes known → IsNode count (length nodes) node → fact ≡ entry_of facts (entries_of facts nodes) node → IsFact fact → IsNormal node → IsOpen node fact → has_form nodes node ≡ false → ((k : ℕ) → k < length nodes → node_at nodes k ≡ node → ⊥) → IsBuilt count (nodes ++ node ∷ []) (known ++ fact ∷ [])
+pub built-push : (count : ℕ) (nodes : List Node) (known : List Possible) (node : Node) (fact : Possible) → IsBuilt count nodes known
+    → IsNode count (length nodes) node → fact ≡ entry_of facts (entries_of facts nodes) node → IsFact fact → IsNormal node → IsOpen node fact
+    → has_form nodes node ≡ false → ((k : ℕ) → k < length nodes → node_at nodes k ≡ node → ⊥) → IsBuilt count (nodes ++ node ∷ []) (known ++ fact ∷ [])
 built-push count nodes known node fact built h is possible normal unfixed formless absent =
     let folded = built.folded in
     let last = node-last nodes node (length nodes) refl in
@@ -67,8 +80,10 @@ built-push count nodes known node fact built h is possible normal unfixed formle
             (λ p lt. subst IsNormal (sym (node-push nodes node p lt)) (folded.normal p lt))
             (subst IsNormal (sym last) normal);
         unfixed = each-push (λ nodes p. IsOpen (node_at nodes p) (entry_at facts nodes p)) nodes node
-            (λ p lt. subst (λ n. IsOpen n (entry_at facts (nodes ++ node ∷ []) p)) (sym (node-push nodes node p lt)) (subst (IsOpen (node_at nodes p)) (sym (at-push facts nodes node p lt)) (folded.unfixed p lt)))
-            (subst (λ n. IsOpen n (entry_at facts (nodes ++ node ∷ []) (length nodes))) (sym last) (subst (IsOpen node) (is ∙ sym (at-last facts nodes node (length nodes) refl)) unfixed));
+            (λ p lt. subst (λ n. IsOpen n (entry_at facts (nodes ++ node ∷ []) p)) (sym (node-push nodes node p lt))
+            (subst (IsOpen (node_at nodes p)) (sym (at-push facts nodes node p lt)) (folded.unfixed p lt)))
+            (subst (λ n. IsOpen n (entry_at facts (nodes ++ node ∷ []) (length nodes))) (sym last)
+            (subst (IsOpen node) (is ∙ sym (at-last facts nodes node (length nodes) refl)) unfixed));
         apart = λ p q lp lq e. ⊎_elim
             (λ l. ⊎_elim
             (λ k. folded.apart p q l k (sym (node-push nodes node p l) ∙ e ∙ node-push nodes node q k))
@@ -80,8 +95,10 @@ built-push count nodes known node fact built h is possible normal unfixed formle
             (push-cases nodes node q lq))
             (push-cases nodes node p lp);
         formless = each-push (λ nodes p. has_form nodes (node_at nodes p) ≡ false) nodes node
-            (λ p lt. ap (has_form (nodes ++ node ∷ [])) (node-push nodes node p lt) ∙ form-push count nodes node p (node_at nodes p) (let l : p ≤ length nodes = omega arith in l) (built.valid p lt) ∙ folded.formless p lt)
-            (ap (has_form (nodes ++ node ∷ [])) last ∙ form-push count nodes node (length nodes) node (let l : length nodes ≤ length nodes = omega arith in l) h ∙ formless);
+            (λ p lt. ap (has_form (nodes ++ node ∷ [])) (node-push nodes node p lt)
+            ∙ form-push count nodes node p (node_at nodes p) (let l : p ≤ length nodes = omega arith in l) (built.valid p lt) ∙ folded.formless p lt)
+            (ap (has_form (nodes ++ node ∷ [])) last ∙ form-push count nodes node (length nodes) node (let l : length nodes ≤ length nodes = omega arith in l) h
+            ∙ formless);
       };
       noted = ap (λ xs. xs ++ fact ∷ []) built.noted ∙ ap (λ f. entries_of facts nodes ++ f ∷ []) is ∙ sym (entries-push facts nodes node);
       possible = each-push (λ nodes p. IsFact (entry_at facts nodes p)) nodes node
@@ -109,7 +126,8 @@ pub record IsCut (count : ℕ) (old new : List Node) (known : List Possible) : T
   pub built : IsBuilt count new known
   pub grows : Longer old new
 
-cut-same : (count : ℕ) (nodes nodes' nodes'' : List Node) (known known' known'' : List Possible) (fact : Possible) → IsBuilt count nodes known → nodes' ≡ nodes → nodes'' ≡ nodes' → Extends known known' fact → known'' ≡ take (length nodes') known' → IsCut count nodes nodes'' known''
+cut-same : (count : ℕ) (nodes nodes' nodes'' : List Node) (known known' known'' : List Possible) (fact : Possible) → IsBuilt count nodes known → nodes' ≡ nodes
+    → nodes'' ≡ nodes' → Extends known known' fact → known'' ≡ take (length nodes') known' → IsCut count nodes nodes'' known''
 cut-same count nodes nodes' nodes'' known known' known'' fact built same kept more cut =
     let k : length known ≡ length nodes = known-length count nodes known built in
     let size : length nodes' ≡ length nodes = ap length same in
@@ -120,7 +138,9 @@ cut-same count nodes nodes' nodes'' known known' known'' fact built same kept mo
       grows = inl e;
     }
 
-cut-more : (count : ℕ) (nodes nodes' nodes'' : List Node) (known known' known'' : List Possible) (node : Node) (fact : Possible) → nodes' ≡ nodes ++ node ∷ [] → nodes'' ≡ nodes' → known' ≡ known ++ fact ∷ [] → known'' ≡ take (length nodes') known' → IsBuilt count (nodes ++ node ∷ []) (known ++ fact ∷ []) → IsCut count nodes nodes'' known''
+cut-more : (count : ℕ) (nodes nodes' nodes'' : List Node) (known known' known'' : List Possible) (node : Node) (fact : Possible) → nodes' ≡ nodes ++ node ∷ []
+    → nodes'' ≡ nodes' → known' ≡ known ++ fact ∷ [] → known'' ≡ take (length nodes') known' → IsBuilt count (nodes ++ node ∷ []) (known ++ fact ∷ [])
+    → IsCut count nodes nodes'' known''
 cut-more count nodes nodes' nodes'' known known' known'' node fact added kept more cut built =
     let k : length (known ++ fact ∷ []) ≡ length (nodes ++ node ∷ []) = known-length count (nodes ++ node ∷ []) (known ++ fact ∷ []) built in
     let size : length nodes' ≡ length (nodes ++ node ∷ []) = ap length added in
@@ -132,7 +152,10 @@ cut-more count nodes nodes' nodes'' known known' known'' node fact added kept mo
     }
 
 -- whatever the table answers
-pub cut-either : {E : Type 0} (r : Result ℕ E) (count : ℕ) (nodes nodes' nodes'' : List Node) (known known' known'' : List Possible) (node : Node) (fact : Possible) → IsBuilt count nodes known → nodes'' ≡ nodes' → Extends known known' fact → OnOk r (known' ≡ known ++ fact ∷ []) → IfOk r (IsEntered nodes nodes' node) → OnErr r (nodes' ≡ nodes) → known'' ≡ take (length nodes') known' → (IsAbsent nodes node → IsBuilt count (nodes ++ node ∷ []) (known ++ fact ∷ [])) → IsCut count nodes nodes'' known''
+pub cut-either : {E : Type 0} (r : Result ℕ E) (count : ℕ) (nodes nodes' nodes'' : List Node) (known known' known'' : List Possible) (node : Node)
+    (fact : Possible) → IsBuilt count nodes known → nodes'' ≡ nodes' → Extends known known' fact → OnOk r (known' ≡ known ++ fact ∷ [])
+    → IfOk r (IsEntered nodes nodes' node) → OnErr r (nodes' ≡ nodes) → known'' ≡ take (length nodes') known'
+    → (IsAbsent nodes node → IsBuilt count (nodes ++ node ∷ []) (known ++ fact ∷ [])) → IsCut count nodes nodes'' known''
 cut-either (Ok k) count nodes nodes' nodes'' known known' known'' node fact built kept more all entered same cut add =
     ⊎_elim
     (λ e. cut-same count nodes nodes' nodes'' known known' known'' fact built e kept more cut)
@@ -149,7 +172,8 @@ last-number old new node k added absent within is = ⊎_elim
     (push-cases old node k (subst (λ nodes. k < length nodes) added within))
 
 -- what the table adds is its answer
-pub wanted-entered : {E : Type 0} (r : Result ℕ E) (old noted new : List Node) (node : Node) → new ≡ noted → IfOk r (IsEntered old noted node) → IfOk r (AddsAnswer old new)
+pub wanted-entered : {E : Type 0} (r : Result ℕ E) (old noted new : List Node) (node : Node) → new ≡ noted → IfOk r (IsEntered old noted node)
+    → IfOk r (AddsAnswer old new)
 wanted-entered (Ok k) old noted new node kept entered = ⊎_elim
     (λ e. inl (kept ∙ e))
     (λ a. inr (last-number old noted node k a.0 a.1 entered.within entered.is))

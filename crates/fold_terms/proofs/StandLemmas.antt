@@ -1,5 +1,6 @@
 -- Which node stands for a node that is folded.
-use Rattle.std.proofs.Common.{◌≡◌, ◌≢◌, ℕ, ◌<◌, Bool, true, false, not, eqb, ◌⊎◌, List, length, Some, None, Option, ℤ, pos, refl, ap, sym, ◌∙◌, subst, inl, inr, ⊎_elim, arith}
+use Rattle.std.proofs.Common.{◌≡◌, ◌≢◌, ℕ, ◌<◌, Bool, true, false, not, eqb, ◌⊎◌, List, length, Some, None, Option, ℤ, pos, refl, ap, sym, ◌∙◌, subst, inl, inr}
+use Rattle.std.proofs.Common.{⊎_elim, arith}
 use mathlib.Core.Bool.{◌&&◌, ◌||◌}
 use Rattle.std.specs.Prelude.{Result, Ok, Err, IfOk, if◌then◌else◌, is_some, ◌≤ℤ◌, int_le, nat_lt}
 use Rattle.std.proofs.lemmas.Bool.{eqb-true, true≢false, or_cases, lt-ltb, ltb-true}
@@ -26,17 +27,20 @@ use Rattle.flat_code.proofs.FactLemmas.{step-holds, holds-at}
 use Rattle.fold_terms.specs.Drafts.{Denotes}
 use Rattle.fold_terms.specs.inner.Built.{Longer, normalised, IsOpposite, choice_of, is_decided}
 use Rattle.fold_terms.proofs.GrowLemmas.{at-grows}
-use Rattle.fold_terms.proofs.ValueLemmas.{null-value, one-value, same-sum, same-sum-left, same-difference, same-product, same-product-left, twice-opposite, truth-of-test, choice-is}
+use Rattle.fold_terms.proofs.ValueLemmas.{null-value, one-value, same-sum, same-sum-left, same-difference, same-product, same-product-left, twice-opposite}
+use Rattle.fold_terms.proofs.ValueLemmas.{truth-of-test, choice-is}
 
 pub ok-both : {E : Type 0} (r : Result ℕ E) (P Q R : ℕ → Type 0) → ((k : ℕ) → P k → Q k → R k) → IfOk r P → IfOk r Q → IfOk r R
 ok-both (Ok k) P Q R f p q = f k p q
 ok-both (Err e) P Q R f p q = tt
 
 -- a node stands for itself
-pub denoted-node : (count : ℕ) (nodes : List Node) (node : Node) (k : ℕ) → AreValid count nodes → k < length nodes → node_at nodes k ≡ node → Denotes nodes node k
+pub denoted-node : (count : ℕ) (nodes : List Node) (node : Node) (k : ℕ) → AreValid count nodes → k < length nodes → node_at nodes k ≡ node
+    → Denotes nodes node k
 denoted-node count nodes node k valid lt e = record {
   within = lt;
-  value = λ inputs plain. entry-at (values_for inputs) count nodes k valid lt ∙ ap (entry_by (values_for inputs) (entry_at (values_for inputs) nodes)) e ∙ sym (entry-by (values_for inputs) (node_values inputs nodes) node);
+  value = λ inputs plain. entry-at (values_for inputs) count nodes k valid lt ∙ ap (entry_by (values_for inputs) (entry_at (values_for inputs) nodes)) e
+      ∙ sym (entry-by (values_for inputs) (node_values inputs nodes) node);
 }
 
 not-undef : (f : Possible) (v : Value) → Holds f v → f.undef ≡ false → v ≢ Undef
@@ -51,75 +55,92 @@ not-over f v h e d = true≢false (sym (subst (Holds f) d h) ∙ e)
 abbrev value : List Node → List Value → ℕ → Value
 value nodes inputs k = entry_at (values_for inputs) nodes k
 
-null-step : (inputs : List Value) (before : ℕ → Value) (node : Node) → is_literal_of is_null node ≡ true → entry_by (values_for inputs) before node ≡ Num (pos 0)
+null-step : (inputs : List Value) (before : ℕ → Value) (node : Node) → is_literal_of is_null node ≡ true
+    → entry_by (values_for inputs) before node ≡ Num (pos 0)
 null-step inputs before (Lit v) e = null-value v e
 null-step inputs before (Input n) e = absurd (true≢false (sym e))
 null-step inputs before (Do op a b c) e = absurd (true≢false (sym e))
 
-one-step : (inputs : List Value) (before : ℕ → Value) (node : Node) → is_literal_of is_one node ≡ true → entry_by (values_for inputs) before node ≡ Num (pos 1_000_000)
+one-step : (inputs : List Value) (before : ℕ → Value) (node : Node) → is_literal_of is_one node ≡ true
+    → entry_by (values_for inputs) before node ≡ Num (pos 1_000_000)
 one-step inputs before (Lit v) e = one-value v e
 one-step inputs before (Input n) e = absurd (true≢false (sym e))
 one-step inputs before (Do op a b c) e = absurd (true≢false (sym e))
 
-null-at : (count : ℕ) (nodes : List Node) (inputs : List Value) (k : ℕ) → AreValid count nodes → k < length nodes → is_literal_of is_null (node_at nodes k) ≡ true → value nodes inputs k ≡ Num (pos 0)
+null-at : (count : ℕ) (nodes : List Node) (inputs : List Value) (k : ℕ) → AreValid count nodes → k < length nodes
+    → is_literal_of is_null (node_at nodes k) ≡ true → value nodes inputs k ≡ Num (pos 0)
 null-at count nodes inputs k valid lt e = entry-at (values_for inputs) count nodes k valid lt ∙ null-step inputs (value nodes inputs) (node_at nodes k) e
 
-one-at : (count : ℕ) (nodes : List Node) (inputs : List Value) (k : ℕ) → AreValid count nodes → k < length nodes → is_literal_of is_one (node_at nodes k) ≡ true → value nodes inputs k ≡ Num (pos 1_000_000)
+one-at : (count : ℕ) (nodes : List Node) (inputs : List Value) (k : ℕ) → AreValid count nodes → k < length nodes → is_literal_of is_one (node_at nodes k) ≡ true
+    → value nodes inputs k ≡ Num (pos 1_000_000)
 one-at count nodes inputs k valid lt e = entry-at (values_for inputs) count nodes k valid lt ∙ one-step inputs (value nodes inputs) (node_at nodes k) e
 
-value-is : (count : ℕ) (nodes : List Node) (inputs : List Value) (k : ℕ) → ArePlain inputs → AreValid count nodes → k < length nodes → IsFact (entry_at facts nodes k) → IsValue (value nodes inputs k)
-value-is count nodes inputs k plain valid lt fact = held_is_value (entry_at facts nodes k) (value nodes inputs k) fact (holds-at inputs count nodes k plain valid lt)
+value-is : (count : ℕ) (nodes : List Node) (inputs : List Value) (k : ℕ) → ArePlain inputs → AreValid count nodes → k < length nodes
+    → IsFact (entry_at facts nodes k) → IsValue (value nodes inputs k)
+value-is count nodes inputs k plain valid lt fact = held_is_value (entry_at facts nodes k) (value nodes inputs k) fact
+    (holds-at inputs count nodes k plain valid lt)
 
 -- ---- the forms
 
-pub denoted-sum : (count : ℕ) (nodes : List Node) (a b c : ℕ) → AreValid count nodes → a < length nodes → b < length nodes → is_literal_of is_null (node_at nodes b) ≡ true → (entry_at facts nodes a).undef ≡ false → IsFact (entry_at facts nodes a) → Denotes nodes (Do Add a b c) a
+pub denoted-sum : (count : ℕ) (nodes : List Node) (a b c : ℕ) → AreValid count nodes → a < length nodes → b < length nodes
+    → is_literal_of is_null (node_at nodes b) ≡ true → (entry_at facts nodes a).undef ≡ false → IsFact (entry_at facts nodes a) → Denotes nodes (Do Add a b c) a
 denoted-sum count nodes a b c valid la lb null sure fact = record {
   within = la;
   value = λ inputs plain.
       let v = value nodes inputs in
       let h = holds-at inputs count nodes a plain valid la in
-      sym (ap (λ x. op_value Add (v a) x (v c)) (null-at count nodes inputs b valid lb null) ∙ same-sum (v a) (v c) (value-is count nodes inputs a plain valid la fact) (not-undef (entry_at facts nodes a) (v a) h sure));
+      sym (ap (λ x. op_value Add (v a) x (v c)) (null-at count nodes inputs b valid lb null)
+      ∙ same-sum (v a) (v c) (value-is count nodes inputs a plain valid la fact) (not-undef (entry_at facts nodes a) (v a) h sure));
 }
 
-pub denoted-sum-right : (count : ℕ) (nodes : List Node) (a b c : ℕ) → AreValid count nodes → a < length nodes → b < length nodes → is_literal_of is_null (node_at nodes a) ≡ true → (entry_at facts nodes b).undef ≡ false → IsFact (entry_at facts nodes b) → Denotes nodes (Do Add a b c) b
+pub denoted-sum-right : (count : ℕ) (nodes : List Node) (a b c : ℕ) → AreValid count nodes → a < length nodes → b < length nodes
+    → is_literal_of is_null (node_at nodes a) ≡ true → (entry_at facts nodes b).undef ≡ false → IsFact (entry_at facts nodes b) → Denotes nodes (Do Add a b c) b
 denoted-sum-right count nodes a b c valid la lb null sure fact = record {
   within = lb;
   value = λ inputs plain.
       let v = value nodes inputs in
       let h = holds-at inputs count nodes b plain valid lb in
-      sym (ap (λ x. op_value Add x (v b) (v c)) (null-at count nodes inputs a valid la null) ∙ same-sum-left (v b) (v c) (value-is count nodes inputs b plain valid lb fact) (not-undef (entry_at facts nodes b) (v b) h sure));
+      sym (ap (λ x. op_value Add x (v b) (v c)) (null-at count nodes inputs a valid la null)
+      ∙ same-sum-left (v b) (v c) (value-is count nodes inputs b plain valid lb fact) (not-undef (entry_at facts nodes b) (v b) h sure));
 }
 
-pub denoted-difference : (count : ℕ) (nodes : List Node) (a b c : ℕ) → AreValid count nodes → a < length nodes → b < length nodes → is_literal_of is_null (node_at nodes b) ≡ true → (entry_at facts nodes a).undef ≡ false → IsFact (entry_at facts nodes a) → Denotes nodes (Do Sub a b c) a
+pub denoted-difference : (count : ℕ) (nodes : List Node) (a b c : ℕ) → AreValid count nodes → a < length nodes → b < length nodes
+    → is_literal_of is_null (node_at nodes b) ≡ true → (entry_at facts nodes a).undef ≡ false → IsFact (entry_at facts nodes a) → Denotes nodes (Do Sub a b c) a
 denoted-difference count nodes a b c valid la lb null sure fact = record {
   within = la;
   value = λ inputs plain.
       let v = value nodes inputs in
       let h = holds-at inputs count nodes a plain valid la in
-      sym (ap (λ x. op_value Sub (v a) x (v c)) (null-at count nodes inputs b valid lb null) ∙ same-difference (v a) (v c) (value-is count nodes inputs a plain valid la fact) (not-undef (entry_at facts nodes a) (v a) h sure));
+      sym (ap (λ x. op_value Sub (v a) x (v c)) (null-at count nodes inputs b valid lb null)
+      ∙ same-difference (v a) (v c) (value-is count nodes inputs a plain valid la fact) (not-undef (entry_at facts nodes a) (v a) h sure));
 }
 
-pub denoted-product : (count : ℕ) (nodes : List Node) (a b c : ℕ) → AreValid count nodes → a < length nodes → b < length nodes → is_literal_of is_one (node_at nodes b) ≡ true → IsFact (entry_at facts nodes a) → Denotes nodes (Do Mul a b c) a
+pub denoted-product : (count : ℕ) (nodes : List Node) (a b c : ℕ) → AreValid count nodes → a < length nodes → b < length nodes
+    → is_literal_of is_one (node_at nodes b) ≡ true → IsFact (entry_at facts nodes a) → Denotes nodes (Do Mul a b c) a
 denoted-product count nodes a b c valid la lb one fact = record {
   within = la;
   value = λ inputs plain.
       let v = value nodes inputs in
-      sym (ap (λ x. op_value Mul (v a) x (v c)) (one-at count nodes inputs b valid lb one) ∙ same-product (v a) (v c) (value-is count nodes inputs a plain valid la fact));
+      sym (ap (λ x. op_value Mul (v a) x (v c)) (one-at count nodes inputs b valid lb one)
+      ∙ same-product (v a) (v c) (value-is count nodes inputs a plain valid la fact));
 }
 
-pub denoted-product-right : (count : ℕ) (nodes : List Node) (a b c : ℕ) → AreValid count nodes → a < length nodes → b < length nodes → is_literal_of is_one (node_at nodes a) ≡ true → IsFact (entry_at facts nodes b) → Denotes nodes (Do Mul a b c) b
+pub denoted-product-right : (count : ℕ) (nodes : List Node) (a b c : ℕ) → AreValid count nodes → a < length nodes → b < length nodes
+    → is_literal_of is_one (node_at nodes a) ≡ true → IsFact (entry_at facts nodes b) → Denotes nodes (Do Mul a b c) b
 denoted-product-right count nodes a b c valid la lb one fact = record {
   within = lb;
   value = λ inputs plain.
       let v = value nodes inputs in
-      sym (ap (λ x. op_value Mul x (v b) (v c)) (one-at count nodes inputs a valid la one) ∙ same-product-left (v b) (v c) (value-is count nodes inputs b plain valid lb fact));
+      sym (ap (λ x. op_value Mul x (v b) (v c)) (one-at count nodes inputs a valid la one)
+      ∙ same-product-left (v b) (v c) (value-is count nodes inputs b plain valid lb fact));
 }
 
 -- what an opposite is the opposite of is an earlier node
 pub opposite-within : (count a x : ℕ) (node : Node) → IsNode count a node → IsOpposite node x → x < a
 opposite-within count a x node h n = let early : IsNode count a (Do Neg x n.second n.third) = subst (IsNode count a) n.is h in early.0
 
-pub denoted-opposite : (count : ℕ) (nodes : List Node) (a b c x : ℕ) → AreValid count nodes → a < length nodes → IsOpposite (node_at nodes a) x → ((k : ℕ) → k < length nodes → IsFact (entry_at facts nodes k)) → Denotes nodes (Do Neg a b c) x
+pub denoted-opposite : (count : ℕ) (nodes : List Node) (a b c x : ℕ) → AreValid count nodes → a < length nodes → IsOpposite (node_at nodes a) x
+    → ((k : ℕ) → k < length nodes → IsFact (entry_at facts nodes k)) → Denotes nodes (Do Neg a b c) x
 denoted-opposite count nodes a b c x valid la n all =
     let early = opposite-within count a x (node_at nodes a) (valid a la) n in
     let lx : x < length nodes = omega arith in
@@ -127,8 +148,10 @@ denoted-opposite count nodes a b c x valid la n all =
       within = lx;
       value = λ inputs plain.
           let v = value nodes inputs in
-          let z : v a ≡ op_value Neg (v x) (v n.second) (v n.third) = entry-at (values_for inputs) count nodes a valid la ∙ ap (entry_by (values_for inputs) v) n.is in
-          sym (ap (λ w. op_value Neg w (v b) (v c)) z ∙ twice-opposite (v x) (v n.second) (v n.third) (v b) (v c) (value-is count nodes inputs x plain valid lx (all x lx)));
+          let z : v a ≡ op_value Neg (v x) (v n.second) (v n.third) = entry-at (values_for inputs) count nodes a valid la
+          ∙ ap (entry_by (values_for inputs) v) n.is in
+          sym (ap (λ w. op_value Neg w (v b) (v c)) z
+          ∙ twice-opposite (v x) (v n.second) (v n.third) (v b) (v c) (value-is count nodes inputs x plain valid lx (all x lx)));
     }
 
 number-undef : (u o : Bool) → (not u && not o) ≡ true → u ≡ false
@@ -140,12 +163,14 @@ number-over true o e = absurd (true≢false (sym e))
 number-over false true e = absurd (true≢false (sym e))
 number-over false false e = refl
 
-test-step : (inputs : List Value) (before : ℕ → Value) (node : Node) (v d e : Value) → is_made_by is_test node ≡ true → v ≡ entry_by (values_for inputs) before node → v ≢ Undef → v ≢ Over → op_value Truth v d e ≡ v
+test-step : (inputs : List Value) (before : ℕ → Value) (node : Node) (v d e : Value) → is_made_by is_test node ≡ true
+    → v ≡ entry_by (values_for inputs) before node → v ≢ Undef → v ≢ Over → op_value Truth v d e ≡ v
 test-step inputs before (Do op a b c) v d e t is u o = truth-of-test op (before a) (before b) (before c) v d e t is u o
 test-step inputs before (Input n) v d e t is u o = absurd (true≢false (sym t))
 test-step inputs before (Lit w) v d e t is u o = absurd (true≢false (sym t))
 
-pub denoted-truth : (count : ℕ) (nodes : List Node) (a b c : ℕ) → AreValid count nodes → a < length nodes → is_made_by is_test (node_at nodes a) ≡ true → is_number (entry_at facts nodes a) ≡ true → Denotes nodes (Do Truth a b c) a
+pub denoted-truth : (count : ℕ) (nodes : List Node) (a b c : ℕ) → AreValid count nodes → a < length nodes → is_made_by is_test (node_at nodes a) ≡ true
+    → is_number (entry_at facts nodes a) ≡ true → Denotes nodes (Do Truth a b c) a
 denoted-truth count nodes a b c valid la test sure =
     let f = entry_at facts nodes a in
     record {
@@ -153,11 +178,13 @@ denoted-truth count nodes a b c valid la test sure =
       value = λ inputs plain.
           let v = value nodes inputs in
           let h = holds-at inputs count nodes a plain valid la in
-          sym (test-step inputs v (node_at nodes a) (v a) (v b) (v c) test (entry-at (values_for inputs) count nodes a valid la) (not-undef f (v a) h (number-undef f.undef f.over sure)) (not-over f (v a) h (number-over f.undef f.over sure)));
+          sym (test-step inputs v (node_at nodes a) (v a) (v b) (v c) test (entry-at (values_for inputs) count nodes a valid la)
+          (not-undef f (v a) h (number-undef f.undef f.over sure)) (not-over f (v a) h (number-over f.undef f.over sure)));
     }
 
 -- a choice whose condition is a literal
-pub denoted-literal-choice : (count : ℕ) (nodes : List Node) (a b c : ℕ) (w : Value) → AreValid count nodes → a < length nodes → b < length nodes → c < length nodes → node_at nodes a ≡ Lit w → Denotes nodes (Do Choose a b c) (choice_of w a b c)
+pub denoted-literal-choice : (count : ℕ) (nodes : List Node) (a b c : ℕ) (w : Value) → AreValid count nodes → a < length nodes → b < length nodes
+    → c < length nodes → node_at nodes a ≡ Lit w → Denotes nodes (Do Choose a b c) (choice_of w a b c)
 denoted-literal-choice count nodes a b c w valid la lb lc e = record {
   within = within w;
   value = λ inputs plain.
@@ -210,7 +237,8 @@ other-number : (f : Possible) (n : ℤ) → Holds f (Num n) → lacks_zero f ≡
 other-number f n h e = go (is_zero n) refl
   where
     go : (t : Bool) → is_zero n ≡ t → t ≡ false
-    go true z = absurd (true≢false (sym (zero-possible f.range n h (zero-is n z)) ∙ not-true (may_be_zero f.range) (and-parts (is_some f.range) (not (may_be_zero f.range)) e).1))
+    go true z = absurd (true≢false (sym (zero-possible f.range n h (zero-is n z))
+        ∙ not-true (may_be_zero f.range) (and-parts (is_some f.range) (not (may_be_zero f.range)) e).1))
     go false z = refl
 
 -- a choice that surely takes a branch, where both are the same or the condition is never 0
@@ -223,7 +251,8 @@ sure-choice f (Num n) x y h s which = ⊎_elim (λ same. go (is_zero n) same) (�
     go true same = sym same
     go false same = refl
 
-pub denoted-decided : (count : ℕ) (nodes : List Node) (a b c : ℕ) → AreValid count nodes → a < length nodes → b < length nodes → is_decided (entry_at facts nodes a) (eqb b c) ≡ true → Denotes nodes (Do Choose a b c) b
+pub denoted-decided : (count : ℕ) (nodes : List Node) (a b c : ℕ) → AreValid count nodes → a < length nodes → b < length nodes
+    → is_decided (entry_at facts nodes a) (eqb b c) ≡ true → Denotes nodes (Do Choose a b c) b
 denoted-decided count nodes a b c valid la lb decided = record {
   within = lb;
   value = λ inputs plain.
@@ -251,7 +280,11 @@ if-true t x y e = ap (λ t. if t then x else y) e
 pub normal-is : (node : Node) → IsNormal (normalised node)
 normal-is (Input n) = tt
 normal-is (Lit v) = tt
-normal-is (Do op a b c) = (λ l. if-true (nat_lt (arity_of op) 2) a b (lt-ltb (arity_of op) 2 l), λ l. if-true (nat_lt (arity_of op) 3) a c (lt-ltb (arity_of op) 3 l))
+normal-is (Do op a b c) = (
+  λ l. if-true (nat_lt (arity_of op) 2) a b (lt-ltb (arity_of op) 2 l),
+  λ l. if-true (nat_lt (arity_of op) 3) a c
+      (lt-ltb (arity_of op) 3 l),
+)
 
 either-below : (t : Bool) (a b p : ℕ) → a < p → b < p → (if t then a else b) < p
 either-below true a b p la lb = la
@@ -263,15 +296,19 @@ normal-node count p (Lit v) h = tt
 normal-node count p (Do op a b c) h = (h.0, either-below (nat_lt (arity_of op) 2) a b p h.0 h.1, either-below (nat_lt (arity_of op) 3) a c p h.0 h.2)
 
 -- arguments past the arity don't matter
-further : (op : Op) (v : ℕ → Value) (a b c : ℕ) (s t : Bool) → (s ≡ true → arity_of op < 2) → (t ≡ true → arity_of op < 3) → op_value op (v a) (v (if s then a else b)) (v (if t then a else c)) ≡ op_value op (v a) (v b) (v c)
-further op v a b c true t f g = let pos = arity_pos op in let lt : arity_of op < 2 = f refl in second_is_ignored op (v a) (v a) (v (if t then a else c)) (v b) (v c) (omega arith)
+further : (op : Op) (v : ℕ → Value) (a b c : ℕ) (s t : Bool) → (s ≡ true → arity_of op < 2) → (t ≡ true → arity_of op < 3)
+    → op_value op (v a) (v (if s then a else b)) (v (if t then a else c)) ≡ op_value op (v a) (v b) (v c)
+further op v a b c true t f g = let pos = arity_pos op in let lt : arity_of op < 2 = f refl in second_is_ignored op (v a) (v a) (v (if t then a else c)) (v b)
+    (v c) (omega arith)
 further op v a b c false true f g = let lt : arity_of op < 3 = g refl in third_is_ignored op (v a) (v b) (v a) (v c) (omega arith)
 further op v a b c false false f g = refl
 
-normal-entry : (inputs : List Value) (before : ℕ → Value) (node : Node) → entry_by (values_for inputs) before (normalised node) ≡ entry_by (values_for inputs) before node
+normal-entry : (inputs : List Value) (before : ℕ → Value) (node : Node) → entry_by (values_for inputs) before (normalised node) ≡ entry_by (values_for inputs)
+    before node
 normal-entry inputs before (Input n) = refl
 normal-entry inputs before (Lit v) = refl
-normal-entry inputs before (Do op a b c) = further op before a b c (nat_lt (arity_of op) 2) (nat_lt (arity_of op) 3) (ltb-true (arity_of op) 2) (ltb-true (arity_of op) 3)
+normal-entry inputs before (Do op a b c) = further op before a b c (nat_lt (arity_of op) 2) (nat_lt (arity_of op) 3) (ltb-true (arity_of op) 2)
+    (ltb-true (arity_of op) 3)
 
 -- what stands for the node with other arguments past the arity stands for the node
 pub denoted-normal : (nodes : List Node) (node : Node) (k : ℕ) → Denotes nodes (normalised node) k → Denotes nodes node k
@@ -284,7 +321,9 @@ denoted-normal nodes node k h = record {
 }
 
 -- a literal stands for a node of which its value alone is possible
-pub denoted-literal : (count : ℕ) (old new : List Node) (node : Node) (w : Value) (k : ℕ) → AreValid count old → AreValid count new → Longer old new → IsNode count (length old) node → one_value (entry_of facts (entries_of facts old) node) ≡ Some w → k < length new → node_at new k ≡ Lit w → Denotes new node k
+pub denoted-literal : (count : ℕ) (old new : List Node) (node : Node) (w : Value) (k : ℕ) → AreValid count old → AreValid count new → Longer old new
+    → IsNode count (length old) node → one_value (entry_of facts (entries_of facts old) node) ≡ Some w → k < length new → node_at new k ≡ Lit w
+    → Denotes new node k
 denoted-literal count old new node w k valid valid' grows h e lt is = record {
   within = lt;
   value = λ inputs plain.

@@ -8,8 +8,10 @@ use Rattle.observables.specs.declared.inputs.Coded.{Coded}
 use Rattle.observables.specs.Inputs.{codes_of}
 
 -- a code more
-pub codes_next : (inputs : List Coded) (i : ℕ) (input d : Coded) (known new : List (List ℕ)) (code : List ℕ) (fresh : Bool) → AreDistinct (codes_of inputs) → i < length inputs
-    → input ≡ get_or inputs i d → code ≡ input.code → known ≡ take i (codes_of inputs) → fresh ≡ not (has code known) → new ≡ cond fresh (known ++ code ∷ []) known → new ≡ take (i + 1) (codes_of inputs)
+pub codes_next : (inputs : List Coded) (i : ℕ) (input d : Coded) (known new : List (List ℕ)) (code : List ℕ) (fresh : Bool) → AreDistinct (codes_of inputs)
+    → i < length inputs
+    → input ≡ get_or inputs i d → code ≡ input.code → known ≡ take i (codes_of inputs) → fresh ≡ not (has code known)
+    → new ≡ cond fresh (known ++ code ∷ []) known → new ≡ take (i + 1) (codes_of inputs)
 codes_next inputs i input d known new code fresh distinct within is_input is_code front is_fresh added =
     take-added (codes_of inputs) i d.code distinct (let e = length-map inputs (λ (c : Coded). c.code) in omega (arith, e, within)) front
     (is_code ∙ ap (λ (c : Coded). c.code) is_input ∙ sym (get_or-map (λ (c : Coded). c.code) inputs i d)) is_fresh added

@@ -1,5 +1,6 @@
 -- The inputs of a table's columns and rows: they are known, and none stands twice in a row. The amounts are of their types.
-use Rattle.std.proofs.Common.{◌≡◌, ◌≢◌, ℕ, ℤ, ◌<◌, List, [], ◌∷◌, ◌++◌, length, Option, Some, None, Result, Ok, Err, Bool, true, false, cond, eqb, leb, refl, sym, subst, ap, ◌∙◌, append_assoc}
+use Rattle.std.proofs.Common.{◌≡◌, ◌≢◌, ℕ, ℤ, ◌<◌, List, [], ◌∷◌, ◌++◌, length, Option, Some, None, Result, Ok, Err, Bool, true, false, cond, eqb, leb, refl}
+use Rattle.std.proofs.Common.{sym, subst, ap, ◌∙◌, append_assoc}
 use mathlib.Core.Bool.{◌&&◌}
 use Rattle.std.specs.List.{AllByRecursion}
 use Rattle.std.proofs.lemmas.Bool.{and_parts}
@@ -42,14 +43,16 @@ AreColumns-front {n} xs [] h = subst (AreColumns n) (append-nil xs) h
 AreColumns-front {n} xs (y ∷ ys) h = AreColumns-front xs ys (AreColumns-without xs ys y h)
 
 -- the columns of a table
-new_known : (n : ℕ) (before : List ℕ) (o : Option ℕ) (input : ℕ) → new_column before o ≡ Ok input → ((i : ℕ) → o ≡ Some i → i < n) → (input < n) × (is_input_among input before ≡ false)
+new_known : (n : ℕ) (before : List ℕ) (o : Option ℕ) (input : ℕ) → new_column before o ≡ Ok input → ((i : ℕ) → o ≡ Some i → i < n)
+    → (input < n) × (is_input_among input before ≡ false)
 new_known n before None input h k = cc h
 new_known n before (Some i) input h k =
     let a = other_than_error (is_input_among i before) _ (Ok i) input h in
     let same : i ≡ input = cc a.1 in
     (subst (λ (j : ℕ). j < n) same (k i refl), subst (λ (j : ℕ). is_input_among j before ≡ false) same a.0)
 
-pub columns_known : (inputs : List Coded) (fields : List (List ℕ)) (columns : List ℕ) → in_turn (column_of inputs) [] fields ≡ Ok columns → AreColumns (length inputs) columns
+pub columns_known : (inputs : List Coded) (fields : List (List ℕ)) (columns : List ℕ) → in_turn (column_of inputs) [] fields ≡ Ok columns
+    → AreColumns (length inputs) columns
 columns_known inputs fields columns h =
     turns_keep (column_of inputs) (AreColumns (length inputs))
     (λ before code input q e.
@@ -62,19 +65,25 @@ stated_input line input (Err why) pair h = cc h
 stated_input line input (Ok z) pair h = cc h
 
 -- the pairs of a row's cells
-cells_known : {n : ℕ} (line : ℕ) (before : List (ℕ × ℤ)) (columns : List ℕ) (cells : List (List ℕ)) (pairs : List (ℕ × ℤ)) → AreColumns n (inputs_of before ++ columns) → cells_read line before columns cells ≡ Ok pairs
+cells_known : {n : ℕ} (line : ℕ) (before : List (ℕ × ℤ)) (columns : List ℕ) (cells : List (List ℕ)) (pairs : List (ℕ × ℤ))
+    → AreColumns n (inputs_of before ++ columns) → cells_read line before columns cells ≡ Ok pairs
     → AreColumns n (inputs_of pairs)
-cells_known {n} line before [] cells pairs q h = let same : before ≡ pairs = cc in subst (λ (p : List (ℕ × ℤ)). AreColumns n (inputs_of p)) same (AreColumns-front (inputs_of before) [] q)
-cells_known {n} line before (input ∷ columns) [] pairs q h = let same : before ≡ pairs = cc in subst (λ (p : List (ℕ × ℤ)). AreColumns n (inputs_of p)) same (AreColumns-front (inputs_of before) (input ∷ columns) q)
+cells_known {n} line before [] cells pairs q h = let same : before ≡ pairs = cc in subst (λ (p : List (ℕ × ℤ)). AreColumns n (inputs_of p)) same
+    (AreColumns-front (inputs_of before) [] q)
+cells_known {n} line before (input ∷ columns) [] pairs q h = let same : before ≡ pairs = cc in subst (λ (p : List (ℕ × ℤ)). AreColumns n (inputs_of p)) same
+    (AreColumns-front (inputs_of before) (input ∷ columns) q)
 cells_known {n} line before (input ∷ columns) (cell ∷ cells) pairs q h =
     by (eqb (length cell) 0) h (cells_known line before columns cells pairs (AreColumns-without (inputs_of before) columns input q))
     (λ pair e. cells_known line (before ++ pair ∷ []) columns cells pairs
     (subst (λ (xs : List ℕ). AreColumns n (xs ++ columns)) (sym (inputs_of-push before pair))
-    (rw append_assoc (subst (λ (i : ℕ). AreColumns n (inputs_of before ++ i ∷ columns)) (sym (stated_input line input (amount_read (text_value cell)) pair e)) q))))
+    (rw append_assoc (subst (λ (i : ℕ). AreColumns n (inputs_of before ++ i ∷ columns)) (sym (stated_input line input (amount_read (text_value cell)) pair e))
+    q))))
   where
-    by : (b : Bool) → cond b (cells_read line before columns cells) (if_read (λ pair. cells_read line (before ++ pair ∷ []) columns cells) (parsed_amount line input (amount_read (text_value cell)))) ≡ Ok pairs
+    by : (b : Bool) → cond b (cells_read line before columns cells)
+        (if_read (λ pair. cells_read line (before ++ pair ∷ []) columns cells) (parsed_amount line input (amount_read (text_value cell)))) ≡ Ok pairs
         → (cells_read line before columns cells ≡ Ok pairs → AreColumns n (inputs_of pairs))
-        → ((pair : ℕ × ℤ) → parsed_amount line input (amount_read (text_value cell)) ≡ Ok pair → cells_read line (before ++ pair ∷ []) columns cells ≡ Ok pairs → AreColumns n (inputs_of pairs))
+        → ((pair : ℕ × ℤ) → parsed_amount line input (amount_read (text_value cell)) ≡ Ok pair → cells_read line (before ++ pair ∷ []) columns cells ≡ Ok pairs
+        → AreColumns n (inputs_of pairs))
         → AreColumns n (inputs_of pairs)
     by true g empty filled = empty g
     by false g empty filled =
@@ -92,16 +101,20 @@ stated_amount line input stated pair h = by (amount_read stated) refl h
 abbrev AreAmounts : List (ℕ × ℤ) → Type 0
 AreAmounts pairs = AllByRecursion (λ pair. IsAmount pair.1) pairs
 
-cells_amounts : (line : ℕ) (before : List (ℕ × ℤ)) (columns : List ℕ) (cells : List (List ℕ)) (pairs : List (ℕ × ℤ)) → AreAmounts before → cells_read line before columns cells ≡ Ok pairs → AreAmounts pairs
+cells_amounts : (line : ℕ) (before : List (ℕ × ℤ)) (columns : List ℕ) (cells : List (List ℕ)) (pairs : List (ℕ × ℤ)) → AreAmounts before
+    → cells_read line before columns cells ≡ Ok pairs → AreAmounts pairs
 cells_amounts line before [] cells pairs q h = let same : before ≡ pairs = cc in subst AreAmounts same q
 cells_amounts line before (input ∷ columns) [] pairs q h = let same : before ≡ pairs = cc in subst AreAmounts same q
 cells_amounts line before (input ∷ columns) (cell ∷ cells) pairs q h =
     by (eqb (length cell) 0) h (cells_amounts line before columns cells pairs q)
-    (λ pair e. cells_amounts line (before ++ pair ∷ []) columns cells pairs (AllByRecursion-push (λ (p : ℕ × ℤ). IsAmount p.1) before pair q (stated_amount line input (text_value cell) pair e)))
+    (λ pair e. cells_amounts line (before ++ pair ∷ []) columns cells pairs
+    (AllByRecursion-push (λ (p : ℕ × ℤ). IsAmount p.1) before pair q (stated_amount line input (text_value cell) pair e)))
   where
-    by : (b : Bool) → cond b (cells_read line before columns cells) (if_read (λ pair. cells_read line (before ++ pair ∷ []) columns cells) (parsed_amount line input (amount_read (text_value cell)))) ≡ Ok pairs
+    by : (b : Bool) → cond b (cells_read line before columns cells)
+        (if_read (λ pair. cells_read line (before ++ pair ∷ []) columns cells) (parsed_amount line input (amount_read (text_value cell)))) ≡ Ok pairs
         → (cells_read line before columns cells ≡ Ok pairs → AreAmounts pairs)
-        → ((pair : ℕ × ℤ) → parsed_amount line input (amount_read (text_value cell)) ≡ Ok pair → cells_read line (before ++ pair ∷ []) columns cells ≡ Ok pairs → AreAmounts pairs)
+        → ((pair : ℕ × ℤ) → parsed_amount line input (amount_read (text_value cell)) ≡ Ok pair → cells_read line (before ++ pair ∷ []) columns cells ≡ Ok pairs
+        → AreAmounts pairs)
         → AreAmounts pairs
     by true g empty filled = empty g
     by false g empty filled =
@@ -136,19 +149,22 @@ row_pairs inputs line columns (label ∷ cells) row h =
     pairs_of (Ok x) = x.household.pairs
     pairs_of (Err e) = row.household.pairs
 
-row_known : {n : ℕ} (inputs : List Coded) (line : ℕ) (columns : List ℕ) (fields : List (List ℕ)) (row : Row) → AreColumns n columns → labelled inputs line columns fields ≡ Ok row → AreInputs n row.household.pairs
+row_known : {n : ℕ} (inputs : List Coded) (line : ℕ) (columns : List ℕ) (fields : List (List ℕ)) (row : Row) → AreColumns n columns
+    → labelled inputs line columns fields ≡ Ok row → AreInputs n row.household.pairs
 row_known {n} inputs line columns fields row q h =
     let r = row_pairs inputs line columns fields row h in
     let k = cells_known line [] columns r.0 row.household.pairs q r.1 in
     record { known = k.known; once = k.once }
 
-row_of_types : (inputs : List Coded) (line : ℕ) (columns : List ℕ) (fields : List (List ℕ)) (row : Row) → labelled inputs line columns fields ≡ Ok row → AreOfTypes inputs row.household.pairs
+row_of_types : (inputs : List Coded) (line : ℕ) (columns : List ℕ) (fields : List (List ℕ)) (row : Row) → labelled inputs line columns fields ≡ Ok row
+    → AreOfTypes inputs row.household.pairs
 row_of_types inputs line columns fields row h =
     let r = row_pairs inputs line columns fields row h in
     all_of_types inputs row.household.pairs (cells_amounts line [] columns r.0 row.household.pairs tt r.1) r.2
 
 -- what each row of a table has, all do
-rows_each : (inputs : List Coded) (columns : List ℕ) (P : Row → Type 0) → ((line : ℕ) (fields : List (List ℕ)) (row : Row) → labelled inputs line columns fields ≡ Ok row → P row)
+rows_each : (inputs : List Coded) (columns : List ℕ) (P : Row → Type 0)
+    → ((line : ℕ) (fields : List (List ℕ)) (row : Row) → labelled inputs line columns fields ≡ Ok row → P row)
     → (records : List (List (List ℕ))) (rows : List Row) → in_turn (table_row inputs columns) [] records ≡ Ok rows → AllByRecursion P rows
 rows_each inputs columns P each records rows h =
     turns_keep (table_row inputs columns) (AllByRecursion P)
@@ -158,13 +174,15 @@ rows_each inputs columns P each records rows h =
     [] records rows tt h
 
 -- the pairs of all rows
-pub table_inputs : (inputs : List Coded) (fields : List (List ℕ)) (columns : List ℕ) (records : List (List (List ℕ))) (rows : List Row) → in_turn (column_of inputs) [] fields ≡ Ok columns
+pub table_inputs : (inputs : List Coded) (fields : List (List ℕ)) (columns : List ℕ) (records : List (List (List ℕ))) (rows : List Row)
+    → in_turn (column_of inputs) [] fields ≡ Ok columns
     → in_turn (table_row inputs columns) [] records ≡ Ok rows → AllByRecursion (λ row. AreInputs (length inputs) row.household.pairs) rows
 table_inputs inputs fields columns records rows c h =
     rows_each inputs columns (λ row. AreInputs (length inputs) row.household.pairs)
     (λ line record_fields row e. row_known inputs line columns record_fields row (columns_known inputs fields columns c) e) records rows h
 
-pub table_types : (inputs : List Coded) (columns : List ℕ) (records : List (List (List ℕ))) (rows : List Row) → in_turn (table_row inputs columns) [] records ≡ Ok rows
+pub table_types : (inputs : List Coded) (columns : List ℕ) (records : List (List (List ℕ))) (rows : List Row)
+    → in_turn (table_row inputs columns) [] records ≡ Ok rows
     → AllByRecursion (λ row. AreOfTypes inputs row.household.pairs) rows
 table_types inputs columns records rows h =
     rows_each inputs columns (λ row. AreOfTypes inputs row.household.pairs) (λ line fields row e. row_of_types inputs line columns fields row e) records rows h

@@ -1,5 +1,6 @@
 -- Going over records without reading them.
-use Rattle.std.proofs.Common.{◌≡◌, ℕ, ◌+◌, ◌-◌, ◌*◌, ◌<◌, ◌≤◌, zero, suc, List, [], ◌∷◌, ◌++◌, length, length-append, length-drop, get_or, drop, refl, sym, ap, subst, ◌∙◌, arith}
+use Rattle.std.proofs.Common.{◌≡◌, ℕ, ◌+◌, ◌-◌, ◌*◌, ◌<◌, ◌≤◌, zero, suc, List, [], ◌∷◌, ◌++◌, length, length-append, length-drop, get_or, drop, refl, sym, ap}
+use Rattle.std.proofs.Common.{subst, ◌∙◌, arith}
 use Rattle.std.proofs.lemmas.List.{drop-drop, drop_all}
 use Rattle.csv.specs.Reading.{strip_bom}
 use Rattle.csv.specs.declared.parser.State.TheVariants as st
@@ -21,7 +22,8 @@ over_line bytes at end q far within line = by (end - at) refl line
     by : (n : ℕ) → n ≡ end - at → IsLine n (drop at bytes) → IsCut bytes end × ((fields : List (List ℕ)) × (left_at bytes at ≡ fields ∷ left_at bytes end))
     by zero e l = absurd (omega (arith, e, far))
     by (suc n) e l =
-        let there : drop (suc n) (drop at bytes) ≡ drop end bytes = drop-drop (suc n) at bytes ∙ ap (λ k. drop k bytes) (let same : at + suc n ≡ end = omega (arith, e, far) in same) in
+        let there : drop (suc n) (drop at bytes) ≡ drop end bytes = drop-drop (suc n) at bytes
+        ∙ ap (λ k. drop k bytes) (let same : at + suc n ≡ end = omega (arith, e, far) in same) in
         let over = record_over n (drop at bytes) (no_quote_drop at bytes q) l in (
           record { within = within; ends = subst IsLineEnd there (line_ends (suc n) (drop at bytes) l) },
           (over.0, over.1 ∙ ap (λ l. over.0 ∷ records_from_state st.StartRecord [] [] l) there),
@@ -54,12 +56,17 @@ all_left bytes start e = ap (records_from_state st.StartRecord [] []) e ∙ reco
 
 -- what a list has from a place on, where it has an element there
 drop_begun : {A : Type 0} (i : ℕ) (left new : List A) (x : A) → drop i left ≡ x ∷ new → (new ≡ drop (suc i) left) × (suc i ≤ length left)
-drop_begun zero left new x e = (let cut : drop 1 left ≡ new = ap (λ l. drop 1 l) e in sym cut, let long : length left ≡ suc (length new) = ap length e in omega (arith, long))
+drop_begun zero left new x e = (
+  let cut : drop 1 left ≡ new = ap (λ l. drop 1 l) e in sym cut,
+  let long : length left ≡ suc (length new) = ap length e in omega
+      (arith, long),
+)
 drop_begun (suc i) [] new x e = absurd (cc)
 drop_begun (suc i) (y ∷ left) new x e = let more = drop_begun i left new x e in (more.0, omega (arith, more.1))
 
 -- one more record was gone over
-pub over_next : (i next : ℕ) (left here new : List (List (List ℕ))) → next ≡ suc i → here ≡ drop i left → ((read : List (List ℕ)) × (here ≡ read ∷ new)) → (new ≡ drop next left) × (next ≤ length left)
+pub over_next : (i next : ℕ) (left here new : List (List (List ℕ))) → next ≡ suc i → here ≡ drop i left → ((read : List (List ℕ)) × (here ≡ read ∷ new))
+    → (new ≡ drop next left) × (next ≤ length left)
 over_next i next left here new n h e = subst (λ k. (new ≡ drop k left) × (k ≤ length left)) (sym n) (drop_begun i left new e.0 (sym h ∙ e.1))
 
 -- there was none
@@ -99,7 +106,8 @@ cuts_first bytes cuts first is e =
       some = omega arith;
     })
 
-pub cuts_more : (bytes : List ℕ) (records : List (List (List ℕ))) (cuts more : List ℕ) (old new : ℕ) → CutsTo bytes records cuts old → more ≡ cuts ++ new ∷ [] → IsCut bytes new → left_at bytes new ≡ drop BETWEEN (left_at bytes old)
+pub cuts_more : (bytes : List ℕ) (records : List (List (List ℕ))) (cuts more : List ℕ) (old new : ℕ) → CutsTo bytes records cuts old → more ≡ cuts ++ new ∷ []
+    → IsCut bytes new → left_at bytes new ≡ drop BETWEEN (left_at bytes old)
     → CutsTo bytes records more new
 cuts_more bytes records [] more old new so_far m is e = absurd (omega (arith, so_far.some))
 cuts_more bytes records (c ∷ cs) more old new so_far m is e =
@@ -108,12 +116,14 @@ cuts_more bytes records (c ∷ cs) more old new so_far m is e =
     subst (λ (l : List ℕ). CutsTo bytes records l new) (sym m)
     (record {
       each = each_push (λ n cut. IsCutAfter bytes records (n * BETWEEN) cut) (c ∷ cs) new so_far.each (is, here);
-      here = λ n h. (let same : length (c ∷ cs) ≡ n = let long = length-append (c ∷ cs) (new ∷ []) in omega (arith, h, long) in subst (λ k. IsCutAfter bytes records (k * BETWEEN) new) same (is, here));
+      here = λ n h. (let same : length (c ∷ cs) ≡ n = let long = length-append (c ∷ cs) (new ∷ []) in omega (arith, h, long) in subst
+          (λ k. IsCutAfter bytes records (k * BETWEEN) new) same (is, here));
       some = omega arith;
     })
 
 -- the last cut
-pub cuts_end : (bytes : List ℕ) (records : List (List (List ℕ))) (cuts : List ℕ) (cut : ℕ) → CutsTo bytes records cuts cut → length (left_at bytes cut) < BETWEEN → AreCuts bytes records cuts
+pub cuts_end : (bytes : List ℕ) (records : List (List (List ℕ))) (cuts : List ℕ) (cut : ℕ) → CutsTo bytes records cuts cut
+    → length (left_at bytes cut) < BETWEEN → AreCuts bytes records cuts
 cuts_end bytes records [] cut so_far few = absurd (omega (arith, so_far.some))
 cuts_end bytes records (c ∷ cs) cut so_far few =
     let long : length (left_at bytes cut) ≡ length (drop (length cs * BETWEEN) records) = ap length (so_far.here (length cs) refl).1 in

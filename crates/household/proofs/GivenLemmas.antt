@@ -21,7 +21,8 @@ given : (all : List Coded) (pairs : List (ℕ × ℤ)) (input : ℕ) → AreOfTy
 given all [] input h = tt
 given all (pair ∷ pairs) input h = by (eqb pair.0 input) refl (given all pairs input h.1)
   where
-    by : (b : Bool) → eqb pair.0 input ≡ b → IsValueOf (input_type all input) (value_at pairs input) → IsValueOf (input_type all input) (cond b (Num pair.1) (value_at pairs input))
+    by : (b : Bool) → eqb pair.0 input ≡ b → IsValueOf (input_type all input) (value_at pairs input)
+        → IsValueOf (input_type all input) (cond b (Num pair.1) (value_at pairs input))
     by true e rest = subst (λ (n : ℕ). IsValueOf (input_type all n) (Num pair.1)) (eqb-true pair.0 input e) h.0
     by false e rest = rest
 
@@ -48,7 +49,8 @@ read_types inputs bytes pairs h = by (records_of bytes) h
     by [] g = cc g
     by (first ∷ rows) g = household_types inputs rows pairs (if_ok (is_header first) (in_turn (row_of inputs) [] rows) BadHeader pairs g).1
 
-pub household_gives : (inputs : List Coded) (bytes : List ℕ) (pairs : List (ℕ × ℤ)) → household_of inputs bytes ≡ Ok pairs → AreValuesOf inputs (values_of pairs (length inputs))
+pub household_gives : (inputs : List Coded) (bytes : List ℕ) (pairs : List (ℕ × ℤ)) → household_of inputs bytes ≡ Ok pairs
+    → AreValuesOf inputs (values_of pairs (length inputs))
 household_gives inputs bytes pairs h = pairs_give inputs pairs (read_types inputs bytes pairs h)
 
 rows_give : (inputs : List Coded) (rows : List Row) → AllByRecursion (λ row. AreOfTypes inputs row.household.pairs) rows
@@ -56,7 +58,8 @@ rows_give : (inputs : List Coded) (rows : List Row) → AllByRecursion (λ row. 
 rows_give inputs [] h = tt
 rows_give inputs (row ∷ rows) h = (pairs_give inputs row.household.pairs h.0, rows_give inputs rows h.1)
 
-table_rows : (inputs : List Coded) (records : List (List (List ℕ))) (rows : List Row) → table_read inputs records ≡ Ok rows → AllByRecursion (λ row. AreOfTypes inputs row.household.pairs) rows
+table_rows : (inputs : List Coded) (records : List (List (List ℕ))) (rows : List Row) → table_read inputs records ≡ Ok rows
+    → AllByRecursion (λ row. AreOfTypes inputs row.household.pairs) rows
 table_rows inputs [] rows h = cc h
 table_rows inputs (first ∷ records) rows h =
     let g = if_ok (is_table_header first) (rows_read inputs (drop 1 first) records) BadHeader rows h in

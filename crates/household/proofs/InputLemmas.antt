@@ -1,5 +1,6 @@
 -- The inputs of pairs: they are known, and none stands twice. The amounts are of their types.
-use Rattle.std.proofs.Common.{◌≡◌, ◌≢◌, ℕ, ℤ, ◌<◌, List, [], ◌∷◌, ◌++◌, length, Option, Some, None, Result, Ok, Err, Bool, true, false, cond, eqb, leb, refl, sym, subst, ap, ◌∙◌}
+use Rattle.std.proofs.Common.{◌≡◌, ◌≢◌, ℕ, ℤ, ◌<◌, List, [], ◌∷◌, ◌++◌, length, Option, Some, None, Result, Ok, Err, Bool, true, false, cond, eqb, leb, refl}
+use Rattle.std.proofs.Common.{sym, subst, ap, ◌∙◌}
 use Rattle.std.proofs.lemmas.Bool.{eqb-false, or_parts}
 use Rattle.std.proofs.lemmas.List.{length-map, map_push}
 use Rattle.std.specs.List.{AllByRecursion}
@@ -14,7 +15,8 @@ use Rattle.observables.specs.Inputs.{codes_of}
 use Rattle.observables.proofs.InputLemmas.{read_amount}
 use Rattle.household.specs.declared.fault.HouseholdFault.TheVariants.{NotOfType}
 use Rattle.household.specs.InTurn.{in_turn, if_read}
-use Rattle.household.specs.Household.{AreDifferent, AreInputs, AreOfTypes, fitting_pair, inputs_of, is_fitting, is_input_among, line_behind, new_pair, pair_of, parsed_pair, row_of}
+use Rattle.household.specs.Household.{AreDifferent, AreInputs, AreOfTypes, fitting_pair, inputs_of, is_fitting, is_input_among, line_behind, new_pair, pair_of}
+use Rattle.household.specs.Household.{parsed_pair, row_of}
 
 pub AllByRecursion-push : {X : Type 0} (P : X → Type 0) (xs : List X) (x : X) → AllByRecursion P xs → P x → AllByRecursion P (xs ++ x ∷ [])
 AllByRecursion-push P [] x h p = (p, tt)
@@ -30,9 +32,11 @@ pub inputs_of-push : (pairs : List (ℕ × ℤ)) (pair : ℕ × ℤ) → inputs_
 inputs_of-push pairs pair = map_push (λ p. p.0) pairs pair
 
 -- one more pair, of a known input that isn't there
-AreInputs-push : (n : ℕ) (pairs : List (ℕ × ℤ)) (pair : ℕ × ℤ) → AreInputs n pairs → pair.0 < n → is_input_among pair.0 (inputs_of pairs) ≡ false → AreInputs n (pairs ++ pair ∷ [])
+AreInputs-push : (n : ℕ) (pairs : List (ℕ × ℤ)) (pair : ℕ × ℤ) → AreInputs n pairs → pair.0 < n → is_input_among pair.0 (inputs_of pairs) ≡ false
+    → AreInputs n (pairs ++ pair ∷ [])
 AreInputs-push n pairs pair h l e = record {
-  known = subst (AllByRecursion (λ input. input < n)) (sym (inputs_of-push pairs pair)) (AllByRecursion-push (λ input. input < n) (inputs_of pairs) pair.0 h.known l);
+  known = subst (AllByRecursion (λ input. input < n)) (sym (inputs_of-push pairs pair))
+      (AllByRecursion-push (λ input. input < n) (inputs_of pairs) pair.0 h.known l);
   once = subst AreDifferent (sym (inputs_of-push pairs pair)) (AreDifferent-push (inputs_of pairs) pair.0 e h.once);
 }
 
@@ -55,7 +59,8 @@ pub code_known : (inputs : List Coded) (code : List ℕ) (number : ℕ) → inde
 code_known inputs code number h = subst (λ n. number < n) (length-map inputs (λ (input : Coded). input.code)) (index_of-some code (codes_of inputs) number h).1
 
 -- the input of a pair is known, and it has an amount
-stated_known : (n line : ℕ) (o : Option ℕ) (r : Result ℤ AmountFault) (pair : ℕ × ℤ) → parsed_pair line o r ≡ Ok pair → ((i : ℕ) → o ≡ Some i → i < n) → pair.0 < n
+stated_known : (n line : ℕ) (o : Option ℕ) (r : Result ℤ AmountFault) (pair : ℕ × ℤ) → parsed_pair line o r ≡ Ok pair → ((i : ℕ) → o ≡ Some i → i < n)
+    → pair.0 < n
 stated_known n line None r pair h k = cc h
 stated_known n line (Some i) (Err why) pair h k = cc h
 stated_known n line (Some i) (Ok z) pair h k = let same : i ≡ pair.0 = cc in subst (λ (j : ℕ). j < n) same (k i refl)
@@ -81,10 +86,12 @@ pair_known : (inputs : List Coded) (line : ℕ) (fields : List (List ℕ)) (pair
 pair_known inputs line [] pair h = cc h
 pair_known inputs line (code ∷ []) pair h = cc h
 pair_known inputs line (code ∷ amount ∷ []) pair h =
-    stated_known (length inputs) line (index_of code (codes_of inputs)) (amount_read (text_value amount)) pair (two_parts inputs line code amount pair h).0 (code_known inputs code)
+    stated_known (length inputs) line (index_of code (codes_of inputs)) (amount_read (text_value amount)) pair (two_parts inputs line code amount pair h).0
+    (code_known inputs code)
 pair_known inputs line (code ∷ amount ∷ more ∷ rest) pair h = cc h
 
-pair_of_type : (inputs : List Coded) (line : ℕ) (fields : List (List ℕ)) (pair : ℕ × ℤ) → pair_of inputs line fields ≡ Ok pair → IsAmount pair.1 × (is_fitting inputs pair ≡ true)
+pair_of_type : (inputs : List Coded) (line : ℕ) (fields : List (List ℕ)) (pair : ℕ × ℤ) → pair_of inputs line fields ≡ Ok pair
+    → IsAmount pair.1 × (is_fitting inputs pair ≡ true)
 pair_of_type inputs line [] pair h = cc h
 pair_of_type inputs line (code ∷ []) pair h = cc h
 pair_of_type inputs line (code ∷ amount ∷ []) pair h =
@@ -104,7 +111,8 @@ row_parts inputs before fields pair h =
     (a.0, b.1 ∙ ap Ok same, subst (λ (p : ℕ × ℤ). is_input_among p.0 (inputs_of before) ≡ false) same d.0)
 
 -- what each value that is read keeps, all do
-pub turns_keep : {A B F : Type 0} (read : List B → A → Result B F) (Q : List B → Type 0) → ((before : List B) (thing : A) (value : B) → Q before → read before thing ≡ Ok value → Q (before ++ value ∷ []))
+pub turns_keep : {A B F : Type 0} (read : List B → A → Result B F) (Q : List B → Type 0)
+    → ((before : List B) (thing : A) (value : B) → Q before → read before thing ≡ Ok value → Q (before ++ value ∷ []))
     → (before : List B) (things : List A) (values : List B) → Q before → in_turn read before things ≡ Ok values → Q values
 turns_keep read Q keeps before [] values q h = let same : before ≡ values = cc in subst Q same q
 turns_keep read Q keeps before (thing ∷ things) values q h =
@@ -112,14 +120,18 @@ turns_keep read Q keeps before (thing ∷ things) values q h =
     turns_keep read Q keeps (before ++ r.0 ∷ []) things values (keeps before thing r.0 q r.1) r.2
 
 -- the pairs of a household are of its inputs, and of their types
-pub household_inputs : (inputs : List Coded) (rows : List (List (List ℕ))) (pairs : List (ℕ × ℤ)) → in_turn (row_of inputs) [] rows ≡ Ok pairs → AreInputs (length inputs) pairs
+pub household_inputs : (inputs : List Coded) (rows : List (List (List ℕ))) (pairs : List (ℕ × ℤ)) → in_turn (row_of inputs) [] rows ≡ Ok pairs
+    → AreInputs (length inputs) pairs
 household_inputs inputs rows pairs h =
     turns_keep (row_of inputs) (AreInputs (length inputs))
-    (λ before fields pair q e. let p = row_parts inputs before fields pair e in AreInputs-push (length inputs) before pair q (pair_known inputs _ fields pair p.1) p.2)
+    (λ before fields pair q e. let p = row_parts inputs before fields pair e in AreInputs-push (length inputs) before pair q
+    (pair_known inputs _ fields pair p.1) p.2)
     [] rows pairs (record { known = tt; once = tt }) h
 
-pub household_types : (inputs : List Coded) (rows : List (List (List ℕ))) (pairs : List (ℕ × ℤ)) → in_turn (row_of inputs) [] rows ≡ Ok pairs → AreOfTypes inputs pairs
+pub household_types : (inputs : List Coded) (rows : List (List (List ℕ))) (pairs : List (ℕ × ℤ)) → in_turn (row_of inputs) [] rows ≡ Ok pairs
+    → AreOfTypes inputs pairs
 household_types inputs rows pairs h =
     turns_keep (row_of inputs) (AreOfTypes inputs)
-    (λ before fields pair q e. AllByRecursion-push (λ (p : ℕ × ℤ). IsAmount p.1 × (is_fitting inputs p ≡ true)) before pair q (pair_of_type inputs _ fields pair (row_parts inputs before fields pair e).1))
+    (λ before fields pair q e. AllByRecursion-push (λ (p : ℕ × ℤ). IsAmount p.1 × (is_fitting inputs p ≡ true)) before pair q
+    (pair_of_type inputs _ fields pair (row_parts inputs before fields pair e).1))
     [] rows pairs tt h

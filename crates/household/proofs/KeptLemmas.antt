@@ -33,12 +33,14 @@ none_kept (code ∷ codes) (k ∷ kinds) zero none = absurd (cc none)
 none_kept (code ∷ codes) (k ∷ kinds) (suc number) none = none_kept codes kinds number none
 
 -- the type of a number that an input has, and of one that none has, as code reads them
-pub type_read : (codes : List (List ℕ)) (kinds read : List InputType) (number : ℕ) (kind : InputType) → length kinds ≡ length codes → read ≡ kinds → number < length read
+pub type_read : (codes : List (List ℕ)) (kinds read : List InputType) (number : ℕ) (kind : InputType) → length kinds ≡ length codes → read ≡ kinds
+    → number < length read
     → kind ≡ get_or read number kind → input_type (inputs_kept codes kinds) number ≡ kind
 type_read codes kinds read number kind h same within is =
     type_kept codes kinds number kind h (ap (λ l. slice_get l number) (sym same) ∙ slice_get-get_or read number kind within ∙ ap Some (sym is))
 
-pub none_read : (codes : List (List ℕ)) (kinds read : List InputType) (number : ℕ) → read ≡ kinds → length read ≤ number → input_type (inputs_kept codes kinds) number ≡ Any
+pub none_read : (codes : List (List ℕ)) (kinds read : List InputType) (number : ℕ) → read ≡ kinds → length read ≤ number
+    → input_type (inputs_kept codes kinds) number ≡ Any
 none_read codes kinds read number same past = none_kept codes kinds number (ap (λ l. slice_get l number) (sym same) ∙ slice_get_past read number past)
 
 -- the inputs themselves

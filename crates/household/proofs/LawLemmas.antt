@@ -1,5 +1,6 @@
 -- The laws of households and tables.
-use Rattle.std.proofs.Common.{◌≡◌, ◌≢◌, ℕ, ℤ, ◌<◌, ◌≤◌, List, [], ◌∷◌, ◌++◌, drop, length, Option, Some, Result, Ok, Err, Bool, true, false, cond, eqb, leb, refl, sym, subst, ap, ◌∙◌, append_assoc, length-append, arith, inl, inr, None}
+use Rattle.std.proofs.Common.{◌≡◌, ◌≢◌, ℕ, ℤ, ◌<◌, ◌≤◌, List, [], ◌∷◌, ◌++◌, drop, length, Option, Some, Result, Ok, Err, Bool, true, false, cond, eqb, leb}
+use Rattle.std.proofs.Common.{refl, sym, subst, ap, ◌∙◌, append_assoc, length-append, arith, inl, inr, None}
 use Rattle.std.specs.List.{AllByRecursion, AllZip}
 use Rattle.std.proofs.lemmas.Bool.{cond-true, eqb-true, false_from_ne_true, or_cases}
 use Rattle.std.proofs.lemmas.Bool.Decides.{nat_tests}
@@ -14,14 +15,17 @@ use Rattle.household.specs.declared.fault.HouseholdFault.{HouseholdFault}
 use Rattle.household.specs.declared.fault.HouseholdFault.TheVariants.{BadHeader, NotOfType}
 use Rattle.household.specs.InTurn.{in_turn, if_read, IsFirstFault}
 use Rattle.household.specs.Records.{records_of}
-use Rattle.household.specs.Household.{AreDifferent, IsHousehold, IsRow, fitting_pair, household_of, household_read, inputs_of, is_fitting, is_input_among, is_header, line_behind, new_pair, pair_of, parsed_pair, row_of}
+use Rattle.household.specs.Household.{AreDifferent, IsHousehold, IsRow, fitting_pair, household_of, household_read, inputs_of, is_fitting, is_input_among}
+use Rattle.household.specs.Household.{is_header, line_behind, new_pair, pair_of, parsed_pair, row_of}
 use Rattle.household.specs.Table.{column_of, is_table_header, rows_read, table_of, table_read, table_row}
 use Rattle.household.specs.Refusals.{LacksHeader, IsRefusedHousehold, IsRefusedTable, no_header, at_row, no_table_header, at_column, at_table_row}
 use Rattle.household.proofs.InputLemmas.{household_inputs, if_ok, read_before, row_parts, turns_keep, two_parts}
 
 -- each thing says its value
-pub turns_each : {A B F : Type 0} (read : List B → A → Result B F) (P : A → B → Type 0) → ((before : List B) (thing : A) (value : B) → read before thing ≡ Ok value → P thing value)
-    → (before : List B) (things : List A) (values : List B) → in_turn read before things ≡ Ok values → (more : List B) × (values ≡ before ++ more) × AllZip P things more
+pub turns_each : {A B F : Type 0} (read : List B → A → Result B F) (P : A → B → Type 0)
+    → ((before : List B) (thing : A) (value : B) → read before thing ≡ Ok value → P thing value)
+    → (before : List B) (things : List A) (values : List B) → in_turn read before things ≡ Ok values → (more : List B) × (values ≡ before ++ more)
+    × AllZip P things more
 turns_each read P says before [] values h = let same : before ≡ values = cc in ([], sym (append-nil before ∙ same), tt)
 turns_each read P says before (thing ∷ things) values h =
     let r = read_before (λ value. in_turn read (before ++ value ∷ []) things) (read before thing) values h in
@@ -41,11 +45,13 @@ turns_whole read P Q says before (thing ∷ things) (value ∷ values) z q =
     ∙ ap Ok (append_assoc before (value ∷ []) values)
 
 -- the first that has a fault
-stopped : {B C F : Type 0} (next : B → Result C F) (r : Result B F) (fault : F) {P : Type 0} → if_read next r ≡ Err fault → (r ≡ Err fault → P) → ((b : B) → r ≡ Ok b → next b ≡ Err fault → P) → P
+stopped : {B C F : Type 0} (next : B → Result C F) (r : Result B F) (fault : F) {P : Type 0} → if_read next r ≡ Err fault → (r ≡ Err fault → P)
+    → ((b : B) → r ≡ Ok b → next b ≡ Err fault → P) → P
 stopped next (Ok b) fault h bad good = good b refl h
 stopped next (Err e) fault h bad good = let same : e ≡ fault = cc h in bad (ap Err same)
 
-pub turns_stop : {A B F : Type 0} (read : List B → A → Result B F) (before : List B) (things : List A) (fault : F) → in_turn read before things ≡ Err fault → IsFirstFault read before things fault
+pub turns_stop : {A B F : Type 0} (read : List B → A → Result B F) (before : List B) (things : List A) (fault : F) → in_turn read before things ≡ Err fault
+    → IsFirstFault read before things fault
 turns_stop read before [] fault h = cc h
 turns_stop {A} {B} {F} read before (thing ∷ things) fault h =
     stopped (λ value. in_turn read (before ++ value ∷ []) things) (read before thing) fault h
@@ -83,7 +89,8 @@ row_pair inputs line fields pair is =
     ∙ cond-true (is_fitting inputs pair) (Ok pair) (Err (NotOfType line)) is.fits
 
 -- a choice between what is read and a fault
-if_err : {T E : Type 0} (b : Bool) (r : Result T E) (e fault : E) {P : Type 0} → cond b r (Err e) ≡ Err fault → (b ≡ true → r ≡ Err fault → P) → (b ≡ false → e ≡ fault → P) → P
+if_err : {T E : Type 0} (b : Bool) (r : Result T E) (e fault : E) {P : Type 0} → cond b r (Err e) ≡ Err fault → (b ≡ true → r ≡ Err fault → P)
+    → (b ≡ false → e ≡ fault → P) → P
 if_err true r e fault h held failed = held refl h
 if_err false r e fault h held failed = let same : e ≡ fault = cc h in failed refl same
 
@@ -95,21 +102,25 @@ pub no_room : (n m : ℕ) → m < n → leb n m ≡ false
 no_room n m l = grind (arith, nat_tests)
 
 -- where a value is read only after fewer than so many, there are no more than so many
-pub turns_few : {A B F : Type 0} (read : List B → A → Result B F) (most : ℕ) → ((before : List B) (thing : A) (value : B) → read before thing ≡ Ok value → leb most (length before) ≡ false)
+pub turns_few : {A B F : Type 0} (read : List B → A → Result B F) (most : ℕ) → ((before : List B) (thing : A) (value : B) → read before thing ≡ Ok value
+    → leb most (length before) ≡ false)
     → (things : List A) (values : List B) → in_turn read [] things ≡ Ok values → length values ≤ most
 turns_few read most free things values h =
-    turns_keep read (λ before. length before ≤ most) (λ before thing value q e. let less = room most (length before) (free before thing value e) in omega (arith, less, length_push before value)) [] things values (omega arith) h
+    turns_keep read (λ before. length before ≤ most) (λ before thing value q e. let less = room most (length before) (free before thing value e) in omega
+    (arith, less, length_push before value)) [] things values (omega arith) h
 
 -- where there are no more than so many in all, there is room after the first of them
 pub fewer : {X : Type 0} (most : ℕ) (xs ys : List X) (x : X) → length (xs ++ x ∷ ys) ≤ most → leb most (length xs) ≡ false
 fewer most xs ys x few = no_room most (length xs) (let long = length-append xs (x ∷ ys) in omega (arith, long, few))
 
 -- what is read is a household
-household_sound : (inputs : List Coded) (bytes : List ℕ) (records : List (List (List ℕ))) (pairs : List (ℕ × ℤ)) → records_of bytes ≡ records → household_read inputs records ≡ Ok pairs → IsHousehold inputs bytes pairs
+household_sound : (inputs : List Coded) (bytes : List ℕ) (records : List (List (List ℕ))) (pairs : List (ℕ × ℤ)) → records_of bytes ≡ records
+    → household_read inputs records ≡ Ok pairs → IsHousehold inputs bytes pairs
 household_sound inputs bytes [] pairs e h = cc h
 household_sound inputs bytes (first ∷ rows) pairs e h =
     let read = if_ok (is_header first) (in_turn (row_of inputs) [] rows) BadHeader pairs h in
-    let each = turns_each (row_of inputs) (IsRow inputs) (λ before fields pair f. pair_row inputs (line_behind (length before)) fields pair (row_parts inputs before fields pair f).1) [] rows pairs read.1 in
+    let each = turns_each (row_of inputs) (IsRow inputs) (λ before fields pair f. pair_row inputs (line_behind (length before)) fields pair
+    (row_parts inputs before fields pair f).1) [] rows pairs read.1 in
     record {
       first = first;
       rows = rows;
@@ -149,10 +160,12 @@ pub household_is_read : (inputs : List Coded) (bytes : List ℕ) (pairs : List (
 household_is_read inputs bytes pairs is =
     let header = is.header in
     ap (household_read inputs) is.records
-    ∙ rw header (turns_whole (row_of inputs) (IsRow inputs) (λ ps. AreDifferent (inputs_of ps) × (length ps ≤ ROWS)) (row_whole inputs) [] is.rows pairs is.in_order (is.once, is.few))
+    ∙ rw header (turns_whole (row_of inputs) (IsRow inputs) (λ ps. AreDifferent (inputs_of ps) × (length ps ≤ ROWS)) (row_whole inputs) [] is.rows pairs
+    is.in_order (is.once, is.few))
 
 -- why a household is refused
-household_refused : (inputs : List Coded) (bytes : List ℕ) (records : List (List (List ℕ))) (fault : HouseholdFault) → records_of bytes ≡ records → household_read inputs records ≡ Err fault → IsRefusedHousehold inputs bytes fault
+household_refused : (inputs : List Coded) (bytes : List ℕ) (records : List (List (List ℕ))) (fault : HouseholdFault) → records_of bytes ≡ records
+    → household_read inputs records ≡ Err fault → IsRefusedHousehold inputs bytes fault
 household_refused inputs bytes [] fault e h =
     let same : BadHeader ≡ fault = cc h in
     subst (IsRefusedHousehold inputs bytes) same (no_header (subst (LacksHeader is_header) (sym e) tt))
@@ -161,11 +174,13 @@ household_refused inputs bytes (first ∷ rows) fault e h =
     (λ header bad. at_row e header (turns_stop (row_of inputs) [] rows fault bad))
     (λ other same. subst (IsRefusedHousehold inputs bytes) same (no_header (subst (LacksHeader is_header) (sym e) other)))
 
-pub household_fault_is : (inputs : List Coded) (bytes : List ℕ) (fault : HouseholdFault) → household_of inputs bytes ≡ Err fault → IsRefusedHousehold inputs bytes fault
+pub household_fault_is : (inputs : List Coded) (bytes : List ℕ) (fault : HouseholdFault) → household_of inputs bytes ≡ Err fault
+    → IsRefusedHousehold inputs bytes fault
 household_fault_is inputs bytes fault h = household_refused inputs bytes (records_of bytes) fault refl h
 
 -- why a table is refused
-table_refused : (inputs : List Coded) (bytes : List ℕ) (records : List (List (List ℕ))) (fault : HouseholdFault) → records_of bytes ≡ records → table_read inputs records ≡ Err fault → IsRefusedTable inputs bytes fault
+table_refused : (inputs : List Coded) (bytes : List ℕ) (records : List (List (List ℕ))) (fault : HouseholdFault) → records_of bytes ≡ records
+    → table_read inputs records ≡ Err fault → IsRefusedTable inputs bytes fault
 table_refused inputs bytes [] fault e h =
     let same : BadHeader ≡ fault = cc h in
     subst (IsRefusedTable inputs bytes) same (no_table_header (subst (LacksHeader is_table_header) (sym e) tt))

@@ -1,5 +1,6 @@
 -- What a reader has left, from read to read.
-use Rattle.std.proofs.Common.{◌≡◌, ℕ, ◌+◌, ◌<◌, ◌≤◌, zero, suc, List, [], ◌∷◌, ◌++◌, length, Option, Some, None, Bool, true, false, get_or, drop, refl, sym, ap, subst, ◌∙◌, arith, cond}
+use Rattle.std.proofs.Common.{◌≡◌, ℕ, ◌+◌, ◌<◌, ◌≤◌, zero, suc, List, [], ◌∷◌, ◌++◌, length, Option, Some, None, Bool, true, false, get_or, drop, refl, sym, ap}
+use Rattle.std.proofs.Common.{subst, ◌∙◌, arith, cond}
 use Rattle.std.proofs.lemmas.Bool.{cond-true, cond-false}
 use Rattle.csv.specs.Machine.{Read, step, is_end, ends_at_end, fields_after, field_after, next_record}
 use Rattle.csv.specs.Reading.{default_config, is_bom, strip_bom, records_from, records_next}
@@ -15,16 +16,20 @@ abbrev pub behind : State → List ℕ → List (List (List ℕ))
 behind s bytes = records_from_state s [] [] bytes
 
 -- they are the next record and those after it
-pub next_and_behind : (s : State) (fields : List (List ℕ)) (field bytes : List ℕ) → records_from_state s fields field bytes ≡ records_next behind (next_record default_config s fields field bytes)
+pub next_and_behind : (s : State) (fields : List (List ℕ)) (field bytes : List ℕ)
+    → records_from_state s fields field bytes ≡ records_next behind (next_record default_config s fields field bytes)
 unfolding next_record
 next_and_behind s fields field [] =
-    elim (ends_at_end s) as (λ b. cond b ((fields ++ field ∷ []) ∷ []) [] ≡ records_next behind (cond b (Some (fields ++ field ∷ [], st.StartRecord, [])) None)) [ true ↦ refl | false ↦ refl ]
+    elim (ends_at_end s) as (λ b. cond b ((fields ++ field ∷ []) ∷ []) [] ≡ records_next behind (cond b (Some (fields ++ field ∷ [], st.StartRecord, [])) None))
+    [ true ↦ refl | false ↦ refl ]
 next_and_behind s fields field (c ∷ rest) =
     let s2 = (step default_config s c).0 in
     let act = (step default_config s c).1 in
     let more = next_and_behind s2 (fields_after act fields field) (field_after act c field) rest in
-    elim (is_end act) as (λ b. cond b (fields_after act fields field ∷ behind s2 rest) (records_from_state s2 (fields_after act fields field) (field_after act c field) rest)
-    ≡ records_next behind (cond b (Some (fields_after act fields field, s2, rest)) (next_record default_config s2 (fields_after act fields field) (field_after act c field) rest))) [ true ↦ refl | false ↦ more ]
+    elim (is_end act) as (λ b. cond b (fields_after act fields field ∷ behind s2 rest)
+    (records_from_state s2 (fields_after act fields field) (field_after act c field) rest)
+    ≡ records_next behind (cond b (Some (fields_after act fields field, s2, rest))
+    (next_record default_config s2 (fields_after act fields field) (field_after act c field) rest))) [ true ↦ refl | false ↦ more ]
 
 -- what a choice leaves is no longer than both of what it is made of
 takes_by : (b : Bool) (q p : Read) (o : Option Read) (n : ℕ) → length q.2 ≤ n → (o ≡ Some p → length p.2 ≤ n) → cond b (Some q) o ≡ Some p → length p.2 ≤ n
@@ -32,17 +37,21 @@ takes_by true q p o n l h e = let same : q ≡ p = cc in omega (arith, ap (λ (r
 takes_by false q p o n l h e = h e
 
 -- a record takes at least one byte, where there is one
-next_takes : (s : State) (fields : List (List ℕ)) (field : List ℕ) (c : ℕ) (rest : List ℕ) (p : Read) → next_record default_config s fields field (c ∷ rest) ≡ Some p → length p.2 ≤ length rest
+next_takes : (s : State) (fields : List (List ℕ)) (field : List ℕ) (c : ℕ) (rest : List ℕ) (p : Read)
+    → next_record default_config s fields field (c ∷ rest) ≡ Some p → length p.2 ≤ length rest
 unfolding next_record
 next_takes s fields field c [] p e =
     let s2 = (step default_config s c).0 in
     let act = (step default_config s c).1 in
-    takes_by (is_end act) (fields_after act fields field, s2, []) p (next_record default_config s2 (fields_after act fields field) (field_after act c field) []) 0 (omega arith)
-    (λ f. takes_by (ends_at_end s2) (fields_after act fields field ++ (field_after act c field ∷ []), st.StartRecord, []) p None 0 (omega arith) (λ g. cc g) f) e
+    takes_by (is_end act) (fields_after act fields field, s2, []) p (next_record default_config s2 (fields_after act fields field) (field_after act c field) [])
+    0 (omega arith)
+    (λ f. takes_by (ends_at_end s2) (fields_after act fields field ++ (field_after act c field ∷ []), st.StartRecord, []) p None 0 (omega arith) (λ g. cc g) f)
+    e
 next_takes s fields field c (d ∷ rest) p e =
     let s2 = (step default_config s c).0 in
     let act = (step default_config s c).1 in
-    takes_by (is_end act) (fields_after act fields field, s2, d ∷ rest) p (next_record default_config s2 (fields_after act fields field) (field_after act c field) (d ∷ rest)) (length (d ∷ rest)) (omega arith)
+    takes_by (is_end act) (fields_after act fields field, s2, d ∷ rest) p
+    (next_record default_config s2 (fields_after act fields field) (field_after act c field) (d ∷ rest)) (length (d ∷ rest)) (omega arith)
     (λ f. let shorter = next_takes s2 (fields_after act fields field) (field_after act c field) d rest p f in omega arith) e
 
 -- nothing is left after the end of a text
@@ -51,7 +60,8 @@ unfolding next_record records_from
 behind_end zero = refl
 behind_end (suc n) = refl
 
-same_next : (n : ℕ) (o : Option Read) → ((p : Read) → o ≡ Some p → records_from default_config n p.1 p.2 ≡ behind p.1 p.2) → records_next (records_from default_config n) o ≡ records_next behind o
+same_next : (n : ℕ) (o : Option Read) → ((p : Read) → o ≡ Some p → records_from default_config n p.1 p.2 ≡ behind p.1 p.2)
+    → records_next (records_from default_config n) o ≡ records_next behind o
 same_next n None h = refl
 same_next n (Some p) h = ap (λ rs. p.0 ∷ rs) (h p refl)
 
@@ -96,7 +106,8 @@ no_mark (x ∷ y ∷ z ∷ rest) h = sym (cond-false (is_bom x y z) rest (x ∷ 
 -- ---- a byte more
 
 pub byte_joins : (s s2 : State) (a : CsvAction) (fields fields2 : List (List ℕ)) (field field2 : List ℕ) (c : ℕ) (rest : List ℕ)
-    → s2 ≡ (step default_config s c).0 → a ≡ (step default_config s c).1 → fields2 ≡ fields_after a fields field → field2 ≡ field_after a c field → is_end a ≡ false
+    → s2 ≡ (step default_config s c).0 → a ≡ (step default_config s c).1 → fields2 ≡ fields_after a fields field → field2 ≡ field_after a c field
+    → is_end a ≡ false
     → records_from_state s fields field (c ∷ rest) ≡ records_from_state s2 fields2 field2 rest
 byte_joins s s2 a fields fields2 field field2 c rest hs ha hf hg no_end =
     let act = (step default_config s c).1 in
@@ -117,7 +128,8 @@ byte_ends s s2 a fields fields2 field c rest hs ha hf ends =
 
 -- ---- the end of the bytes
 
-pub last_ends : (s : State) (fields : List (List ℕ)) (field : List ℕ) → ends_at_end s ≡ true → records_from_state s fields field [] ≡ (fields ++ field ∷ []) ∷ []
+pub last_ends : (s : State) (fields : List (List ℕ)) (field : List ℕ) → ends_at_end s ≡ true
+    → records_from_state s fields field [] ≡ (fields ++ field ∷ []) ∷ []
 last_ends s fields field e = cond-true (ends_at_end s) ((fields ++ field ∷ []) ∷ []) [] e
 
 -- the field at a place, and nothing where there is none

@@ -1,5 +1,6 @@
 -- The records of bytes without quotation marks end where their lines do.
-use Rattle.std.proofs.Common.{◌≡◌, ◌⊎◌, ℕ, ◌+◌, ◌-◌, ◌<◌, ◌≤◌, ◌==◌, zero, suc, List, [], ◌∷◌, ◌++◌, length, get_or, drop, take, take_all, length-drop, Bool, true, false, cond, refl, sym, ap, subst, ◌∙◌, arith, inl, inr}
+use Rattle.std.proofs.Common.{◌≡◌, ◌⊎◌, ℕ, ◌+◌, ◌-◌, ◌<◌, ◌≤◌, ◌==◌, zero, suc, List, [], ◌∷◌, ◌++◌, length, get_or, drop, take, take_all, length-drop, Bool}
+use Rattle.std.proofs.Common.{true, false, cond, refl, sym, ap, subst, ◌∙◌, arith, inl, inr}
 use Rattle.std.specs.Prelude.{◌&&◌, ◌||◌, Option, Some, None, is_some}
 use Rattle.std.specs.List.{list_any}
 use Rattle.std.proofs.lemmas.Bool.{cases_Bool, cond-true, cond-false, eqb-true}
@@ -66,10 +67,15 @@ no_quote_drop (suc n) (c ∷ rest) q = no_quote_drop n rest (neither_right (c ==
 
 -- ---- the first line end
 
-pub line_found : (bytes : List ℕ) (k : ℕ) → k < length bytes → ((j : ℕ) → j < k → is_byte2 13 10 (get_or bytes j 0) ≡ true → ⊥) → is_byte2 13 10 (get_or bytes k 0) ≡ true → IsLine k bytes
+pub line_found : (bytes : List ℕ) (k : ℕ) → k < length bytes → ((j : ℕ) → j < k → is_byte2 13 10 (get_or bytes j 0) ≡ true → ⊥)
+    → is_byte2 13 10 (get_or bytes k 0) ≡ true → IsLine k bytes
 line_found [] k l none e = absurd (omega (arith, l))
 line_found (c ∷ rest) zero l none e = e
-line_found (c ∷ rest) (suc k) l none e = (not_true (is_byte2 13 10 c) (none 0 (omega arith)), line_found rest k (omega (arith, l)) (λ j m. none (suc j) (omega (arith, m))) e)
+line_found (c ∷ rest) (suc k) l none e = (
+  not_true (is_byte2 13 10 c) (none 0 (omega arith)),
+  line_found rest k (omega (arith, l))
+      (λ j m. none (suc j) (omega (arith, m))) e,
+)
 
 pub line_none : (bytes : List ℕ) → ((j : ℕ) → j < length bytes → is_byte2 13 10 (get_or bytes j 0) ≡ true → ⊥) → IsLine (length bytes) bytes
 line_none [] none = tt
@@ -79,14 +85,16 @@ line_none (c ∷ rest) none = (not_true (is_byte2 13 10 c) (none 0 (omega arith)
 pub rest_is : (bytes : List ℕ) (from : ℕ) → take (length bytes - from) (drop from bytes) ≡ drop from bytes
 rest_is bytes from = take_all (length bytes - from) (drop from bytes) (let long = length-drop from bytes in omega (arith, long))
 
-pub end_found : (bytes hay : List ℕ) (from k : ℕ) → hay ≡ take (length bytes - from) (drop from bytes) → NoneBefore (Passes (is_byte2 13 10) hay) 0 (length hay) k → Passes (is_byte2 13 10) hay k
+pub end_found : (bytes hay : List ℕ) (from k : ℕ) → hay ≡ take (length bytes - from) (drop from bytes)
+    → NoneBefore (Passes (is_byte2 13 10) hay) 0 (length hay) k → Passes (is_byte2 13 10) hay k
     → IsLine (from + k - from) (drop from bytes)
 end_found bytes hay from k h none here =
     let line = line_found hay k none.high (λ j m. none.before j (omega arith) m) here in
     let count : k ≡ from + k - from = omega arith in
     subst (λ n. IsLine n (drop from bytes)) count (subst (IsLine k) (h ∙ rest_is bytes from) line)
 
-pub end_none : (bytes hay : List ℕ) (from : ℕ) → from ≤ length bytes → hay ≡ take (length bytes - from) (drop from bytes) → Nowhere (Passes (is_byte2 13 10) hay) 0 (length hay)
+pub end_none : (bytes hay : List ℕ) (from : ℕ) → from ≤ length bytes → hay ≡ take (length bytes - from) (drop from bytes)
+    → Nowhere (Passes (is_byte2 13 10) hay) 0 (length hay)
     → IsLine (length bytes - from) (drop from bytes)
 end_none bytes hay from within h none =
     let line = line_none hay (λ j m. none j (omega arith) m) in
@@ -113,7 +121,8 @@ end_byte c e = elim (cases_Bool (c == 13)) [
 same_step : (s t : State) (fields : List (List ℕ)) (field : List ℕ) (c : ℕ) (rest : List ℕ) → step default_config s c ≡ step default_config t c
     → records_from_state s fields field (c ∷ rest) ≡ records_from_state t fields field (c ∷ rest)
 same_step s t fields field c rest e =
-    ap (λ (p : State × Action). cond (is_end p.1) (fields_after p.1 fields field ∷ records_from_state p.0 [] [] rest) (records_from_state p.0 (fields_after p.1 fields field) (field_after p.1 c field) rest)) e
+    ap (λ (p : State × Action). cond (is_end p.1) (fields_after p.1 fields field ∷ records_from_state p.0 [] [] rest)
+    (records_from_state p.0 (fields_after p.1 fields field) (field_after p.1 c field) rest)) e
 
 -- after a carriage return a record begins
 after_return : (rest : List ℕ) → records_from_state st.AfterCr [] [] rest ≡ records_from_state st.StartRecord [] [] rest
@@ -125,7 +134,8 @@ after_return (c ∷ rest) = elim (cases_Bool (c == 10)) [
 ]
 
 -- a line end before a record is skipped
-pub skips_end : (c : ℕ) (rest : List ℕ) → ends_with term.CRLF c ≡ true → records_from_state st.StartRecord [] [] (c ∷ rest) ≡ records_from_state st.StartRecord [] [] rest
+pub skips_end : (c : ℕ) (rest : List ℕ) → ends_with term.CRLF c ≡ true → records_from_state st.StartRecord [] [] (c ∷ rest) ≡ records_from_state st.StartRecord
+    [] [] rest
 skips_end c rest e = elim (end_byte c e) [
   | inl same ↦ subst (λ (z : ℕ). records_from_state st.StartRecord [] [] (z ∷ rest) ≡ records_from_state st.StartRecord [] [] rest) (sym same) refl
   | inr same ↦ subst (λ (z : ℕ). records_from_state st.StartRecord [] [] (z ∷ rest) ≡ records_from_state st.StartRecord [] [] rest) (sym same) refl
@@ -183,14 +193,17 @@ line_over s line fields field (suc n) (c ∷ rest) q l =
           let over : step default_config s c ≡ (st.StartField, act.EndField) = to ∙ cond-true (c == 44) (st.StartField, act.EndField) joins comma in
           let more = line_over st.StartField at_field (fields ++ field ∷ []) [] n rest none l.1 in (
             more.0,
-            byte_joins s st.StartField act.EndField fields (fields ++ field ∷ []) field [] c rest (sym (ap (λ p. p.0) over)) (sym (ap (λ p. p.1) over)) refl refl refl ∙ more.1,
+            byte_joins s st.StartField act.EndField fields (fields ++ field ∷ []) field [] c rest (sym (ap (λ p. p.0) over)) (sym (ap (λ p. p.1) over)) refl
+                refl refl ∙ more.1,
           )
       | inr other ↦
           let over : step default_config s c ≡ (st.InField, act.Copy) =
-          to ∙ cond-false (c == 44) (st.StartField, act.EndField) joins other ∙ cond-false (ends_with term.CRLF c) (cond (c == 13) st.AfterCr st.StartRecord, act.EndRecord) (st.InField, act.Copy) l.0 in
+          to ∙ cond-false (c == 44) (st.StartField, act.EndField) joins other
+          ∙ cond-false (ends_with term.CRLF c) (cond (c == 13) st.AfterCr st.StartRecord, act.EndRecord) (st.InField, act.Copy) l.0 in
           let more = line_over st.InField in_line fields (field ++ c ∷ []) n rest none l.1 in (
             more.0,
-            byte_joins s st.InField act.Copy fields fields field (field ++ c ∷ []) c rest (sym (ap (λ p. p.0) over)) (sym (ap (λ p. p.1) over)) refl refl refl ∙ more.1,
+            byte_joins s st.InField act.Copy fields fields field (field ++ c ∷ []) c rest (sym (ap (λ p. p.0) over)) (sym (ap (λ p. p.1) over)) refl refl refl
+                ∙ more.1,
           )
     ]
 
@@ -199,8 +212,11 @@ pub record_over : (n : ℕ) (bytes : List ℕ) → HasNoQuote bytes → IsLine (
     → (read : List (List ℕ)) × (records_from_state st.StartRecord [] [] bytes ≡ read ∷ records_from_state st.StartRecord [] [] (drop (suc n) bytes))
 record_over n [] q l = absurd l
 record_over n (c ∷ rest) q l =
-    let more = line_over st.StartField at_field [] [] (suc n) (c ∷ rest) q l in
-    (more.0, same_step st.StartRecord st.StartField [] [] c rest (cond-false (ends_with term.CRLF c) (st.StartRecord, act.Skip) (start_field default_config c) l.0) ∙ more.1)
+    let more = line_over st.StartField at_field [] [] (suc n) (c ∷ rest) q l in (
+      more.0,
+      same_step st.StartRecord st.StartField [] [] c rest (cond-false (ends_with term.CRLF c) (st.StartRecord, act.Skip) (start_field default_config c)
+          l.0) ∙ more.1,
+    )
 
 -- ---- records in parts
 
@@ -208,7 +224,8 @@ record_over n (c ∷ rest) q l =
 abbrev IsWithinCount : State → List (List ℕ) → List ℕ → Type 0
 IsWithinCount s fields field = InLine s ⊎ ((s ≡ st.StartRecord) × (fields ≡ []) × (field ≡ []))
 
-stands_step : (s : State) (fields : List (List ℕ)) (field : List ℕ) (c : ℕ) → IsWithinCount s fields field → ends_with term.CRLF c ≡ false → (c == 34) ≡ false → step default_config s c ≡ in_field default_config c
+stands_step : (s : State) (fields : List (List ℕ)) (field : List ℕ) (c : ℕ) → IsWithinCount s fields field → ends_with term.CRLF c ≡ false → (c == 34) ≡ false
+    → step default_config s c ≡ in_field default_config c
 stands_step s fields field c (inl line) e q = line.steps c q
 stands_step s fields field c (inr start) e q =
     subst (λ (z : State). step default_config z c ≡ in_field default_config c) (sym start.0)
@@ -220,7 +237,8 @@ stands_end : (s : State) (fields : List (List ℕ)) (field : List ℕ) (c : ℕ)
     → records_from_state s fields field (c ∷ rest ++ back) ≡ records_from_state s fields field (c ∷ rest) ++ records_from_state st.StartRecord [] [] back
 stands_end s fields field c rest back (inl line) e more =
     ends_here s line fields field c (rest ++ back) e
-    ∙ ap (λ l. (fields ++ field ∷ []) ∷ l) (skips_end c (rest ++ back) e ∙ more ∙ ap (λ l. l ++ records_from_state st.StartRecord [] [] back) (sym (skips_end c rest e)))
+    ∙ ap (λ l. (fields ++ field ∷ []) ∷ l) (skips_end c (rest ++ back) e ∙ more
+    ∙ ap (λ l. l ++ records_from_state st.StartRecord [] [] back) (sym (skips_end c rest e)))
     ∙ ap (λ l. l ++ records_from_state st.StartRecord [] [] back) (sym (ends_here s line fields field c rest e))
 stands_end s fields field c rest back (inr start) e more =
     (λ i. records_from_state (start.0 i) (start.1 i) (start.2 i) (c ∷ rest ++ back))
@@ -248,19 +266,24 @@ parts_join s fields field (c ∷ rest) back here q l =
       | inl ends ↦ stands_end s fields field c rest back here ends (parts_join st.StartRecord [] [] rest back (inr (refl, refl, refl)) none l)
       | inr inner ↦ elim (cases_Bool (c == 44)) [
         | inl comma ↦
-            let over : step default_config s c ≡ (st.StartField, act.EndField) = stands_step s fields field c here inner first ∙ cond-true (c == 44) (st.StartField, act.EndField) joins comma in
-            byte_joins s st.StartField act.EndField fields (fields ++ field ∷ []) field [] c (rest ++ back) (sym (ap (λ p. p.0) over)) (sym (ap (λ p. p.1) over)) refl refl refl
+            let over : step default_config s c ≡ (st.StartField, act.EndField) = stands_step s fields field c here inner first
+            ∙ cond-true (c == 44) (st.StartField, act.EndField) joins comma in
+            byte_joins s st.StartField act.EndField fields (fields ++ field ∷ []) field [] c (rest ++ back) (sym (ap (λ p. p.0) over))
+            (sym (ap (λ p. p.1) over)) refl refl refl
             ∙ parts_join st.StartField (fields ++ field ∷ []) [] rest back (inl at_field) none l
             ∙ ap (λ rs. rs ++ records_from_state st.StartRecord [] [] back)
-            (sym (byte_joins s st.StartField act.EndField fields (fields ++ field ∷ []) field [] c rest (sym (ap (λ p. p.0) over)) (sym (ap (λ p. p.1) over)) refl refl refl))
+            (sym (byte_joins s st.StartField act.EndField fields (fields ++ field ∷ []) field [] c rest (sym (ap (λ p. p.0) over)) (sym (ap (λ p. p.1) over))
+            refl refl refl))
         | inr other ↦
             let over : step default_config s c ≡ (st.InField, act.Copy) =
             stands_step s fields field c here inner first ∙ cond-false (c == 44) (st.StartField, act.EndField) joins other
             ∙ cond-false (ends_with term.CRLF c) (cond (c == 13) st.AfterCr st.StartRecord, act.EndRecord) (st.InField, act.Copy) inner in
-            byte_joins s st.InField act.Copy fields fields field (field ++ c ∷ []) c (rest ++ back) (sym (ap (λ p. p.0) over)) (sym (ap (λ p. p.1) over)) refl refl refl
+            byte_joins s st.InField act.Copy fields fields field (field ++ c ∷ []) c (rest ++ back) (sym (ap (λ p. p.0) over)) (sym (ap (λ p. p.1) over)) refl
+            refl refl
             ∙ parts_join st.InField fields (field ++ c ∷ []) rest back (inl in_line) none l
             ∙ ap (λ rs. rs ++ records_from_state st.StartRecord [] [] back)
-            (sym (byte_joins s st.InField act.Copy fields fields field (field ++ c ∷ []) c rest (sym (ap (λ p. p.0) over)) (sym (ap (λ p. p.1) over)) refl refl refl))
+            (sym (byte_joins s st.InField act.Copy fields fields field (field ++ c ∷ []) c rest (sym (ap (λ p. p.0) over)) (sym (ap (λ p. p.1) over)) refl refl
+            refl))
       ]
     ]
 

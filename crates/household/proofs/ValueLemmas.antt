@@ -1,8 +1,10 @@
 -- The values that pairs give.
-use Rattle.std.proofs.Common.{◌≡◌, ℕ, ℤ, ◌+◌, ◌-◌, ◌<◌, ◌≤◌, drop, subst, zero, suc, eqb, List, [], ◌∷◌, length, get_or, set, replicate, zero-add, sym, ap, ◌∙◌, inl, inr, arith, ◌⊎◌}
+use Rattle.std.proofs.Common.{◌≡◌, ℕ, ℤ, ◌+◌, ◌-◌, ◌<◌, ◌≤◌, drop, subst, zero, suc, eqb, List, [], ◌∷◌, length, get_or, set, replicate, zero-add, sym, ap, ◌∙◌}
+use Rattle.std.proofs.Common.{inl, inr, arith, ◌⊎◌}
 use Rattle.std.specs.List.{AllByRecursion, range_with_len}
 use Rattle.std.proofs.lemmas.Bool.{eq-eqb, ne_eqb, cases_eq, cond-true, cond-false}
-use Rattle.std.proofs.lemmas.List.{same_lists, drop_more, length-map, length-set, length-replicate, get_or-map, get_or-replicate, get_or-set_same, get_or-set_other}
+use Rattle.std.proofs.lemmas.List.{same_lists, drop_more, length-map, length-set, length-replicate, get_or-map, get_or-replicate, get_or-set_same}
+use Rattle.std.proofs.lemmas.List.{get_or-set_other}
 use Rattle.std.proofs.lemmas.List.FromFn.{length-range_with_len, get_or-range_with_len}
 use Rattle.m_fixed.specs.declared.amount.Value.{Value}
 use Rattle.m_fixed.specs.declared.amount.Value.TheVariants.{Undef, Num}
@@ -14,7 +16,8 @@ length-values_of pairs n = length-map (range_with_len 0 n) (value_at pairs) ∙ 
 -- each value by its number
 get_or-values_of : (pairs : List (ℕ × ℤ)) (n k : ℕ) (d : Value) → k < n → get_or (values_of pairs n) k d ≡ value_at pairs k
 get_or-values_of pairs n k d l =
-    get_or-map (value_at pairs) (range_with_len 0 n) k 0 d (omega (arith, length-range_with_len 0 n)) ∙ ap (value_at pairs) (get_or-range_with_len 0 n k 0 l ∙ zero-add k)
+    get_or-map (value_at pairs) (range_with_len 0 n) k 0 d (omega (arith, length-range_with_len 0 n))
+    ∙ ap (value_at pairs) (get_or-range_with_len 0 n k 0 l ∙ zero-add k)
 
 -- no pairs give nothing
 pub values_of-none : (n : ℕ) → replicate n Undef ≡ values_of [] n
@@ -22,7 +25,8 @@ values_of-none n = same_lists (replicate n Undef) (values_of [] n) (length-repli
     let within : k < n = omega (arith, length-replicate n Undef) in
     get_or-replicate n k Undef d within ∙ sym (get_or-values_of [] n k d within))
 
-value_set : (pairs : List (ℕ × ℤ)) (pair : ℕ × ℤ) (n k : ℕ) (d : Value) → pair.0 < n → k < n → (k ≡ pair.0) ⊎ (k ≡ pair.0 → ⊥) → get_or (set (values_of pairs n) pair.0 (Num pair.1)) k d ≡ value_at (pair ∷ pairs) k
+value_set : (pairs : List (ℕ × ℤ)) (pair : ℕ × ℤ) (n k : ℕ) (d : Value) → pair.0 < n → k < n → (k ≡ pair.0) ⊎ (k ≡ pair.0 → ⊥)
+    → get_or (set (values_of pairs n) pair.0 (Num pair.1)) k d ≡ value_at (pair ∷ pairs) k
 value_set pairs pair n k d within l (inl same) =
     ap (λ (j : ℕ). get_or (set (values_of pairs n) pair.0 (Num pair.1)) j d) same
     ∙ get_or-set_same (values_of pairs n) pair.0 (Num pair.1) d (omega (arith, length-values_of pairs n))
@@ -35,20 +39,24 @@ value_set pairs pair n k d within l (inr other) =
 -- a pair before pairs gives its input its amount
 pub values_of-more : (pairs : List (ℕ × ℤ)) (pair : ℕ × ℤ) (n : ℕ) → pair.0 < n → set (values_of pairs n) pair.0 (Num pair.1) ≡ values_of (pair ∷ pairs) n
 values_of-more pairs pair n within =
-    let same_length : length (set (values_of pairs n) pair.0 (Num pair.1)) ≡ n = length-set (values_of pairs n) pair.0 (Num pair.1) ∙ length-values_of pairs n in
+    let same_length : length (set (values_of pairs n) pair.0 (Num pair.1)) ≡ n = length-set (values_of pairs n) pair.0 (Num pair.1)
+    ∙ length-values_of pairs n in
     same_lists _ (values_of (pair ∷ pairs) n) (same_length ∙ sym (length-values_of (pair ∷ pairs) n)) (λ k d l.
     let l' : k < n = omega arith in
     value_set pairs pair n k d within l' (cases_eq k pair.0) ∙ sym (get_or-values_of (pair ∷ pairs) n k d l'))
 
 -- the number of each pair is in range
-pub input_in_range : (n : ℕ) (pairs : List (ℕ × ℤ)) (k : ℕ) (d : ℕ × ℤ) → AllByRecursion (λ input. input < n) (inputs_of pairs) → k < length pairs → (get_or pairs k d).0 < n
+pub input_in_range : (n : ℕ) (pairs : List (ℕ × ℤ)) (k : ℕ) (d : ℕ × ℤ) → AllByRecursion (λ input. input < n) (inputs_of pairs) → k < length pairs
+    → (get_or pairs k d).0 < n
 input_in_range n [] k d h l = absurd (omega arith)
 input_in_range n (pair ∷ pairs) zero d h l = h.0
 input_in_range n (pair ∷ pairs) (suc k) d h l = input_in_range n pairs k d h.1 (omega arith)
 
 -- the next pair, from the back on, gives its input its amount
-pub values_of-next : (pairs : List (ℕ × ℤ)) (values : List Value) (left : ℕ) (pair : ℕ × ℤ) (n : ℕ) → AllByRecursion (λ input. input < n) (inputs_of pairs) → 0 < left → left ≤ length pairs
-    → pair ≡ get_or pairs (left - 1) pair → values ≡ values_of (drop left pairs) n → (pair.0 < n) × (set values pair.0 (Num pair.1) ≡ values_of (drop (left - 1) pairs) n)
+pub values_of-next : (pairs : List (ℕ × ℤ)) (values : List Value) (left : ℕ) (pair : ℕ × ℤ) (n : ℕ) → AllByRecursion (λ input. input < n) (inputs_of pairs)
+    → 0 < left → left ≤ length pairs
+    → pair ≡ get_or pairs (left - 1) pair → values ≡ values_of (drop left pairs) n
+    → (pair.0 < n) × (set values pair.0 (Num pair.1) ≡ values_of (drop (left - 1) pairs) n)
 values_of-next pairs values left pair n known some within read filled =
     let at = left - 1 in
     let next : at + 1 ≡ left = omega arith in

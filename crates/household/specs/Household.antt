@@ -1,5 +1,6 @@
 -- What a household's file says, and what it gives each input.
-use Rattle.std.specs.Prelude.{◌≡◌, ◌≢◌, ℕ, ◌+◌, ◌<◌, ◌≤◌, ◌==◌, Bool, true, false, nat_le, ◌&&◌, List, [], ◌∷◌, map, length, zero, suc, Option, Some, None, Result, Ok, Err, ℤ, codes, IsTrue, if◌then◌else◌}
+use Rattle.std.specs.Prelude.{◌≡◌, ◌≢◌, ℕ, ◌+◌, ◌<◌, ◌≤◌, ◌==◌, Bool, true, false, nat_le, ◌&&◌, List, [], ◌∷◌, map, length, zero, suc, Option, Some, None}
+use Rattle.std.specs.Prelude.{Result, Ok, Err, ℤ, codes, IsTrue, if◌then◌else◌}
 use Rattle.std.specs.Str.{bytes_eq}
 use Rattle.std.specs.List.{AllByRecursion, AllZip, list_any, range_with_len}
 use Rattle.m_places.specs.declared.limits.TheConstants.{ROWS}
@@ -55,7 +56,8 @@ fitting_pair inputs line pair = if is_fitting inputs pair then Ok pair else Err 
 -- inputs by their numbers: where `1AJ` has the number 0 and takes each amount, the fields `1AJ` and `2500.5` say the pair
 -- of 0 and 2500500000.
 abbrev pub pair_of : List Coded → ℕ → List (List ℕ) → Result (ℕ × ℤ) HouseholdFault
-pair_of inputs line (code ∷ amount ∷ []) = if_read (fitting_pair inputs line) (parsed_pair line (index_of code (codes_of inputs)) (amount_read (text_value amount)))
+pair_of inputs line (code ∷ amount ∷ []) = if_read (fitting_pair inputs line)
+    (parsed_pair line (index_of code (codes_of inputs)) (amount_read (text_value amount)))
 pair_of inputs line _ = Err (BadRow line)
 
 -- a pair whose input may not stand in the pairs before it

@@ -12,7 +12,8 @@ records_from_state s fields field [] = if ends_at_end s then (fields ++ field �
 records_from_state s fields field (c ∷ rest) =
     if is_end (step default_config s c).1
     then fields_after (step default_config s c).1 fields field ∷ records_from_state (step default_config s c).0 [] [] rest
-    else records_from_state (step default_config s c).0 (fields_after (step default_config s c).1 fields field) (field_after (step default_config s c).1 c field) rest
+    else records_from_state (step default_config s c).0 (fields_after (step default_config s c).1 fields field)
+    (field_after (step default_config s c).1 c field) rest
 
 -- the records of the bytes that are left from a state on, and none where no more are given
 abbrev pub left_from : State → Option (List ℕ) → List (List (List ℕ))

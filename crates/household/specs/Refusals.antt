@@ -27,5 +27,6 @@ pub data IsRefusedTable (inputs : List Coded) (bytes : List ℕ) : HouseholdFaul
   no_table_header : LacksHeader is_table_header (records_of bytes) → IsRefusedTable inputs bytes BadHeader
   at_column : {first : List (List ℕ)} {rows : List (List (List ℕ))} {fault : HouseholdFault} → records_of bytes ≡ first ∷ rows → is_table_header first ≡ true
       → IsFirstFault (column_of inputs) [] (drop 1 first) fault → IsRefusedTable inputs bytes fault
-  at_table_row : {first : List (List ℕ)} {rows : List (List (List ℕ))} {columns : List ℕ} {fault : HouseholdFault} → records_of bytes ≡ first ∷ rows → is_table_header first ≡ true
+  at_table_row : {first : List (List ℕ)} {rows : List (List (List ℕ))} {columns : List ℕ} {fault : HouseholdFault} → records_of bytes ≡ first ∷ rows
+      → is_table_header first ≡ true
       → in_turn (column_of inputs) [] (drop 1 first) ≡ Ok columns → IsFirstFault (table_row inputs columns) [] rows fault → IsRefusedTable inputs bytes fault

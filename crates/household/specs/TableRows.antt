@@ -16,7 +16,8 @@ use Rattle.household.specs.Table.{are_fitting, is_label, is_table_header}
 abbrev pub AreCells : List ℕ → List (List ℕ) → List (ℕ × ℤ) → Type 0
 AreCells [] [] [] = Unit {0}
 AreCells (input ∷ columns) ([] ∷ cells) pairs = AreCells columns cells pairs
-AreCells (input ∷ columns) ((byte ∷ bytes) ∷ cells) (pair ∷ pairs) = (pair.0 ≡ input) × (amount_read (text_value (byte ∷ bytes)) ≡ Ok pair.1) × AreCells columns cells pairs
+AreCells (input ∷ columns) ((byte ∷ bytes) ∷ cells) (pair ∷ pairs) = (pair.0 ≡ input) × (amount_read (text_value (byte ∷ bytes)) ≡ Ok pair.1)
+    × AreCells columns cells pairs
 AreCells _ _ _ = ⊥
 
 -- A row of a table by itself, below columns of these inputs: a label, and a cell for each column, whose amounts are of their inputs' types.

@@ -1,5 +1,6 @@
 -- Lines and pieces as code cuts them from bytes.
-use Rattle.std.proofs.Common.{◌≡◌, ◌≢◌, ℕ, ◌+◌, ◌-◌, ◌<◌, ◌≤◌, zero, suc, min, length, length-take, length-drop, take, drop, get_or, List, [], ◌∷◌, ◌++◌, zero-add, refl, sym, ◌∙◌, ap, subst, inl, inr, arith}
+use Rattle.std.proofs.Common.{◌≡◌, ◌≢◌, ℕ, ◌+◌, ◌-◌, ◌<◌, ◌≤◌, zero, suc, min, length, length-take, length-drop, take, drop, get_or, List, [], ◌∷◌, ◌++◌}
+use Rattle.std.proofs.Common.{zero-add, refl, sym, ◌∙◌, ap, subst, inl, inr, arith}
 use Rattle.std.specs.List.{copy_within}
 use Rattle.std.proofs.lemmas.Bool.{cases_eq, cases_lt}
 use Rattle.std.proofs.lemmas.List.{take-append-drop, drop-drop, drop_more, take_all, drop-take, get_or-take, get_or-drop}
@@ -28,7 +29,8 @@ run_unended bytes from end runs = unended_all (take (end - from) (drop from byte
 
 pub run_to_end : (bytes : List ℕ) (from end : ℕ) → RunsTo (λ b. b ≢ line_feed) bytes from end → length bytes ≤ end → IsUnended (drop from bytes)
 run_to_end bytes from end runs all =
-    subst (λ (part : List ℕ). IsUnended part) (take_all (end - from) (drop from bytes) (omega (arith, length-drop from bytes))) (run_unended bytes from end runs)
+    subst (λ (part : List ℕ). IsUnended part) (take_all (end - from) (drop from bytes) (omega (arith, length-drop from bytes)))
+    (run_unended bytes from end runs)
 
 -- a run that ends before the end stands before a line feed
 pub run_cut : (bytes : List ℕ) (from end : ℕ) → RunsTo (λ b. b ≢ line_feed) bytes from end → end < length bytes

@@ -18,40 +18,52 @@ nothing_more (Some bytes) = ap Some (sym (append-nil bytes))
 -- before the first line
 pub goes_none : {K : Type 0} (written : K → Option (List ℕ)) (faults : K → ℕ) (old : K) (start : Telling) (before : List ℕ)
     → Goes written faults old old start start before before
-goes_none written faults old start before = record { text = []; whole = λ rest. refl; ended = λ rest. refl; appended = nothing_more (written old); faultless = refl }
+goes_none written faults old start before = record {
+  text = [];
+  whole = λ rest. refl;
+  ended = λ rest. refl;
+  appended = nothing_more (written old);
+  faultless = refl;
+}
 
 -- a line that ends, with what stands after its line feed
 line_then : (line more rest : List ℕ) → (line ++ line_feed ∷ more) ++ rest ≡ line ++ line_feed ∷ (more ++ rest)
 line_then line more rest = append_assoc line (line_feed ∷ more) rest
 
 -- a line more has its reply
-pub goes_line : {K : Type 0} (written : K → Option (List ℕ)) (faults : K → ℕ) (old now new : K) (start telling later : Telling) (before left line more reply : List ℕ)
+pub goes_line : {K : Type 0} (written : K → Option (List ℕ)) (faults : K → ℕ) (old now new : K) (start telling later : Telling)
+    (before left line more reply : List ℕ)
     → Goes written faults old now start telling before left → left ≡ line ++ line_feed ∷ more → IsUnended line
     → ((lines : List (List ℕ)) → telling (line ∷ lines) ≡ reply ++ later lines) → written new ≡ append_known (written now) reply → faults new ≡ faults now
     → Goes written faults old new start later before more
 goes_line written faults old now new start telling later before left line more reply goes is free step given none = record {
   text = goes.text ++ reply;
   whole = λ rest. goes.whole rest
-      ∙ ap (λ text. goes.text ++ text) (ap (λ l. whole_of telling (l ++ rest)) is ∙ ap (whole_of telling) (line_then line more rest) ∙ whole-line telling later line (more ++ rest) reply free step)
+      ∙ ap (λ text. goes.text ++ text) (ap (λ l. whole_of telling (l ++ rest)) is ∙ ap (whole_of telling) (line_then line more rest)
+      ∙ whole-line telling later line (more ++ rest) reply free step)
       ∙ sym (append_assoc goes.text reply (whole_of later (more ++ rest)));
   ended = λ rest. goes.ended rest
-      ∙ ap (λ text. goes.text ++ text) (ap (λ l. ended_of telling (l ++ rest)) is ∙ ap (ended_of telling) (line_then line more rest) ∙ ended-line telling later line (more ++ rest) reply free step)
+      ∙ ap (λ text. goes.text ++ text) (ap (λ l. ended_of telling (l ++ rest)) is ∙ ap (ended_of telling) (line_then line more rest)
+      ∙ ended-line telling later line (more ++ rest) reply free step)
       ∙ sym (append_assoc goes.text reply (ended_of later (more ++ rest)));
   appended = given ∙ ap (λ known. append_known known reply) goes.appended ∙ append_known-append (written old) goes.text reply;
   faultless = none ∙ goes.faultless;
 }
 
 -- the reply to a line broke off
-pub goes_broken : {K : Type 0} (written : K → Option (List ℕ)) (faults : K → ℕ) (old now new : K) (start telling later : Telling) (before left line more reply : List ℕ)
+pub goes_broken : {K : Type 0} (written : K → Option (List ℕ)) (faults : K → ℕ) (old now new : K) (start telling later : Telling)
+    (before left line more reply : List ℕ)
     → Goes written faults old now start telling before left → left ≡ line ++ line_feed ∷ more → IsUnended line
     → ((lines : List (List ℕ)) → telling (line ∷ lines) ≡ reply ++ later lines) → AppendsPrefix (written now) (written new) reply
     → AppendsPrefix (written old) (written new) (ended_of start before)
 goes_broken written faults old now new start telling later before left line more reply goes is free step prefix =
     let whole : ended_of start before ≡ (goes.text ++ reply) ++ ended_of later (more ++ []) =
     ap (ended_of start) (sym (append-nil before)) ∙ goes.ended []
-    ∙ ap (λ text. goes.text ++ text) (ap (λ l. ended_of telling (l ++ [])) is ∙ ap (ended_of telling) (line_then line more []) ∙ ended-line telling later line (more ++ []) reply free step)
+    ∙ ap (λ text. goes.text ++ text) (ap (λ l. ended_of telling (l ++ [])) is ∙ ap (ended_of telling) (line_then line more [])
+    ∙ ended-line telling later line (more ++ []) reply free step)
     ∙ sym (append_assoc goes.text reply (ended_of later (more ++ []))) in
-    subst (λ (text : List ℕ). AppendsPrefix (written old) (written new) text) (sym whole) (AppendsPrefix-before (written old) (written new) (goes.text ++ reply) (ended_of later (more ++ []))
+    subst (λ (text : List ℕ). AppendsPrefix (written old) (written new) text) (sym whole)
+    (AppendsPrefix-before (written old) (written new) (goes.text ++ reply) (ended_of later (more ++ []))
     (AppendsPrefix-after (written old) (written now) (written new) goes.text reply goes.appended prefix))
 
 -- a rise of the count of faults is one from the beginning
@@ -73,10 +85,12 @@ goes_taken written faults old now start telling before left piece goes = record 
 
 -- one way and then another
 pub goes_then : {K : Type 0} (written : K → Option (List ℕ)) (faults : K → ℕ) (old now new : K) (start telling later : Telling) (before mid left : List ℕ)
-    → Goes written faults old now start telling before mid → Goes written faults now new telling later mid left → Goes written faults old new start later before left
+    → Goes written faults old now start telling before mid → Goes written faults now new telling later mid left
+    → Goes written faults old new start later before left
 goes_then written faults old now new start telling later before mid left first second = record {
   text = first.text ++ second.text;
-  whole = λ rest. first.whole rest ∙ ap (λ text. first.text ++ text) (second.whole rest) ∙ sym (append_assoc first.text second.text (whole_of later (left ++ rest)));
+  whole = λ rest. first.whole rest ∙ ap (λ text. first.text ++ text) (second.whole rest)
+      ∙ sym (append_assoc first.text second.text (whole_of later (left ++ rest)));
   ended = λ rest. first.ended rest ∙ ap (λ text. first.text ++ text) (second.ended rest)
       ∙ sym (append_assoc first.text second.text (ended_of later (left ++ rest)));
   appended = second.appended ∙ ap (λ known. append_known known second.text) first.appended ∙ append_known-append (written old) first.text second.text;
@@ -96,18 +110,22 @@ goes_cut written faults old now start telling before left fewer alike free freed
 }
 
 -- a text was written, and then a write failed
-breaks_after : {K : Type 0} (written : K → Option (List ℕ)) (faults : K → ℕ) (old now new : K) (front text all : List ℕ) → written now ≡ append_known (written old) front → faults now ≡ faults old
+breaks_after : {K : Type 0} (written : K → Option (List ℕ)) (faults : K → ℕ) (old now new : K) (front text all : List ℕ)
+    → written now ≡ append_known (written old) front → faults now ≡ faults old
     → all ≡ front ++ text → BreaksOff written faults now new text → BreaksOff written faults old new all
 breaks_after written faults old now new front text all given none is breaks = record {
   rose = rose_from faults old now new none breaks.rose;
-  prefix = subst (λ (t : List ℕ). AppendsPrefix (written old) (written new) t) (sym is) (AppendsPrefix-after (written old) (written now) (written new) front text given breaks.prefix);
+  prefix = subst (λ (t : List ℕ). AppendsPrefix (written old) (written new) t) (sym is)
+      (AppendsPrefix-after (written old) (written now) (written new) front text given breaks.prefix);
 }
 
 -- one way, and then a break among the lines that a piece ends
 pub breaks_ended : {K : Type 0} (written : K → Option (List ℕ)) (faults : K → ℕ) (old now new : K) (start telling : Telling) (before left piece : List ℕ)
-    → Goes written faults old now start telling before left → BreaksOff written faults now new (ended_of telling (left ++ piece)) → BreaksOff written faults old new (ended_of start (before ++ piece))
+    → Goes written faults old now start telling before left → BreaksOff written faults now new (ended_of telling (left ++ piece))
+    → BreaksOff written faults old new (ended_of start (before ++ piece))
 breaks_ended written faults old now new start telling before left piece goes breaks =
-    breaks_after written faults old now new goes.text (ended_of telling (left ++ piece)) (ended_of start (before ++ piece)) goes.appended goes.faultless (goes.ended piece) breaks
+    breaks_after written faults old now new goes.text (ended_of telling (left ++ piece)) (ended_of start (before ++ piece)) goes.appended goes.faultless
+    (goes.ended piece) breaks
 
 -- what all lines have as replies, those that are left after the others
 whole_then : {K : Type 0} (written : K → Option (List ℕ)) (faults : K → ℕ) (old now : K) (start telling : Telling) (before left : List ℕ)
@@ -117,7 +135,8 @@ whole_then written faults old now start telling before left goes =
 
 -- one way, and then a break in the last line
 pub breaks_last : {K : Type 0} (written : K → Option (List ℕ)) (faults : K → ℕ) (old now new : K) (start telling : Telling) (before left : List ℕ)
-    → Goes written faults old now start telling before left → BreaksOff written faults now new (whole_of telling left) → BreaksOff written faults old new (whole_of start before)
+    → Goes written faults old now start telling before left → BreaksOff written faults now new (whole_of telling left)
+    → BreaksOff written faults old new (whole_of start before)
 breaks_last written faults old now new start telling before left goes breaks =
     breaks_after written faults old now new goes.text (whole_of telling left) (whole_of start before) goes.appended goes.faultless
     (whole_then written faults old now start telling before left goes) breaks
@@ -134,7 +153,8 @@ goes_whole written faults old now new start telling before left goes given =
 
 -- the lines with their line feed have their replies, where what is left has none
 pub goes_ended : {K : Type 0} (written : K → Option (List ℕ)) (faults : K → ℕ) (old now : K) (start telling : Telling) (before left : List ℕ)
-    → telling [] ≡ [] → Goes written faults old now start telling before left → IsUnended left → written now ≡ append_known (written old) (ended_of start before)
+    → telling [] ≡ [] → Goes written faults old now start telling before left → IsUnended left
+    → written now ≡ append_known (written old) (ended_of start before)
 goes_ended written faults old now start telling before left nothing goes free =
     goes.appended ∙ ap (append_known (written old)) (sym (append-nil goes.text)
     ∙ ap (λ text. goes.text ++ text) (sym (ended-none telling left nothing free) ∙ ap (ended_of telling) (sym (append-nil left)))

@@ -1,5 +1,6 @@
 -- The lines of outputs, from one of them on, and the label of a stop.
-use Rattle.std.proofs.Common.{◌≡◌, ℕ, ◌+◌, ◌<◌, ◌≤◌, length, get_or, drop, Bool, true, false, cond, List, [], ◌∷◌, ◌++◌, Option, Some, None, refl, sym, ◌∙◌, ap, subst}
+use Rattle.std.proofs.Common.{◌≡◌, ℕ, ◌+◌, ◌<◌, ◌≤◌, length, get_or, drop, Bool, true, false, cond, List, [], ◌∷◌, ◌++◌, Option, Some, None, refl, sym, ◌∙◌, ap}
+use Rattle.std.proofs.Common.{subst}
 use Rattle.std.specs.Prelude.{map, ◌||◌}
 use Rattle.std.specs.List.{AllByRecursion}
 use Rattle.std.proofs.lemmas.List.{drop_more, drop_all}
@@ -28,7 +29,8 @@ pub outputs_at : (face : Face) (vs : List Value) (outputs : List ℕ) (k : ℕ) 
 outputs_at face vs outputs k value shown h is =
     ap (λ left. outputs_lines face.labels left (map (value_at vs) (drop k outputs))) (drop_more face.outputs k (Noted 0) shown)
     ∙ ap (λ left. outputs_lines face.labels (get_or face.outputs k (Noted 0) ∷ drop (k + 1) face.outputs) (map (value_at vs) left)) (drop_more outputs k 0 h)
-    ∙ ap (λ v. output_lines face.labels v (get_or face.outputs k (Noted 0)) ++ outputs_lines face.labels (drop (k + 1) face.outputs) (map (value_at vs) (drop (k + 1) outputs))) (sym is)
+    ∙ ap (λ v. output_lines face.labels v (get_or face.outputs k (Noted 0)) ++ outputs_lines face.labels (drop (k + 1) face.outputs)
+    (map (value_at vs) (drop (k + 1) outputs))) (sym is)
     ∙ ap (λ line. line ++ outputs_lines face.labels (drop (k + 1) face.outputs) (map (value_at vs) (drop (k + 1) outputs)))
     (sym (ap (λ output. option_map_or (output_lines face.labels value) output []) (slice_get-get_or face.outputs k (Noted 0) shown)))
 
@@ -39,7 +41,8 @@ no_lines labels (output ∷ outputs) = refl
 -- after the last output there is nothing
 pub outputs_end : (face : Face) (vs : List Value) (outputs : List ℕ) (k : ℕ) → length outputs ≤ k
     → outputs_lines face.labels (drop k face.outputs) (map (value_at vs) (drop k outputs)) ≡ []
-outputs_end face vs outputs k h = ap (λ left. outputs_lines face.labels (drop k face.outputs) (map (value_at vs) left)) (drop_all k outputs h) ∙ no_lines face.labels (drop k face.outputs)
+outputs_end face vs outputs k h = ap (λ left. outputs_lines face.labels (drop k face.outputs) (map (value_at vs) left)) (drop_all k outputs h)
+    ∙ no_lines face.labels (drop k face.outputs)
 
 -- the value of an output, as code reads it
 pub read_at : (vs : List Value) (outputs : List ℕ) (k : ℕ) (value : Value) → k < length outputs → AllByRecursion (λ output. output < length vs) outputs
@@ -59,7 +62,8 @@ stop_of_label over_only label Undef stop is = absurd (cc is)
 stop_of_label over_only label (Num z) stop is = failed_label (over_only || is_zero z) label stop is
 stop_of_label over_only label Over stop is = let same : StopOver label ≡ stop = cc is in sym (ap label_number same)
 
-guarded_label : (t : Bool) (found : Option Stop) (label : ℕ) (stop : Stop) → (found ≡ Some stop → label_number stop ≡ label) → cond t found None ≡ Some stop → label_number stop ≡ label
+guarded_label : (t : Bool) (found : Option Stop) (label : ℕ) (stop : Stop) → (found ≡ Some stop → label_number stop ≡ label) → cond t found None ≡ Some stop
+    → label_number stop ≡ label
 guarded_label true found label stop h is = h is
 guarded_label false found label stop h is = absurd (cc is)
 

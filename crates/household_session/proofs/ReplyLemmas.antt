@@ -8,14 +8,17 @@ use Rattle.m_text.specs.Bytes.{line_feed}
 use Rattle.m_text.specs.Lines.{onto_first}
 use Rattle.household_session.specs.Sessions.{Showing, Sitting, showing_of}
 use Rattle.household_session.specs.Commands.{SessionCommand, too_long, session_command}
-use Rattle.household_session.specs.Replies.{command_reply, command_values, lines_replies, reply_of, after_line, input_lines, onto_ended, ended_lines, replies_to, replies_of, IsUnended}
+use Rattle.household_session.specs.Replies.{command_reply, command_values, lines_replies, reply_of, after_line, input_lines, onto_ended, ended_lines}
+use Rattle.household_session.specs.Replies.{replies_to, replies_of, IsUnended}
 
 -- ---- a line that ends
 
-ended_first : (byte : ℕ) (bytes first : List ℕ) (lines : List (List ℕ)) → byte ≢ 10 → input_lines bytes ≡ first ∷ lines → input_lines (byte ∷ bytes) ≡ (byte ∷ first) ∷ lines
+ended_first : (byte : ℕ) (bytes first : List ℕ) (lines : List (List ℕ)) → byte ≢ 10 → input_lines bytes ≡ first ∷ lines
+    → input_lines (byte ∷ bytes) ≡ (byte ∷ first) ∷ lines
 ended_first byte bytes first lines other is = rw (ne_eqb byte 10 other) (ap (onto_first byte) is)
 
-ended_next : (byte : ℕ) (bytes first : List ℕ) (lines : List (List ℕ)) → byte ≢ 10 → ended_lines bytes ≡ first ∷ lines → ended_lines (byte ∷ bytes) ≡ (byte ∷ first) ∷ lines
+ended_next : (byte : ℕ) (bytes first : List ℕ) (lines : List (List ℕ)) → byte ≢ 10 → ended_lines bytes ≡ first ∷ lines
+    → ended_lines (byte ∷ bytes) ≡ (byte ∷ first) ∷ lines
 ended_next byte bytes first lines other is = rw (ne_eqb byte 10 other) (ap (onto_ended byte) is)
 
 pub input_lines-line : (first rest : List ℕ) → IsUnended first → input_lines (first ++ line_feed ∷ rest) ≡ first ∷ input_lines rest
@@ -101,7 +104,8 @@ long_in_front : (front first : List ℕ) → SESSION_LINE_BYTES < length front �
 long_in_front front first long = omega (arith, long, length-append front first)
 
 same_stated : (showing : Showing) (values : List Value) (c d : SessionCommand) (lines : List (List ℕ)) → c ≡ d
-    → command_reply showing values c ++ lines_replies showing (command_values showing values c) lines ≡ command_reply showing values d ++ lines_replies showing (command_values showing values d) lines
+    → command_reply showing values c ++ lines_replies showing (command_values showing values c) lines ≡ command_reply showing values d
+    ++ lines_replies showing (command_values showing values d) lines
 same_stated showing values c d lines same = ap (λ e. command_reply showing values e ++ lines_replies showing (command_values showing values e) lines) same
 
 -- Of a line that is too long it doesn't matter which bytes it has.
@@ -122,13 +126,15 @@ ended_fronts_alike sitting one other [] long longer = refl
 ended_fronts_alike sitting one other (first ∷ lines) long longer =
     long_alike sitting (one ++ first) (other ++ first) lines (long_in_front one first long) (long_in_front other first longer)
 
-pub replies-long : (sitting : Sitting) (one other rest : List ℕ) → IsUnended one → IsUnended other → SESSION_LINE_BYTES < length one → SESSION_LINE_BYTES < length other
+pub replies-long : (sitting : Sitting) (one other rest : List ℕ) → IsUnended one → IsUnended other → SESSION_LINE_BYTES < length one
+    → SESSION_LINE_BYTES < length other
     → replies_of sitting (one ++ rest) ≡ replies_of sitting (other ++ rest)
 replies-long sitting one other rest free freed long longer =
     ap (replies_to sitting) (input_lines-front one rest free (omega (arith, long))) ∙ fronts_alike sitting one other (input_lines rest) long longer
     ∙ sym (ap (replies_to sitting) (input_lines-front other rest freed (omega (arith, longer))))
 
-pub replies_ended-long : (sitting : Sitting) (one other rest : List ℕ) → IsUnended one → IsUnended other → SESSION_LINE_BYTES < length one → SESSION_LINE_BYTES < length other
+pub replies_ended-long : (sitting : Sitting) (one other rest : List ℕ) → IsUnended one → IsUnended other → SESSION_LINE_BYTES < length one
+    → SESSION_LINE_BYTES < length other
     → replies_to sitting (ended_lines (one ++ rest)) ≡ replies_to sitting (ended_lines (other ++ rest))
 replies_ended-long sitting one other rest free freed long longer =
     ap (replies_to sitting) (ended_lines-front one rest free) ∙ ended_fronts_alike sitting one other (ended_lines rest) long longer

@@ -1,5 +1,6 @@
 -- The turns of a session's loop.
-use Rattle.std.proofs.Common.{◌≡◌, ℕ, ◌+◌, ◌<◌, min, length, length-take, length-append, take, List, [], ◌++◌, Option, None, Some, refl, sym, ◌∙◌, ap, subst, append_assoc, append-nil, inl, inr, arith}
+use Rattle.std.proofs.Common.{◌≡◌, ℕ, ◌+◌, ◌<◌, min, length, length-take, length-append, take, List, [], ◌++◌, Option, None, Some, refl, sym, ◌∙◌, ap, subst}
+use Rattle.std.proofs.Common.{append_assoc, append-nil, inl, inr, arith}
 use Rattle.std.specs.Io.KnownBytes.{prepend_known, IsAtEnd}
 use Rattle.std.proofs.lemmas.Bool.{cases_lt}
 use Rattle.std.proofs.lemmas.List.{take_all}
@@ -27,7 +28,8 @@ prepend_more (Some bytes) a b = ap Some (sym (append_assoc a b bytes))
 
 -- the last line, after the end of the input
 pub stopped_at_end : {S K : Type 0} (left : S → Option (List ℕ)) (source_faults : S → ℕ) (written : K → Option (List ℕ)) (faults : K → ℕ)
-    (source_old source_now : S) (old now : K) (start : Telling) (held : List ℕ) (most : ℕ) (end : ServeEnd) → left source_old ≡ prepend_known [] (left source_now)
+    (source_old source_now : S) (old now : K) (start : Telling) (held : List ℕ) (most : ℕ) (end : ServeEnd)
+    → left source_old ≡ prepend_known [] (left source_now)
     → IsAtEnd (left source_old) → source_faults source_now ≡ source_faults source_old → Finished written faults old now start held end
     → Stopped left source_faults written faults source_old source_now old now start held most end
 stopped_at_end left source_faults written faults source_old source_now old now start held most Done moved none calm done =
@@ -79,48 +81,53 @@ pub standing_turn : {S K : Type 0} (left : S → Option (List ℕ)) (source_faul
     → Standing left source_faults written faults source_old source_now old now start telling held count
     → Took left source_faults written faults source_now source_new now new telling later held kept most n → total ≡ count + n
     → Standing left source_faults written faults source_old source_new old new start later kept total
-standing_turn left source_faults written faults source_old source_now source_new old now new start telling later held kept count most n total standing took all = record {
-  bytes = standing.bytes ++ took.piece;
-  counted = length-append standing.bytes took.piece ∙ ap (λ (k : ℕ). k + length took.piece) standing.counted ∙ ap (λ (k : ℕ). count + k) took.counted ∙ sym all;
-  moved = standing.moved ∙ ap (prepend_known standing.bytes) took.moved ∙ prepend_more (left source_new) standing.bytes took.piece;
-  calm = took.calm ∙ standing.calm;
-  goes = goes_then written faults old now new start telling later (standing.bytes ++ took.piece) (held ++ took.piece) kept
-      (goes_taken written faults old now start telling standing.bytes held took.piece standing.goes) took.goes;
-  unended = took.unended;
-}
+standing_turn left source_faults written faults source_old source_now source_new old now new start telling later held kept count most n total standing took
+    all = record {
+      bytes = standing.bytes ++ took.piece;
+      counted = length-append standing.bytes took.piece ∙ ap (λ (k : ℕ). k + length took.piece) standing.counted ∙ ap (λ (k : ℕ). count + k) took.counted ∙ sym all;
+      moved = standing.moved ∙ ap (prepend_known standing.bytes) took.moved ∙ prepend_more (left source_new) standing.bytes took.piece;
+      calm = took.calm ∙ standing.calm;
+      goes = goes_then written faults old now new start telling later (standing.bytes ++ took.piece) (held ++ took.piece) kept
+          (goes_taken written faults old now start telling standing.bytes held took.piece standing.goes) took.goes;
+      unended = took.unended;
+    }
 
 -- the turn that ends the loop
 pub standing_stopped : {S K : Type 0} (left : S → Option (List ℕ)) (source_faults : S → ℕ) (written : K → Option (List ℕ)) (faults : K → ℕ)
     (source_old source_now source_new : S) (old now new : K) (start telling : Telling) (held : List ℕ) (count most : ℕ) (end : ServeEnd)
     → telling [] ≡ [] → Standing left source_faults written faults source_old source_now old now start telling held count
     → Stopped left source_faults written faults source_now source_new now new telling held most end → count < INPUT_BYTES → count + most ≡ INPUT_BYTES
-    → Ends (left source_old) (left source_new) (written old) (written new) start end × Counts (source_faults source_old) (source_faults source_new) (faults old) (faults new) end
-standing_stopped left source_faults written faults source_old source_now source_new old now new start telling held count most Done nothing standing (same, none, calm, done) few room = (
-  (
-    (
-      standing.bytes,
-      omega (arith, standing.counted, few),
-      record {
-        moved = standing.moved ∙ ap (prepend_known standing.bytes) (sym same);
-        appended = goes_whole written faults old now new start telling standing.bytes held standing.goes done.0;
-      },
-    ),
-    none,
-  ),
-  (calm ∙ standing.calm, done.1 ∙ standing.goes.faultless),
-)
-standing_stopped left source_faults written faults source_old source_now source_new old now new start telling held count most ReadFault nothing standing (same, rose, text, none) few room = (
-  (
-    standing.bytes,
-    omega (arith, standing.counted, few),
-    record {
-      moved = standing.moved ∙ ap (prepend_known standing.bytes) (sym same);
-      appended = text ∙ goes_ended written faults old now start telling standing.bytes held nothing standing.goes standing.unended;
-    },
-  ),
-  (rose_from source_faults source_old source_now source_new standing.calm rose, none ∙ standing.goes.faultless),
-)
-standing_stopped left source_faults written faults source_old source_now source_new old now new start telling held count most WriteFault nothing standing (calm, inl (piece, short, moved, broken)) few room =
+    → Ends (left source_old) (left source_new) (written old) (written new) start end × Counts (source_faults source_old) (source_faults source_new) (faults old)
+    (faults new) end
+standing_stopped left source_faults written faults source_old source_now source_new old now new start telling held count most Done nothing standing
+    (same, none, calm, done) few room = (
+      (
+        (
+          standing.bytes,
+          omega (arith, standing.counted, few),
+          record {
+            moved = standing.moved ∙ ap (prepend_known standing.bytes) (sym same);
+            appended = goes_whole written faults old now new start telling standing.bytes held standing.goes done.0;
+          },
+        ),
+        none,
+      ),
+      (calm ∙ standing.calm, done.1 ∙ standing.goes.faultless),
+    )
+standing_stopped left source_faults written faults source_old source_now source_new old now new start telling held count most ReadFault nothing standing
+    (same, rose, text, none) few room = (
+      (
+        standing.bytes,
+        omega (arith, standing.counted, few),
+        record {
+          moved = standing.moved ∙ ap (prepend_known standing.bytes) (sym same);
+          appended = text ∙ goes_ended written faults old now start telling standing.bytes held nothing standing.goes standing.unended;
+        },
+      ),
+      (rose_from source_faults source_old source_now source_new standing.calm rose, none ∙ standing.goes.faultless),
+    )
+standing_stopped left source_faults written faults source_old source_now source_new old now new start telling held count most WriteFault nothing standing
+    (calm, inl (piece, short, moved, broken)) few room =
     let whole = breaks_ended written faults old now new start telling standing.bytes held piece standing.goes broken in (
       (
         standing.bytes ++ piece,
@@ -130,7 +137,8 @@ standing_stopped left source_faults written faults source_old source_now source_
       ),
       (calm ∙ standing.calm, whole.rose),
     )
-standing_stopped left source_faults written faults source_old source_now source_new old now new start telling held count most WriteFault nothing standing (calm, inr (same, none, broken)) few room =
+standing_stopped left source_faults written faults source_old source_now source_new old now new start telling held count most WriteFault nothing standing
+    (calm, inr (same, none, broken)) few room =
     let whole = breaks_last written faults old now new start telling standing.bytes held standing.goes broken in (
       (
         standing.bytes,
@@ -140,13 +148,15 @@ standing_stopped left source_faults written faults source_old source_now source_
       ),
       (calm ∙ standing.calm, whole.rose),
     )
-standing_stopped left source_faults written faults source_old source_now source_new old now new start telling held count most TooLong nothing standing never few room = absurd never
+standing_stopped left source_faults written faults source_old source_now source_new old now new start telling held count most TooLong nothing standing never few
+    room = absurd never
 
 -- the loop has taken as much as it takes
 pub standing_full : {S K : Type 0} (left : S → Option (List ℕ)) (source_faults : S → ℕ) (written : K → Option (List ℕ)) (faults : K → ℕ)
     (source_old source_now : S) (old now : K) (start telling : Telling) (held : List ℕ) (count : ℕ)
     → telling [] ≡ [] → Standing left source_faults written faults source_old source_now old now start telling held count → count ≡ INPUT_BYTES
-    → Ends (left source_old) (left source_now) (written old) (written now) start TooLong × Counts (source_faults source_old) (source_faults source_now) (faults old) (faults now) TooLong
+    → Ends (left source_old) (left source_now) (written old) (written now) start TooLong × Counts (source_faults source_old) (source_faults source_now)
+    (faults old) (faults now) TooLong
 standing_full left source_faults written faults source_old source_now old now start telling held count nothing standing full = (
   (
     standing.bytes,

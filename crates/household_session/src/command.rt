@@ -62,7 +62,12 @@ fn behind_two<'a>(word: &'a [u8], code: &'a [u8], rest: &'a [u8]) -> LineCommand
     }
 }
 
-fn behind_three<'a>(word: &'a [u8], code: &'a [u8], amount: &'a [u8], rest: &'a [u8]) -> LineCommand<'a>
+fn behind_three<'a>(
+    word: &'a [u8],
+    code: &'a [u8],
+    amount: &'a [u8],
+    rest: &'a [u8],
+) -> LineCommand<'a>
     ensures { command_in result ≡ words_command (word.now ∷ code.now ∷ amount.now ∷ line_words rest.now) }
 {
     match next_word(rest) {

@@ -50,7 +50,8 @@ all_sized earlier (Silent p ∷ items) e = all_sized (earlier ++ Silent p ∷ []
 placed_sized : (first : ℕ) (vs : List VariableItem) → All IsSized vs → All HasACell (placed_from first vs)
 placed_sized first [] all = All-nil HasACell
 placed_sized first (v ∷ vs) all =
-    All-cons HasACell _ (placed_from (first + variable_cells v) vs) (All-head IsSized v vs all) (placed_sized (first + variable_cells v) vs (All-tail IsSized v vs all))
+    All-cons HasACell _ (placed_from (first + variable_cells v) vs) (All-head IsSized v vs all)
+    (placed_sized (first + variable_cells v) vs (All-tail IsSized v vs all))
 
 pub tables_have_cells : (items : List Item) (declared : Declared) → first_fault items ≡ None → declared ≡ declared_by items → TablesHaveCells declared
 tables_have_cells items declared faultless e = subst TablesHaveCells (sym e) (placed_sized 0 (variables_of items) (all_sized [] items faultless))

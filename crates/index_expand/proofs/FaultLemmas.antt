@@ -18,21 +18,25 @@ least_append first [] ys = refl
 least_append first (x ∷ xs) ys = least_append (earlier first x) xs ys
 
 -- what is left after some faults were looked at
-pub least_next : (first next : Option ExpandFault) (here rest whole : List ExpandFault) (all : Option ExpandFault) → least first whole ≡ all → whole ≡ here ++ rest → next ≡ least first here → least next rest ≡ all
+pub least_next : (first next : Option ExpandFault) (here rest whole : List ExpandFault) (all : Option ExpandFault) → least first whole ≡ all
+    → whole ≡ here ++ rest → next ≡ least first here → least next rest ≡ all
 least_next first next here rest whole all inv w e = ap (λ f. least f rest) e ∙ sym (least_append first here rest) ∙ ap (least first) (sym w) ∙ inv
 
 -- one list of faults after another
-pub least_both : (first next last : Option ExpandFault) (xs ys : List ExpandFault) → next ≡ least first xs → last ≡ least next ys → last ≡ least first (xs ++ ys)
+pub least_both : (first next last : Option ExpandFault) (xs ys : List ExpandFault) → next ≡ least first xs → last ≡ least next ys
+    → last ≡ least first (xs ++ ys)
 least_both first next last xs ys e f = f ∙ ap (λ n. least n ys) e ∙ sym (least_append first xs ys)
 
-pub least_three : (first next third last : Option ExpandFault) (xs ys zs : List ExpandFault) → next ≡ least first xs → third ≡ least next ys → last ≡ least third zs → last ≡ least first (xs ++ (ys ++ zs))
+pub least_three : (first next third last : Option ExpandFault) (xs ys zs : List ExpandFault) → next ≡ least first xs → third ≡ least next ys
+    → last ≡ least third zs → last ≡ least first (xs ++ (ys ++ zs))
 least_three first next third last xs ys zs e f g = least_both first next last xs (ys ++ zs) e (least_both next third last ys zs f g)
 
 pub scope_append : (xs ys : List Index) (scope : Scope) → scope_within (xs ++ ys) scope ≡ scope_within ys (scope_within xs scope)
 scope_append [] ys scope = refl
 scope_append (x ∷ xs) ys scope = scope_append xs ys _
 
-pub scope_next : (headers : List Header) (i : ℕ) (x : Header) (scope next all : Scope) → i < length headers → x ≡ get_or headers i x → scope_within (all_indexes (drop i headers)) scope ≡ all → next ≡ scope_within x.indexes scope
+pub scope_next : (headers : List Header) (i : ℕ) (x : Header) (scope next all : Scope) → i < length headers → x ≡ get_or headers i x
+    → scope_within (all_indexes (drop i headers)) scope ≡ all → next ≡ scope_within x.indexes scope
     → scope_within (all_indexes (drop (i + 1) headers)) next ≡ all
 scope_next headers i x scope next all l at inv e =
     ap (scope_within (all_indexes (drop (i + 1) headers))) e
@@ -51,13 +55,15 @@ filter_yes p x rest e = rw e refl
 pub filter_no : {A : Type 0} (p : A → Bool) (x : A) (rest : List A) → p x ≡ false → filter p (x ∷ rest) ≡ filter p rest
 filter_no p x rest e = rw e refl
 
-pub counted_yes : {A : Type 0} (p : A → Bool) (f : A → List ExpandFault) (xs : List A) (i : ℕ) (x : A) (first next all : Option ExpandFault) → i < length xs → x ≡ get_or xs i x → p x ≡ true
+pub counted_yes : {A : Type 0} (p : A → Bool) (f : A → List ExpandFault) (xs : List A) (i : ℕ) (x : A) (first next all : Option ExpandFault) → i < length xs
+    → x ≡ get_or xs i x → p x ≡ true
     → least first (flat_map f (filter p (drop i xs))) ≡ all → next ≡ least first (f x) → least next (flat_map f (filter p (drop (i + 1) xs))) ≡ all
 counted_yes p f xs i x first next all l at is inv e =
     least_next first next (f x) (flat_map f (filter p (drop (i + 1) xs))) (flat_map f (filter p (drop i xs))) all inv
     (ap (λ ys. flat_map f (filter p ys)) (drop_next xs i x l at) ∙ ap (flat_map f) (filter_yes p x (drop (i + 1) xs) is)) e
 
-pub counted_no : {A : Type 0} (p : A → Bool) (f : A → List ExpandFault) (xs : List A) (i : ℕ) (x : A) (first all : Option ExpandFault) → i < length xs → x ≡ get_or xs i x → p x ≡ false
+pub counted_no : {A : Type 0} (p : A → Bool) (f : A → List ExpandFault) (xs : List A) (i : ℕ) (x : A) (first all : Option ExpandFault) → i < length xs
+    → x ≡ get_or xs i x → p x ≡ false
     → least first (flat_map f (filter p (drop i xs))) ≡ all → least first (flat_map f (filter p (drop (i + 1) xs))) ≡ all
 counted_no p f xs i x first all l at no-is inv =
     ap (λ ys. least first (flat_map f ys)) (sym (ap (filter p) (drop_next xs i x l at) ∙ filter_no p x (drop (i + 1) xs) no-is)) ∙ inv

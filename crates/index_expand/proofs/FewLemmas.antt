@@ -1,5 +1,6 @@
 -- What has no more parts than a base may have has no more conditions.
-use Rattle.std.proofs.Common.{◌≡◌, ℕ, ◌+◌, ◌≤◌, Bool, true, false, cond, nat_lt, List, [], ◌∷◌, length, length-append, map, Some, None, Result, Ok, Err, refl, ap, ◌∙◌, arith}
+use Rattle.std.proofs.Common.{◌≡◌, ℕ, ◌+◌, ◌≤◌, Bool, true, false, cond, nat_lt, List, [], ◌∷◌, length, length-append, map, Some, None, Result, Ok, Err, refl}
+use Rattle.std.proofs.Common.{ap, ◌∙◌, arith}
 use Rattle.std.specs.Prelude.{IfOk}
 use Rattle.std.specs.List.{flat_map, sum_by}
 use Rattle.std.proofs.lemmas.Bool.{ltb-false}
@@ -30,19 +31,28 @@ item_few declared (Silent p) = omega arith
 
 few_by : (declared : Declared) (before : ℕ) (item : Item) (items : List Item) (b : Bool) → nat_lt PARTS (before + item_parts declared item) ≡ b
     → cond b (Some (TooManyParts (item_place item))) (too_many declared (before + item_parts declared item) items) ≡ None
-    → (before + item_parts declared item ≤ PARTS → too_many declared (before + item_parts declared item) items ≡ None → (before + item_parts declared item) + length (flat_map item_conditions items) ≤ PARTS)
+    → (before + item_parts declared item ≤ PARTS → too_many declared (before + item_parts declared item) items ≡ None
+    → (before + item_parts declared item) + length (flat_map item_conditions items) ≤ PARTS)
     → before + length (flat_map item_conditions (item ∷ items)) ≤ PARTS
 few_by declared before item items true t e rest = absurd (cc)
 few_by declared before item items false t e rest =
-    omega (arith, rest (ltb-false PARTS (before + item_parts declared item) t) e, item_few declared item, length-append (item_conditions item) (flat_map item_conditions items))
+    omega (
+      arith,
+      rest (ltb-false PARTS (before + item_parts declared item) t) e,
+      item_few declared item,
+      length-append (item_conditions item)
+          (flat_map item_conditions items),
+    )
 
-few_from : (declared : Declared) (before : ℕ) (items : List Item) → before ≤ PARTS → too_many declared before items ≡ None → before + length (flat_map item_conditions items) ≤ PARTS
+few_from : (declared : Declared) (before : ℕ) (items : List Item) → before ≤ PARTS → too_many declared before items ≡ None
+    → before + length (flat_map item_conditions items) ≤ PARTS
 few_from declared before [] h e = omega arith
 few_from declared before (item ∷ items) h e =
     few_by declared before item items (nat_lt PARTS (before + item_parts declared item)) refl e (few_from declared (before + item_parts declared item) items)
 
 -- so an answer has no more conditions than parts
-pub few_answered : (declared : Declared) (items : List Item) (result : Result Plain ExpandFault) (expanded : Plain) → expanded.conditions ≡ flat_map item_conditions items
+pub few_answered : (declared : Declared) (items : List Item) (result : Result Plain ExpandFault) (expanded : Plain)
+    → expanded.conditions ≡ flat_map item_conditions items
     → Outcome Memory result (λ plain. (too_many declared 0 items ≡ None) × (plain ≡ expanded)) (λ fault. too_many declared 0 items ≡ Some fault)
     → IfOk result (λ plain. length plain.conditions ≤ PARTS)
 few_answered declared items (Ok plain) expanded same h =

@@ -24,23 +24,27 @@ use Rattle.index_expand.proofs.TermLemmas.{terms_map, links_map, members_map}
 
 -- ---- parts of one meaning make terms of one meaning
 
-read : {A B : Type 0} (f : Option ℕ → Letters → A → B) (k : Option ℕ) (letters : Letters) (xs : List A) → map (f k letters) xs ≡ map (λ (m : Option ℕ → Letters → B). m k letters) (map (λ a. λ n ls. f n ls a) xs)
+read : {A B : Type 0} (f : Option ℕ → Letters → A → B) (k : Option ℕ) (letters : Letters) (xs : List A)
+    → map (f k letters) xs ≡ map (λ (m : Option ℕ → Letters → B). m k letters) (map (λ a. λ n ls. f n ls a) xs)
 read f k letters [] = refl
 read f k letters (x ∷ xs) = ap (λ rest. f k letters x ∷ rest) (read f k letters xs)
 
-terms_same : (xs ys : List Syntax) → map meaning xs ≡ map meaning ys → (k : Option ℕ) (letters : Letters) → expanded_terms k letters (terms_of xs) ≡ expanded_terms k letters (terms_of ys)
+terms_same : (xs ys : List Syntax) → map meaning xs ≡ map meaning ys → (k : Option ℕ) (letters : Letters)
+    → expanded_terms k letters (terms_of xs) ≡ expanded_terms k letters (terms_of ys)
 terms_same xs ys e k letters =
     sym (terms_map k letters xs)
     ∙ ap terms_of (read expanded k letters xs ∙ ap (map (λ m. m k letters)) e ∙ sym (read expanded k letters ys))
     ∙ terms_map k letters ys
 
-links_same : (xs ys : List Link) → map link_meaning xs ≡ map link_meaning ys → (k : Option ℕ) (letters : Letters) → expanded_links k letters (links_of xs) ≡ expanded_links k letters (links_of ys)
+links_same : (xs ys : List Link) → map link_meaning xs ≡ map link_meaning ys → (k : Option ℕ) (letters : Letters)
+    → expanded_links k letters (links_of xs) ≡ expanded_links k letters (links_of ys)
 links_same xs ys e k letters =
     sym (links_map k letters xs)
     ∙ ap plain_links_of (read link_expanded k letters xs ∙ ap (map (λ m. m k letters)) e ∙ sym (read link_expanded k letters ys))
     ∙ links_map k letters ys
 
-members_same : (xs ys : List Member) → map member_meaning xs ≡ map member_meaning ys → (k : Option ℕ) (letters : Letters) → expanded_members k letters (members_of xs) ≡ expanded_members k letters (members_of ys)
+members_same : (xs ys : List Member) → map member_meaning xs ≡ map member_meaning ys → (k : Option ℕ) (letters : Letters)
+    → expanded_members k letters (members_of xs) ≡ expanded_members k letters (members_of ys)
 members_same xs ys e k letters =
     sym (members_map k letters xs)
     ∙ ap plain_members_of (read member_expanded k letters xs ∙ ap (map (λ m. m k letters)) e ∙ sym (read member_expanded k letters ys))
@@ -52,7 +56,8 @@ cell_same word place a b e = λ i k letters. cell (replaced letters word) (e i k
 pub apply_same : (op : Op) (xs ys : List Syntax) → map meaning xs ≡ map meaning ys → meaning (apply op (terms_of xs)) ≡ meaning (apply op (terms_of ys))
 apply_same op xs ys e = λ i k letters. apply op (terms_same xs ys e k letters i)
 
-pub chain_same : (a b : Syntax) (xs ys : List Link) → meaning a ≡ meaning b → map link_meaning xs ≡ map link_meaning ys → meaning (chain a (links_of xs)) ≡ meaning (chain b (links_of ys))
+pub chain_same : (a b : Syntax) (xs ys : List Link) → meaning a ≡ meaning b → map link_meaning xs ≡ map link_meaning ys
+    → meaning (chain a (links_of xs)) ≡ meaning (chain b (links_of ys))
 chain_same a b xs ys first e = λ i k letters. chain (first i k letters) (links_same xs ys e k letters i)
 
 pub among_same : (negated : Bool) (a b : Syntax) (xs ys : List Member) → meaning a ≡ meaning b → map member_meaning xs ≡ map member_meaning ys
@@ -69,7 +74,8 @@ pub member_same : (x y : Member) → meaning x.low ≡ meaning y.low → meaning
 member_same x y low high = λ i k letters. record { low = low i k letters; high = high i k letters }
 
 -- one part more
-pub same_more : {A B : Type 0} (f : A → B) (done next : List A) (xs : List A) (i : ℕ) (x y : A) → i < length xs → x ≡ get_or xs i x → map f done ≡ map f (take i xs) → f y ≡ f x → next ≡ done ++ y ∷ [] → map f next ≡ map f (take (i + 1) xs)
+pub same_more : {A B : Type 0} (f : A → B) (done next : List A) (xs : List A) (i : ℕ) (x y : A) → i < length xs → x ≡ get_or xs i x
+    → map f done ≡ map f (take i xs) → f y ≡ f x → next ≡ done ++ y ∷ [] → map f next ≡ map f (take (i + 1) xs)
 same_more f done next xs i x y l at inv e pushed =
     ap (map f) pushed
     ∙ map-append f done (y ∷ [])
@@ -90,13 +96,15 @@ instances_append (x ∷ xs) ys letters =
     ∙ flat_nested (instances ys) (λ v. instances xs (bind letters x.letter v)) (index_values x)
 
 one_sum : (k : Option ℕ) (a : Syntax) (inner : List Index) (outer : List Letters) → length outer ≡ 1
-    → summed (map (λ bound. expanded k bound a) (flat_map (instances inner) outer)) ≡ summed (map (λ bound. summed (map (λ b. expanded k b a) (instances inner bound))) outer)
+    → summed (map (λ bound. expanded k bound a) (flat_map (instances inner) outer)) ≡ summed
+    (map (λ bound. summed (map (λ b. expanded k b a) (instances inner bound))) outer)
 one_sum k a inner [] one = absurd (omega arith)
 one_sum k a inner (b ∷ []) one = ap (λ all. summed (map (λ bound. expanded k bound a) all)) (append-nil (instances inner b))
 one_sum k a inner (b ∷ c ∷ rest) one = absurd (omega arith)
 
 pub loop_joined : (outer inner joined : Header) (a : Syntax) → instance_count outer.indexes ≡ 1
-    → ((letters : Letters) → instances joined.indexes letters ≡ instances (outer.indexes ++ inner.indexes) letters) → meaning (loop joined a) ≡ meaning (loop outer (loop inner a))
+    → ((letters : Letters) → instances joined.indexes letters ≡ instances (outer.indexes ++ inner.indexes) letters)
+    → meaning (loop joined a) ≡ meaning (loop outer (loop inner a))
 loop_joined outer inner joined a one e = λ i k letters. each k letters i
   where
     each : (k : Option ℕ) (letters : Letters) → expanded k letters (loop joined a) ≡ expanded k letters (loop outer (loop inner a))

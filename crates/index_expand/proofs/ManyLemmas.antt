@@ -1,5 +1,6 @@
 -- A formula with more instances than there may be parts has too many.
-use Rattle.std.proofs.Common.{◌≡◌, ◌≢◌, ℕ, zero, suc, ◌+◌, ◌*◌, ◌<◌, ◌≤◌, Bool, true, false, cond, List, [], ◌∷◌, length, length-append, Option, Some, None, refl, min, arith}
+use Rattle.std.proofs.Common.{◌≡◌, ◌≢◌, ℕ, zero, suc, ◌+◌, ◌*◌, ◌<◌, ◌≤◌, Bool, true, false, cond, List, [], ◌∷◌, length, length-append, Option, Some, None}
+use Rattle.std.proofs.Common.{refl, min, arith}
 use Rattle.std.specs.Prelude.{All}
 use Rattle.std.specs.List.{flat_map}
 use Rattle.std.specs.Str.{bytes_eq}
@@ -36,7 +37,8 @@ either_not false x y h k = k
 has_cell : (variables : List Variable) (name : List ℕ) → All HasACell variables → size_among variables name ≢ Some 0
 has_cell [] name all = λ e. cc
 has_cell (v ∷ vs) name all =
-    either_not (bytes_eq name v.item.name) (variable_size v.item) (size_among vs name) (All-head HasACell v vs all) (has_cell vs name (All-tail HasACell v vs all))
+    either_not (bytes_eq name v.item.name) (variable_size v.item) (size_among vs name) (All-head HasACell v vs all)
+    (has_cell vs name (All-tail HasACell v vs all))
 
 some_cell : (formula : Formula) (letters : Letters) (size : Option ℕ) → size ≢ Some 0 → 1 ≤ length (each_cell formula letters size)
 some_cell formula letters None h = omega arith
@@ -44,7 +46,8 @@ some_cell formula letters (Some zero) h = absurd (h refl)
 some_cell formula letters (Some (suc n)) h = omega (arith, length-map-range_with_len (defined_cell formula letters) 0 (suc n))
 
 -- each instance has a definition
-a_definition : (declared : Declared) (formula : Formula) (slot : Slot) (letters : Letters) → TablesHaveCells declared → 1 ≤ length (definitions_at declared formula slot letters)
+a_definition : (declared : Declared) (formula : Formula) (slot : Slot) (letters : Letters) → TablesHaveCells declared
+    → 1 ≤ length (definitions_at declared formula slot letters)
 a_definition declared formula Whole letters tables = omega arith
 a_definition declared formula (Cell k) letters tables = omega arith
 a_definition declared formula Every letters tables =
@@ -53,13 +56,20 @@ a_definition declared formula Every letters tables =
 at_least : (n p : ℕ) → n ≤ n * (p + 1)
 at_least n p = omega arith
 
-too_many : (declared : Declared) (formula : Formula) (item : Place) → PARTS < length (formula_definitions declared formula) → IsTooMuch (formula_parts declared formula) 0 item (TooManyParts item)
-too_many declared formula item many = record { reported = refl; many = omega (arith, at_least (length (formula_definitions declared formula)) (parts formula.term)) }
+too_many : (declared : Declared) (formula : Formula) (item : Place) → PARTS < length (formula_definitions declared formula)
+    → IsTooMuch (formula_parts declared formula) 0 item (TooManyParts item)
+too_many declared formula item many = record {
+  reported = refl;
+  many = omega
+      (arith, at_least (length (formula_definitions declared formula)) (parts formula.term));
+}
 
-counted : (formula : Formula) (n : ℕ) → n ≡ min (instance_count (all_indexes formula.loops)) (PARTS + 1) → PARTS < n → PARTS < length (instances (all_indexes formula.loops) no_letters)
+counted : (formula : Formula) (n : ℕ) → n ≡ min (instance_count (all_indexes formula.loops)) (PARTS + 1) → PARTS < n
+    → PARTS < length (instances (all_indexes formula.loops) no_letters)
 counted formula n e h = omega (arith, length_instances (all_indexes formula.loops) no_letters)
 
-pub refused : (declared : Declared) (formula : Formula) (item : Place) (n : ℕ) → TablesHaveCells declared → n ≡ min (instance_count (all_indexes formula.loops)) (PARTS + 1) → PARTS < n
+pub refused : (declared : Declared) (formula : Formula) (item : Place) (n : ℕ) → TablesHaveCells declared
+    → n ≡ min (instance_count (all_indexes formula.loops)) (PARTS + 1) → PARTS < n
     → IsTooMuch (formula_parts declared formula) 0 item (TooManyParts item)
 refused declared formula item n tables e h =
     let bounds = instances (all_indexes formula.loops) no_letters in

@@ -11,8 +11,10 @@ use Rattle.m_ast.specs.declared.item.Item.{Item}
 use Rattle.m_ast.specs.declared.item.Item.TheVariants.{Variable, Rule, Verif, Error, Silent}
 use Rattle.m_ast.specs.declared.item.Slot.{Slot}
 use Rattle.m_ast.specs.declared.item.Slot.TheVariants.{Whole, Cell, Every}
-use Rattle.m_ast.specs.Syntax.{Syntax, lit, named, the_x, cell, apply, chain, among, loop, Terms, no_terms, a_term, Links, no_links, a_link, Members, no_members, a_member}
-use Rattle.m_ast.specs.Whole.{IsWhole, AreWholeTerms, AreWholeLinks, AreWholeMembers, HasNoLoop, HaveNoLoopTerms, HaveNoLoopLinks, HaveNoLoopMembers, IsWholeItem, IsWholeFormula, IsWholeCheck}
+use Rattle.m_ast.specs.Syntax.{Syntax, lit, named, the_x, cell, apply, chain, among, loop, Terms, no_terms, a_term, Links, no_links, a_link, Members}
+use Rattle.m_ast.specs.Syntax.{no_members, a_member}
+use Rattle.m_ast.specs.Whole.{IsWhole, AreWholeTerms, AreWholeLinks, AreWholeMembers, HasNoLoop, HaveNoLoopTerms, HaveNoLoopLinks, HaveNoLoopMembers}
+use Rattle.m_ast.specs.Whole.{IsWholeItem, IsWholeFormula, IsWholeCheck}
 use Rattle.m_symbols.specs.Declarations.{Declared}
 use Rattle.m_ast.specs.declared.plain_rules.Plain.{Plain}
 use Rattle.m_symbols.specs.TableSizes.{table_size}
@@ -21,7 +23,8 @@ use Rattle.loop_values.specs.Letters.{Letters, no_letters, replaced}
 use Rattle.loop_values.specs.Headers.{instances, all_indexes}
 use Rattle.index_expand.specs.declared.fault.ExpandFault.{ExpandFault}
 use Rattle.index_expand.specs.Terms.{expanded, expanded_terms, expanded_links, expanded_members, word_term, x_term, is_number_word, number_term, added, summed}
-use Rattle.index_expand.specs.Expansion.{counts_in, defined_cell, each_cell, definitions_at, formula_definitions, item_definitions, item_conditions, condition_of, expansion}
+use Rattle.index_expand.specs.Expansion.{counts_in, defined_cell, each_cell, definitions_at, formula_definitions, item_definitions, item_conditions}
+use Rattle.index_expand.specs.Expansion.{condition_of, expansion}
 
 -- ---- whole terms
 
@@ -86,7 +89,8 @@ mutual
   expanded_whole k letters (apply op all) h = terms_whole k letters all h
   expanded_whole k letters (chain a all) h = (some_links k letters all h.0, expanded_whole k letters a h.1, links_whole k letters all h.2)
   expanded_whole k letters (among n a all) h = (some_members k letters all h.0, expanded_whole k letters a h.1, members_whole k letters all h.2)
-  expanded_whole k letters (loop header a) h = summed_whole _ (all_map IsWhole (λ bound. expanded k bound a) (λ bound. expanded_whole k bound a h.1) (instances header.indexes letters))
+  expanded_whole k letters (loop header a) h = summed_whole _ (all_map IsWhole (λ bound. expanded k bound a) (λ bound. expanded_whole k bound a h.1)
+      (instances header.indexes letters))
 
   terms_whole : (k : Option ℕ) (letters : Letters) (all : Terms) → AreWholeTerms all → AreWholeTerms (expanded_terms k letters all)
   terms_whole k letters no_terms h = tt
@@ -109,7 +113,8 @@ mutual
   expanded_loopless k letters (apply op all) = terms_loopless k letters all
   expanded_loopless k letters (chain a all) = (expanded_loopless k letters a, links_loopless k letters all)
   expanded_loopless k letters (among n a all) = (expanded_loopless k letters a, members_loopless k letters all)
-  expanded_loopless k letters (loop header a) = summed_loopless _ (all_map HasNoLoop (λ bound. expanded k bound a) (λ bound. expanded_loopless k bound a) (instances header.indexes letters))
+  expanded_loopless k letters (loop header a) = summed_loopless _ (all_map HasNoLoop (λ bound. expanded k bound a) (λ bound. expanded_loopless k bound a)
+      (instances header.indexes letters))
 
   terms_loopless : (k : Option ℕ) (letters : Letters) (all : Terms) → HaveNoLoopTerms (expanded_terms k letters all)
   terms_loopless k letters no_terms = tt
@@ -140,27 +145,47 @@ all_flat_any Q f h (x ∷ xs) = All-append Q (f x) (flat_map f xs) (h x) (all_fl
 one : {B : Type 0} (Q : B → Type 0) (b : B) → Q b → All Q (b ∷ [])
 one Q b h = All-cons Q b [] h (All-nil Q)
 
-cells_plain : (declared : Declared) (formula : Formula) (letters : Letters) (size : Option ℕ) → table_size declared (replaced letters formula.target) ≡ size → IsWhole formula.term → All (IsPlainDefinition declared) (each_cell formula letters size)
+cells_plain : (declared : Declared) (formula : Formula) (letters : Letters) (size : Option ℕ) → table_size declared (replaced letters formula.target) ≡ size
+    → IsWhole formula.term → All (IsPlainDefinition declared) (each_cell formula letters size)
 cells_plain declared formula letters None e h =
-    one (IsPlainDefinition declared) _ (record { slot = e; whole = expanded_whole None letters formula.term h; loopless = expanded_loopless None letters formula.term })
+    one (IsPlainDefinition declared) _ (record {
+      slot = e;
+      whole = expanded_whole None letters formula.term h;
+      loopless = expanded_loopless None letters
+          formula.term;
+    })
 cells_plain declared formula letters (Some size) e h =
     all_of (IsPlainDefinition declared) (defined_cell formula letters)
-    (λ k. record { slot = tt; whole = expanded_whole (Some k) letters formula.term h; loopless = expanded_loopless (Some k) letters formula.term }) (range_with_len 0 size)
+    (λ k. record { slot = tt; whole = expanded_whole (Some k) letters formula.term h; loopless = expanded_loopless (Some k) letters formula.term })
+    (range_with_len 0 size)
 
-at_plain : (declared : Declared) (formula : Formula) (slot : Slot) (letters : Letters) → IsWhole formula.term → All (IsPlainDefinition declared) (definitions_at declared formula slot letters)
+at_plain : (declared : Declared) (formula : Formula) (slot : Slot) (letters : Letters) → IsWhole formula.term
+    → All (IsPlainDefinition declared) (definitions_at declared formula slot letters)
 at_plain declared formula Whole letters h =
-    one (IsPlainDefinition declared) _ (record { slot = tt; whole = expanded_whole None letters formula.term h; loopless = expanded_loopless None letters formula.term })
+    one (IsPlainDefinition declared) _ (record {
+      slot = tt;
+      whole = expanded_whole None letters formula.term h;
+      loopless = expanded_loopless None letters
+          formula.term;
+    })
 at_plain declared formula (Cell k) letters h =
-    one (IsPlainDefinition declared) _ (record { slot = tt; whole = expanded_whole None letters formula.term h; loopless = expanded_loopless None letters formula.term })
+    one (IsPlainDefinition declared) _ (record {
+      slot = tt;
+      whole = expanded_whole None letters formula.term h;
+      loopless = expanded_loopless None letters
+          formula.term;
+    })
 at_plain declared formula Every letters h = cells_plain declared formula letters (table_size declared (replaced letters formula.target)) refl h
 
 formula_plain : (declared : Declared) (formula : Formula) → IsWholeFormula formula → All (IsPlainDefinition declared) (formula_definitions declared formula)
 formula_plain declared formula h =
-    all_flat_any (IsPlainDefinition declared) (definitions_at declared formula formula.slot) (λ letters. at_plain declared formula formula.slot letters h.term) (instances (all_indexes formula.loops) no_letters)
+    all_flat_any (IsPlainDefinition declared) (definitions_at declared formula formula.slot) (λ letters. at_plain declared formula formula.slot letters h.term)
+    (instances (all_indexes formula.loops) no_letters)
 
 definitions_plain : (declared : Declared) (item : Item) → IsWholeItem item → All (IsPlainDefinition declared) (item_definitions declared item)
 definitions_plain declared (Variable v) h = All-nil (IsPlainDefinition declared)
-definitions_plain declared (Rule r) h = all_flat IsWholeFormula (IsPlainDefinition declared) (formula_definitions declared) (formula_plain declared) r.formulas h
+definitions_plain declared (Rule r) h = all_flat IsWholeFormula (IsPlainDefinition declared) (formula_definitions declared) (formula_plain declared) r.formulas
+    h
 definitions_plain declared (Verif v) h = All-nil (IsPlainDefinition declared)
 definitions_plain declared (Error e) h = All-nil (IsPlainDefinition declared)
 definitions_plain declared (Silent p) h = All-nil (IsPlainDefinition declared)
@@ -179,15 +204,18 @@ conditions_plain (Verif v) h = checks v.checks h
 conditions_plain (Error e) h = All-nil IsPlainCondition
 conditions_plain (Silent p) h = All-nil IsPlainCondition
 
-pub expansion_plain : (declared : Declared) (application : List ℕ) (items : List Item) → All IsWholeItem items → IsPlain declared (expansion items application declared)
+pub expansion_plain : (declared : Declared) (application : List ℕ) (items : List Item) → All IsWholeItem items
+    → IsPlain declared (expansion items application declared)
 expansion_plain declared application items h =
     let counted = All-filter (counts_in application) IsWholeItem items h in
     record {
-      definitions = all_flat IsWholeItem (IsPlainDefinition declared) (item_definitions declared) (definitions_plain declared) (filter (counts_in application) items) counted;
+      definitions = all_flat IsWholeItem (IsPlainDefinition declared) (item_definitions declared) (definitions_plain declared)
+          (filter (counts_in application) items) counted;
       conditions = all_flat IsWholeItem IsPlainCondition item_conditions conditions_plain (filter (counts_in application) items) counted;
     }
 
 -- what is answered is the expansion, so it is plain
-pub answer_plain : (declared : Declared) (r : Result Plain ExpandFault) (A : Type 0) (F : ExpandFault → Type 0) (e : Plain) → MatchResult r (λ plain. A × (plain ≡ e)) F → IsPlain declared e → IfOk r (λ plain. IsPlain declared plain)
+pub answer_plain : (declared : Declared) (r : Result Plain ExpandFault) (A : Type 0) (F : ExpandFault → Type 0) (e : Plain)
+    → MatchResult r (λ plain. A × (plain ≡ e)) F → IsPlain declared e → IfOk r (λ plain. IsPlain declared plain)
 answer_plain declared (Ok plain) A F e h p = let P : Plain → Type 0 = λ x. IsPlain declared x in subst P (sym h.1) p
 answer_plain declared (Err fault) A F e h p = tt

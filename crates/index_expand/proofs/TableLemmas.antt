@@ -9,7 +9,8 @@ use Rattle.m_symbols.specs.declared.variable.Variable.{Variable}
 use Rattle.m_symbols.specs.Declarations.{names_of, name_of}
 use Rattle.m_symbols.specs.TableSizes.{size_among}
 
-step_none : (b : Bool) (o : Option ℕ) (here rest : Option ℕ) → cond b (Some 0) (option_map (λ i. i + 1) o) ≡ None → (o ≡ None → rest ≡ None) → cond b here rest ≡ None
+step_none : (b : Bool) (o : Option ℕ) (here rest : Option ℕ) → cond b (Some 0) (option_map (λ i. i + 1) o) ≡ None → (o ≡ None → rest ≡ None)
+    → cond b here rest ≡ None
 step_none true o here rest e f = cc
 step_none false None here rest e f = f refl
 step_none false (Some i) here rest e f = cc
@@ -17,12 +18,14 @@ step_none false (Some i) here rest e f = cc
 -- a name without a number is no table's
 pub size_none : (name : List ℕ) (variables : List Variable) → index_of name (names_of variables) ≡ None → size_among variables name ≡ None
 size_none name [] e = refl
-size_none name (v ∷ vs) e = step_none (bytes_eq name (name_of v)) (index_of name (names_of vs)) (variable_size v.item) (size_among vs name) e (size_none name vs)
+size_none name (v ∷ vs) e = step_none (bytes_eq name (name_of v)) (index_of name (names_of vs)) (variable_size v.item) (size_among vs name) e
+    (size_none name vs)
 
 next : (v : Variable) (vs : List Variable) (j : ℕ) → slice_get (v ∷ vs) (j + 1) ≡ slice_get vs j
 next v vs j = rw add-one refl
 
-step_some : (b : Bool) (o : Option ℕ) (here rest : Option ℕ) (i : ℕ) (v : Variable) (vs : List Variable) (x : Variable) → cond b (Some 0) (option_map (λ j. j + 1) o) ≡ Some i → slice_get (v ∷ vs) i ≡ Some x
+step_some : (b : Bool) (o : Option ℕ) (here rest : Option ℕ) (i : ℕ) (v : Variable) (vs : List Variable) (x : Variable)
+    → cond b (Some 0) (option_map (λ j. j + 1) o) ≡ Some i → slice_get (v ∷ vs) i ≡ Some x
     → ((j : ℕ) → o ≡ Some j → slice_get vs j ≡ Some x → rest ≡ variable_size x.item) → here ≡ variable_size v.item → cond b here rest ≡ variable_size x.item
 step_some true o here rest i v vs x e at f h =
     let zero-is : 0 ≡ i = cc in
@@ -35,7 +38,9 @@ step_some false (Some j) here rest i v vs x e at f h =
     f j refl (sym (next v vs j) ∙ ap (slice_get (v ∷ vs)) next-is ∙ at)
 
 -- a name with a number has the size of the variable of this number
-pub size_some : (name : List ℕ) (variables : List Variable) (i : ℕ) (x : Variable) → index_of name (names_of variables) ≡ Some i → slice_get variables i ≡ Some x → size_among variables name ≡ variable_size x.item
+pub size_some : (name : List ℕ) (variables : List Variable) (i : ℕ) (x : Variable) → index_of name (names_of variables) ≡ Some i
+    → slice_get variables i ≡ Some x → size_among variables name ≡ variable_size x.item
 size_some name [] i x e at = cc
 size_some name (v ∷ vs) i x e at =
-    step_some (bytes_eq name (name_of v)) (index_of name (names_of vs)) (variable_size v.item) (size_among vs name) i v vs x e at (λ j. size_some name vs j x) refl
+    step_some (bytes_eq name (name_of v)) (index_of name (names_of vs)) (variable_size v.item) (size_among vs name) i v vs x e at (λ j. size_some name vs j x)
+    refl

@@ -1,5 +1,6 @@
 -- Instances that are put after a list one after the other, and the count of their parts.
-use Rattle.std.proofs.Common.{◌≡◌, ℕ, suc, ◌+◌, ◌*◌, ◌<◌, ◌≤◌, List, [], ◌∷◌, ◌++◌, length, length-append, map, zero, take, drop, get_or, append_assoc, refl, sym, ap, ◌∙◌, arith}
+use Rattle.std.proofs.Common.{◌≡◌, ℕ, suc, ◌+◌, ◌*◌, ◌<◌, ◌≤◌, List, [], ◌∷◌, ◌++◌, length, length-append, map, zero, take, drop, get_or, append_assoc, refl}
+use Rattle.std.proofs.Common.{sym, ap, ◌∙◌, arith}
 use Rattle.std.proofs.lemmas.List.{take_more}
 use Rattle.std.proofs.lemmas.Grind.{flat_map-append}
 use Rattle.std.proofs.lemmas.List.FromFn.{length-map-range_with_len, map-range_with_len_more}
@@ -26,7 +27,8 @@ taken_both a b c xs ys m n s t u x y = record {
   few = y.few;
 }
 
-pub too_much_after : {A : Type 0} (a b xs : List A) (m n k s t : ℕ) (item : Place) (fault : ExpandFault) → IsTaken a b xs m s t → IsTooMuch n t item fault → m + n ≤ k → IsTooMuch k s item fault
+pub too_much_after : {A : Type 0} (a b xs : List A) (m n k s t : ℕ) (item : Place) (fault : ExpandFault) → IsTaken a b xs m s t → IsTooMuch n t item fault
+    → m + n ≤ k → IsTooMuch k s item fault
 too_much_after a b xs m n k s t item fault x y h = record { reported = y.reported; many = let e = x.sum in let f = y.many in omega arith }
 
 -- ---- instances of one weight
@@ -40,7 +42,8 @@ weighed_append xs ys w = ap (λ n. n * w) (length-append xs ys) ∙ spread (leng
 pub weighed_none : {A : Type 0} (list : List A) (w t : ℕ) → t ≤ PARTS → IsTaken list list [] (weighed {A = A} [] w) t t
 weighed_none list w t few = record { list = sym (append_none list); sum = omega arith; few = few }
 
-weighed_both : {A : Type 0} (a b c xs ys : List A) (w s t u : ℕ) → IsTaken a b xs (weighed xs w) s t → IsTaken b c ys (weighed ys w) t u → IsTaken a c (xs ++ ys) (weighed (xs ++ ys) w) s u
+weighed_both : {A : Type 0} (a b c xs ys : List A) (w s t u : ℕ) → IsTaken a b xs (weighed xs w) s t → IsTaken b c ys (weighed ys w) t u
+    → IsTaken a c (xs ++ ys) (weighed (xs ++ ys) w) s u
 weighed_both a b c xs ys w s t u x y = rw (weighed_append xs ys w) (taken_both a b c xs ys (weighed xs w) (weighed ys w) s t u x y)
 
 -- those of some values and of one value more
@@ -51,7 +54,8 @@ flat_more d g values i v l at =
     ∙ ap (flat_map d) (flat_map-append g (take i values) (v ∷ []) ∙ ap (λ r. flat_map g (take i values) ++ r) (append_none (g v)))
     ∙ flat_map-append d (flat_map g (take i values)) (g v)
 
-pub taken_next : {A B C : Type 0} (d : B → List C) (g : A → List B) (values : List A) (i : ℕ) (v : A) (w s t u : ℕ) (a b c : List C) → i < length values → v ≡ get_or values i v
+pub taken_next : {A B C : Type 0} (d : B → List C) (g : A → List B) (values : List A) (i : ℕ) (v : A) (w s t u : ℕ) (a b c : List C) → i < length values
+    → v ≡ get_or values i v
     → IsTaken a b (flat_map d (flat_map g (take i values))) (weighed (flat_map d (flat_map g (take i values))) w) s t
     → IsTaken b c (flat_map d (g v)) (weighed (flat_map d (g v)) w) t u
     → IsTaken a c (flat_map d (flat_map g (take (i + 1) values))) (weighed (flat_map d (flat_map g (take (i + 1) values))) w) s u
@@ -73,7 +77,8 @@ flat_split d g values i v l at =
     ∙ flat_map-append d (flat_map g (take i values)) (g v ++ flat_map g (drop (i + 1) values))
     ∙ ap (λ r. flat_map d (flat_map g (take i values)) ++ r) (flat_map-append d (g v) (flat_map g (drop (i + 1) values)))
 
-pub too_much_next : {A B C : Type 0} (d : B → List C) (g : A → List B) (values : List A) (i : ℕ) (v : A) (w s t : ℕ) (item : Place) (fault : ExpandFault) (a b : List C) → i < length values → v ≡ get_or values i v
+pub too_much_next : {A B C : Type 0} (d : B → List C) (g : A → List B) (values : List A) (i : ℕ) (v : A) (w s t : ℕ) (item : Place) (fault : ExpandFault)
+    (a b : List C) → i < length values → v ≡ get_or values i v
     → IsTaken a b (flat_map d (flat_map g (take i values))) (weighed (flat_map d (flat_map g (take i values))) w) s t
     → IsTooMuch (weighed (flat_map d (g v)) w) t item fault
     → IsTooMuch (weighed (flat_map d (flat_map g values)) w) s item fault
@@ -81,7 +86,8 @@ too_much_next d g values i v w s t item fault a b l at x y =
     let front = flat_map d (flat_map g (take i values)) in
     let here = flat_map d (g v) in
     let rest = flat_map d (flat_map g (drop (i + 1) values)) in
-    let whole = ap (λ xs. weighed xs w) (flat_split d g values i v l at) ∙ weighed_append front (here ++ rest) w ∙ ap (λ n. weighed front w + n) (weighed_append here rest w) in
+    let whole = ap (λ xs. weighed xs w) (flat_split d g values i v l at) ∙ weighed_append front (here ++ rest) w
+    ∙ ap (λ n. weighed front w + n) (weighed_append here rest w) in
     too_much_after a b front (weighed front w) (weighed here w) (weighed (flat_map d (flat_map g values)) w) s t item fault x y (omega arith)
 
 -- ---- the cells of a table
@@ -105,11 +111,13 @@ cells_too_much f k size w s t a b x item fault h p q =
     let room = mul-le-mul_left {m = k + 1} {n = size} w (omega arith) in
     let one = cells_length f k w in
     let all = cells_length f size w in
-    too_much_after a b (map f (range_with_len 0 k)) (weighed (map f (range_with_len 0 k)) w) (weighed (x ∷ []) w) (weighed (map f (range_with_len 0 size)) w) s t item fault p q (omega (arith, room, one, all))
+    too_much_after a b (map f (range_with_len 0 k)) (weighed (map f (range_with_len 0 k)) w) (weighed (x ∷ []) w) (weighed (map f (range_with_len 0 size)) w) s
+    t item fault p q (omega (arith, room, one, all))
 
 -- ---- one thing after the other, each with parts of its own
 
-each_more : {A C : Type 0} (d : A → List C) (xs : List A) (i : ℕ) (x : A) → i < length xs → x ≡ get_or xs i x → flat_map d (take (i + 1) xs) ≡ flat_map d (take i xs) ++ d x
+each_more : {A C : Type 0} (d : A → List C) (xs : List A) (i : ℕ) (x : A) → i < length xs → x ≡ get_or xs i x
+    → flat_map d (take (i + 1) xs) ≡ flat_map d (take i xs) ++ d x
 each_more d xs i x l at =
     ap (flat_map d) (take_more xs i x l ∙ ap (λ y. take i xs ++ y ∷ []) (sym at))
     ∙ flat_map-append d (take i xs) (x ∷ [])
@@ -124,7 +132,8 @@ pub each_next : {A C : Type 0} (d : A → List C) (m : A → ℕ) (xs : List A) 
 each_next d m xs i x s t u a b c l at p q =
     rw (each_more d xs i x l at, sum_more m xs i x l at) (taken_both a b c (flat_map d (take i xs)) (d x) (sum_by m (take i xs)) (m x) s t u p q)
 
-pub each_too_much : {A C : Type 0} (d : A → List C) (m : A → ℕ) (xs : List A) (i : ℕ) (x : A) (s t : ℕ) (item : Place) (fault : ExpandFault) (a b : List C) → i < length xs → x ≡ get_or xs i x
+pub each_too_much : {A C : Type 0} (d : A → List C) (m : A → ℕ) (xs : List A) (i : ℕ) (x : A) (s t : ℕ) (item : Place) (fault : ExpandFault) (a b : List C)
+    → i < length xs → x ≡ get_or xs i x
     → IsTaken a b (flat_map d (take i xs)) (sum_by m (take i xs)) s t → IsTooMuch (m x) t item fault
     → IsTooMuch (sum_by m xs) s item fault
 each_too_much d m xs i x s t item fault a b l at p q =

@@ -41,25 +41,30 @@ pub terms_map : (k : Option ℕ) (letters : Letters) (all : List Syntax) → ter
 terms_map k letters [] = refl
 terms_map k letters (x ∷ xs) = rw (terms_map k letters xs) refl
 
-pub links_map : (k : Option ℕ) (letters : Letters) (all : List Link) → plain_links_of (map (link_expanded k letters) all) ≡ expanded_links k letters (links_of all)
+pub links_map : (k : Option ℕ) (letters : Letters) (all : List Link) → plain_links_of (map (link_expanded k letters) all) ≡ expanded_links k letters
+    (links_of all)
 links_map k letters [] = refl
 links_map k letters (x ∷ xs) = rw (links_map k letters xs) refl
 
-pub members_map : (k : Option ℕ) (letters : Letters) (all : List Member) → plain_members_of (map (member_expanded k letters) all) ≡ expanded_members k letters (members_of all)
+pub members_map : (k : Option ℕ) (letters : Letters) (all : List Member) → plain_members_of (map (member_expanded k letters) all) ≡ expanded_members k letters
+    (members_of all)
 members_map k letters [] = refl
 members_map k letters (x ∷ xs) = rw (members_map k letters xs) refl
 
-links_added : (k : Option ℕ) (body : Syntax) (bounds : List Letters) → plain_links_of (map (instance_link k body) bounds) ≡ added (map (λ bound. expanded k bound body) bounds)
+links_added : (k : Option ℕ) (body : Syntax) (bounds : List Letters)
+    → plain_links_of (map (instance_link k body) bounds) ≡ added (map (λ bound. expanded k bound body) bounds)
 links_added k body [] = refl
 links_added k body (b ∷ bs) = rw (links_added k body bs) refl
 
-pub sum_is : (k : Option ℕ) (body : Syntax) (bounds : List Letters) → links_sum (map (instance_link k body) bounds) ≡ summed (map (λ bound. expanded k bound body) bounds)
+pub sum_is : (k : Option ℕ) (body : Syntax) (bounds : List Letters)
+    → links_sum (map (instance_link k body) bounds) ≡ summed (map (λ bound. expanded k bound body) bounds)
 sum_is k body [] = refl
 sum_is k body (b ∷ []) = refl
 sum_is k body (b ∷ c ∷ rest) = ap (chain (expanded k b body)) (links_added k body (c ∷ rest))
 
 -- the instances of one value more
-pub instances_next : {A B C : Type 0} (f : B → C) (g : A → List B) (values : List A) (i : ℕ) (v : A) (done next all : List C) → i < length values → v ≡ get_or values i v → done ++ map f (flat_map g (drop i values)) ≡ all → next ≡ done ++ map f (g v)
+pub instances_next : {A B C : Type 0} (f : B → C) (g : A → List B) (values : List A) (i : ℕ) (v : A) (done next all : List C) → i < length values
+    → v ≡ get_or values i v → done ++ map f (flat_map g (drop i values)) ≡ all → next ≡ done ++ map f (g v)
     → next ++ map f (flat_map g (drop (i + 1) values)) ≡ all
 instances_next f g values i v done next all l at inv e =
     ap (λ n. n ++ map f (flat_map g (drop (i + 1) values))) e
@@ -69,10 +74,12 @@ instances_next f g values i v done next all l at inv e =
     ∙ inv
 
 -- the first index, and those after it
-pub instances_front : (indexes : List Index) (x : Index) (letters : Letters) → 1 ≤ length indexes → x ≡ get_or indexes 0 x → instances (x ∷ drop 1 indexes) letters ≡ instances indexes letters
+pub instances_front : (indexes : List Index) (x : Index) (letters : Letters) → 1 ≤ length indexes → x ≡ get_or indexes 0 x
+    → instances (x ∷ drop 1 indexes) letters ≡ instances indexes letters
 instances_front [] x letters h e = absurd (omega arith)
 instances_front (y ∷ ys) x letters h e = ap (λ (z : Index). instances (z ∷ ys) letters) e
 
 -- what a letter stood for is put back
-pub put_back : (letters : Letters) (i : ℕ) (v outer : Option (List ℕ)) (d : Option (List ℕ)) → outer ≡ get_or letters i d → set (set letters i v) i outer ≡ letters
+pub put_back : (letters : Letters) (i : ℕ) (v outer : Option (List ℕ)) (d : Option (List ℕ)) → outer ≡ get_or letters i d
+    → set (set letters i v) i outer ≡ letters
 put_back letters i v outer d e = set-set letters i v outer ∙ ap (set letters i) e ∙ set-get_or letters i d

@@ -1,5 +1,6 @@
 -- Faults of loops and letters, and which of several is told.
-use Rattle.std.specs.Prelude.{ℕ, Bool, true, false, ◌&&◌, ◌||◌, ◌==◌, List, [], ◌∷◌, ◌++◌, Option, None, Some, replicate, nat_lt, not, slice_set, slice_index_or, if◌then◌else◌}
+use Rattle.std.specs.Prelude.{ℕ, Bool, true, false, ◌&&◌, ◌||◌, ◌==◌, List, [], ◌∷◌, ◌++◌, Option, None, Some, replicate, nat_lt, not, slice_set}
+use Rattle.std.specs.Prelude.{slice_index_or, if◌then◌else◌}
 use Rattle.std.specs.Char.{is_ascii_lowercase}
 use Rattle.std.specs.List.{flat_map, list_any}
 use Rattle.m_places.specs.declared.place.Place.{Place}
@@ -9,7 +10,8 @@ use Rattle.m_ast.specs.declared.item.Formula.{Formula}
 use Rattle.m_ast.specs.declared.item.CheckItem.{CheckItem}
 use Rattle.m_ast.specs.declared.item.Item.{Item}
 use Rattle.m_ast.specs.declared.item.Item.TheVariants.{Rule, Verif}
-use Rattle.m_ast.specs.Syntax.{Syntax, lit, named, the_x, cell, apply, chain, among, loop, Terms, no_terms, a_term, Links, no_links, a_link, Members, no_members, a_member}
+use Rattle.m_ast.specs.Syntax.{Syntax, lit, named, the_x, cell, apply, chain, among, loop, Terms, no_terms, a_term, Links, no_links, a_link, Members}
+use Rattle.m_ast.specs.Syntax.{no_members, a_member}
 use Rattle.loop_values.specs.Headers.{instance_count, all_indexes, is_bad_index}
 use Rattle.loop_values.specs.Values.{is_nothing}
 use Rattle.index_expand.specs.declared.fault.ExpandFault.{ExpandFault}

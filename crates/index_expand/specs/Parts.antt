@@ -1,6 +1,7 @@
 -- How many parts a term has once its loops are replaced by their instances: its literals, names, cells and operators.
 use Rattle.std.specs.Prelude.{ℕ, ◌+◌, ◌-◌, ◌*◌, Bool, true, false}
-use Rattle.m_ast.specs.Syntax.{Syntax, lit, named, the_x, cell, apply, chain, among, loop, Terms, no_terms, a_term, Links, no_links, a_link, Members, no_members, a_member}
+use Rattle.m_ast.specs.Syntax.{Syntax, lit, named, the_x, cell, apply, chain, among, loop, Terms, no_terms, a_term, Links, no_links, a_link, Members}
+use Rattle.m_ast.specs.Syntax.{no_members, a_member}
 use Rattle.m_ast.specs.Members.{is_single}
 use Rattle.loop_values.specs.Headers.{instance_count}
 

@@ -6,7 +6,8 @@ use Rattle.m_fixed.specs.Amounts.{unit}
 use Rattle.m_fixed.specs.declared.amount.Value.TheVariants.{Num, Undef}
 use Rattle.m_fixed.specs.declared.operator.Op.TheVariants.{Add}
 use Rattle.m_places.specs.declared.place.Place.{Place}
-use Rattle.m_ast.specs.Syntax.{Syntax, lit, named, the_x, cell, apply, chain, among, loop, Terms, no_terms, a_term, Links, no_links, a_link, Members, no_members, a_member}
+use Rattle.m_ast.specs.Syntax.{Syntax, lit, named, the_x, cell, apply, chain, among, loop, Terms, no_terms, a_term, Links, no_links, a_link, Members}
+use Rattle.m_ast.specs.Syntax.{no_members, a_member}
 use Rattle.loop_values.specs.Letters.{Letters, replaced}
 use Rattle.loop_values.specs.Headers.{instances}
 
@@ -62,4 +63,5 @@ abbrev mutual
 
   pub expanded_members : Option ℕ → Letters → Members → Members
   expanded_members cell_number letters no_members = no_members
-  expanded_members cell_number letters (a_member a b rest) = a_member (expanded cell_number letters a) (expanded cell_number letters b) (expanded_members cell_number letters rest)
+  expanded_members cell_number letters (a_member a b rest) = a_member (expanded cell_number letters a) (expanded cell_number letters b)
+      (expanded_members cell_number letters rest)

@@ -1,5 +1,6 @@
 -- What ranges say of each input is a fact: a value is possible, and the bounds are amounts in order.
-use Rattle.std.proofs.Common.{◌≡◌, ◌≤ℤ◌, ℕ, ℤ, ◌+◌, neg_ℤ, pos, List, [], ◌∷◌, length, Option, Some, None, Result, Ok, Err, Bool, true, false, cond, eqb, refl, sym, subst, ap, arith}
+use Rattle.std.proofs.Common.{◌≡◌, ◌≤ℤ◌, ℕ, ℤ, ◌+◌, neg_ℤ, pos, List, [], ◌∷◌, length, Option, Some, None, Result, Ok, Err, Bool, true, false, cond, eqb, refl}
+use Rattle.std.proofs.Common.{sym, subst, ap, arith}
 use Rattle.std.specs.Prelude.{int_le, is_some, IsTrue, ◌||◌}
 use Rattle.std.specs.List.{AllByRecursion, AllZip}
 use Rattle.std.proofs.lemmas.Int.{ints}
@@ -13,7 +14,8 @@ use Rattle.observables.proofs.InputLemmas.{read_amount}
 use Rattle.definedness.specs.Facts.{IsFact, Possible}
 use Rattle.definedness.specs.Ranges.{IsInterval, highest_amount, lowest_amount}
 use Rattle.household.specs.Household.{input_type}
-use Rattle.input_ranges.specs.Ranges.{amounts_of, are_empty, parsed_bounds, parsed_fact, fact_within, facts_from, facts_within, from_read, given_of, in_order, nothing, parsed_possible, ranges_of, type_fact, type_range, under_word}
+use Rattle.input_ranges.specs.Ranges.{amounts_of, are_empty, parsed_bounds, parsed_fact, fact_within, facts_from, facts_within, from_read, given_of, in_order}
+use Rattle.input_ranges.specs.Ranges.{nothing, parsed_possible, ranges_of, type_fact, type_range, under_word}
 use Rattle.input_ranges.specs.RangeFiles.{AreRanges, IsRangeRow}
 use Rattle.input_ranges.specs.declared.given.Given.{Given}
 use Rattle.input_ranges.specs.declared.given.Given.TheVariants.{Yes, No, Maybe}
@@ -26,9 +28,21 @@ amounts_fact true r h = record { some = refl; within = h }
 amounts_fact false r h = record { some = refl; within = h }
 
 type_interval : (kind : InputType) → IsInterval (type_range kind)
-type_interval Any = record { low = record { low = omega (arith, ints); high = omega (arith, ints) }; ordered = omega (arith, ints); high = record { low = omega (arith, ints); high = omega (arith, ints) } }
-type_interval Whole = record { low = record { low = omega (arith, ints); high = omega (arith, ints) }; ordered = omega (arith, ints); high = record { low = omega (arith, ints); high = omega (arith, ints) } }
-type_interval Truth = record { low = record { low = omega (arith, ints); high = omega (arith, ints) }; ordered = omega (arith, ints); high = record { low = omega (arith, ints); high = omega (arith, ints) } }
+type_interval Any = record {
+  low = record { low = omega (arith, ints); high = omega (arith, ints) };
+  ordered = omega (arith, ints);
+  high = record { low = omega (arith, ints); high = omega (arith, ints) };
+}
+type_interval Whole = record {
+  low = record { low = omega (arith, ints); high = omega (arith, ints) };
+  ordered = omega (arith, ints);
+  high = record { low = omega (arith, ints); high = omega (arith, ints) };
+}
+type_interval Truth = record {
+  low = record { low = omega (arith, ints); high = omega (arith, ints) };
+  ordered = omega (arith, ints);
+  high = record { low = omega (arith, ints); high = omega (arith, ints) };
+}
 
 type_is_fact : (undef : Bool) (kind : InputType) → IsFact (amounts_of undef (type_range kind))
 type_is_fact undef kind = amounts_fact undef (type_range kind) (type_interval kind)
@@ -58,7 +72,8 @@ read_fact undef one other p h = by (amount_read one) (amount_read other) refl re
 bounds_fact : (undef : Bool) (kind : InputType) (least greatest : List ℕ) (p : Possible) → parsed_bounds undef kind least greatest ≡ Some p → IsFact p
 bounds_fact undef kind least greatest p h = by (are_empty least greatest) h
   where
-    by : (b : Bool) → cond b (Some (amounts_of undef (type_range kind))) (from_read undef (amount_read (text_value least)) (amount_read (text_value greatest))) ≡ Some p → IsFact p
+    by : (b : Bool) → cond b (Some (amounts_of undef (type_range kind))) (from_read undef (amount_read (text_value least)) (amount_read (text_value greatest)))
+        ≡ Some p → IsFact p
     by true g = let same : amounts_of undef (type_range kind) ≡ p = cc g in subst IsFact same (type_is_fact undef kind)
     by false g = read_fact undef (text_value least) (text_value greatest) p g
 
@@ -80,7 +95,8 @@ stated_fact kind word least greatest p h = by (given_of word) h
 
 -- ---- inputs
 
-rows_facts : (inputs : List Coded) (rows : List (List (List ℕ))) (ranges : List InputRange) → AllZip (IsRangeRow inputs) rows ranges → AllByRecursion (λ range. IsFact range.fact) ranges
+rows_facts : (inputs : List Coded) (rows : List (List (List ℕ))) (ranges : List InputRange) → AllZip (IsRangeRow inputs) rows ranges
+    → AllByRecursion (λ range. IsFact range.fact) ranges
 rows_facts inputs [] [] z = tt
 rows_facts inputs [] (range ∷ ranges) z = absurd z
 rows_facts inputs (fields ∷ rows) [] z = absurd z
@@ -88,7 +104,8 @@ rows_facts inputs (fields ∷ rows) (range ∷ ranges) z =
     let row = z.0 in
     (stated_fact (input_type inputs range.input) row.word row.least row.greatest range.fact row.says, rows_facts inputs rows ranges z.1)
 
-within_fact : (ranges : List InputRange) (number : ℕ) (kind : InputType) → AllByRecursion (λ range. IsFact range.fact) ranges → IsFact (fact_within ranges number kind)
+within_fact : (ranges : List InputRange) (number : ℕ) (kind : InputType) → AllByRecursion (λ range. IsFact range.fact) ranges
+    → IsFact (fact_within ranges number kind)
 within_fact [] number kind h = type_is_fact true kind
 within_fact (range ∷ ranges) number kind h = by (eqb range.input number) (within_fact ranges number kind h.1)
   where
@@ -96,7 +113,8 @@ within_fact (range ∷ ranges) number kind h = by (eqb range.input number) (with
     by true rest = h.0
     by false rest = rest
 
-from_facts : (ranges : List InputRange) (number : ℕ) (inputs : List Coded) → AllByRecursion (λ range. IsFact range.fact) ranges → AllByRecursion IsFact (facts_from ranges number inputs)
+from_facts : (ranges : List InputRange) (number : ℕ) (inputs : List Coded) → AllByRecursion (λ range. IsFact range.fact) ranges
+    → AllByRecursion IsFact (facts_from ranges number inputs)
 from_facts ranges number [] h = tt
 from_facts ranges number (input ∷ inputs) h = (within_fact ranges number input.kind h, from_facts ranges (number + 1) inputs h)
 

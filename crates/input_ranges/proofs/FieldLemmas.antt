@@ -7,7 +7,8 @@ use Rattle.input_ranges.specs.Ranges.{are_headings, is_header}
 
 -- ---- the first record
 
-pub four_header : (fields : List (List ℕ)) → length fields ≡ 4 → is_header fields ≡ are_headings (get_or fields 0 []) (get_or fields 1 []) (get_or fields 2 []) (get_or fields 3 [])
+pub four_header : (fields : List (List ℕ)) → length fields ≡ 4 → is_header fields ≡ are_headings (get_or fields 0 []) (get_or fields 1 []) (get_or fields 2 [])
+    (get_or fields 3 [])
 four_header [] e = absurd (omega arith)
 four_header (a ∷ []) e = absurd (omega arith)
 four_header (a ∷ b ∷ []) e = absurd (omega arith)
@@ -25,7 +26,8 @@ no_header (a ∷ b ∷ c ∷ d ∷ more ∷ rest) n = refl
 
 -- ---- types by number
 
-pub kind_read : (inputs : List Coded) (number : ℕ) (input : Coded) → number < length inputs → input ≡ get_or inputs number input → input.kind ≡ input_type inputs number
+pub kind_read : (inputs : List Coded) (number : ℕ) (input : Coded) → number < length inputs → input ≡ get_or inputs number input
+    → input.kind ≡ input_type inputs number
 kind_read [] number input l e = absurd (omega arith)
 kind_read (first ∷ inputs) zero input l e = ap (λ (i : Coded). i.kind) e
 kind_read (first ∷ inputs) (suc number) input l e = kind_read inputs number input (omega arith) e

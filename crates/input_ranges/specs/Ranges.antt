@@ -1,5 +1,6 @@
 -- What a file of ranges says of the inputs.
-use Rattle.std.specs.Prelude.{ℕ, ℤ, pos, ◌+◌, ◌==◌, Bool, true, false, ◌&&◌, nat_le, int_le, List, [], ◌∷◌, length, map, Option, Some, None, Result, Ok, Err, codes, if◌then◌else◌}
+use Rattle.std.specs.Prelude.{ℕ, ℤ, pos, ◌+◌, ◌==◌, Bool, true, false, ◌&&◌, nat_le, int_le, List, [], ◌∷◌, length, map, Option, Some, None, Result, Ok, Err}
+use Rattle.std.specs.Prelude.{codes, if◌then◌else◌}
 use Rattle.std.specs.Str.{bytes_eq}
 use Rattle.m_places.specs.declared.limits.TheConstants.{ROWS}
 use Rattle.m_fixed.specs.Amounts.{unit}
@@ -72,7 +73,8 @@ from_read undef _ _ = None
 -- the second. They say nothing where one is empty and the other isn't, one is no amount, or the first is above the second.
 abbrev pub parsed_bounds : Bool → InputType → List ℕ → List ℕ → Option Possible
 parsed_bounds undef kind least greatest =
-    if are_empty least greatest then Some (amounts_of undef (type_range kind)) else from_read undef (amount_read (text_value least)) (amount_read (text_value greatest))
+    if are_empty least greatest then Some (amounts_of undef (type_range kind)) else from_read undef (amount_read (text_value least))
+    (amount_read (text_value greatest))
 
 -- What a word and two bounds say. With `no` both bounds are empty.
 abbrev pub parsed_possible : InputType → Given → List ℕ → List ℕ → Option Possible
@@ -109,7 +111,8 @@ fact_range line kind input (Some possible) = typed_range line kind input possibl
 -- the same, if the code is that of an input
 abbrev pub parsed_range : List Coded → ℕ → Option ℕ → List ℕ → List ℕ → List ℕ → Result InputRange HouseholdFault
 parsed_range inputs line None word least greatest = Err (UnknownCode line)
-parsed_range inputs line (Some input) word least greatest = fact_range line (input_type inputs input) input (parsed_fact (input_type inputs input) word least greatest)
+parsed_range inputs line (Some input) word least greatest = fact_range line (input_type inputs input) input
+    (parsed_fact (input_type inputs input) word least greatest)
 
 -- What the fields of the record with this number say by themselves: where `1AJ` has the number 0, the fields `1AJ`, `yes`, `0` and `9000` say that the
 -- input 0 is an amount from 0 to 9000.

@@ -1,5 +1,6 @@
 -- Lists by the bits of masks.
-use Rattle.std.proofs.Common.{◌≡◌, ◌≢◌, ℕ, zero, suc, ◌+◌, ◌*◌, ◌%◌, ◌^◌, ◌<◌, ◌≤◌, Bool, true, false, cond, eqb, List, [], ◌∷◌, ◌++◌, length, get_or, set, map, take, drop, bit_and, w64, refl, ap, sym, ◌∙◌, subst, ⊎_elim, arith}
+use Rattle.std.proofs.Common.{◌≡◌, ◌≢◌, ℕ, zero, suc, ◌+◌, ◌*◌, ◌%◌, ◌^◌, ◌<◌, ◌≤◌, Bool, true, false, cond, eqb, List, [], ◌∷◌, ◌++◌, length, get_or, set, map}
+use Rattle.std.proofs.Common.{take, drop, bit_and, w64, refl, ap, sym, ◌∙◌, subst, ⊎_elim, arith}
 use Rattle.std.specs.Prelude.{not, ◌&&◌, Vec}
 use Rattle.std.specs.declared.alloc.Global.{Global}
 use Rattle.std.specs.Int.{bit_at, bit_not, trailing_zeros}
@@ -58,13 +59,15 @@ put-more mask rest n k old lists new few small b is h = subst (IsPut mask (clear
       (λ (ne : j ≢ k). h.within j l (sym (cleared-other rest k j small l ne) ∙ c))
       (cases_eq j k);
   list = λ j l. ⊎_elim
-      (λ (e : j ≡ k). subst (λ i. list_at (with_number lists k n) i ≡ list_at old i ++ cond (has mask i && not (has (cleared rest k) i)) (n ∷ []) []) (sym e) (here (omega (arith, e, l))))
+      (λ (e : j ≡ k). subst (λ i. list_at (with_number lists k n) i ≡ list_at old i ++ cond (has mask i && not (has (cleared rest k) i)) (n ∷ []) []) (sym e)
+      (here (omega (arith, e, l))))
       (λ (ne : j ≢ k). get_or-set_other lists k j (list_at lists k ++ n ∷ []) [] ne ∙ h.list j l
       ∙ ap (λ c. list_at old j ++ cond (has mask j && not c) (n ∷ []) []) (sym (cleared-other rest k j small (omega (arith, l, few)) ne)))
       (cases_eq j k);
 })
   where
-    by : (m r s : Bool) (xs ys : List ℕ) → m ≡ true → r ≡ true → s ≡ false → ys ≡ xs ++ cond (m && not r) (n ∷ []) [] → ys ++ n ∷ [] ≡ xs ++ cond (m && not s) (n ∷ []) []
+    by : (m r s : Bool) (xs ys : List ℕ) → m ≡ true → r ≡ true → s ≡ false → ys ≡ xs ++ cond (m && not r) (n ∷ []) []
+        → ys ++ n ∷ [] ≡ xs ++ cond (m && not s) (n ∷ []) []
     by true true false xs ys d e f g = ap (λ zs. zs ++ n ∷ []) (g ∙ append-nil xs)
     by true true true xs ys d e f g = absurd (true≢false f)
     by true false s xs ys d e f g = absurd (true≢false (sym e))
@@ -73,7 +76,8 @@ put-more mask rest n k old lists new few small b is h = subst (IsPut mask (clear
     here : k < length old → list_at (with_number lists k n) k ≡ list_at old k ++ cond (has mask k && not (has (cleared rest k) k)) (n ∷ []) []
     here l =
         get_or-set_same lists k (list_at lists k ++ n ∷ []) [] (omega (arith, l, h.many))
-        ∙ by (has mask k) (has rest k) (has (cleared rest k) k) (list_at old k) (list_at lists k) (h.within k small b) b (cleared-same rest k small) (h.list k l)
+        ∙ by (has mask k) (has rest k) (has (cleared rest k) k) (list_at old k) (list_at lists k) (h.within k small b) b (cleared-same rest k small)
+        (h.list k l)
 
 -- ---- one number after another
 
@@ -83,7 +87,8 @@ lists-start masks count lists many empty = record {
   list = λ k l. empty k;
 }
 
-pub lists-more : (masks : List ℕ) (n count : ℕ) (lists new : List (List ℕ)) → IsPut (mask_at masks n) 0 n lists new → AreLists masks n count lists → AreLists masks (n + 1) count new
+pub lists-more : (masks : List ℕ) (n count : ℕ) (lists new : List (List ℕ)) → IsPut (mask_at masks n) 0 n lists new → AreLists masks n count lists
+    → AreLists masks (n + 1) count new
 lists-more masks n count lists new p h = record {
   many = p.many ∙ h.many;
   list = λ k l.
@@ -105,7 +110,8 @@ none-more (x ∷ lists) h zero = h 0
 none-more (x ∷ lists) h (suc k) = none-more lists (λ i. h (suc i)) k
 
 -- all lists
-pub lists-are : (f : ℕ → List ℕ) (wanted : List ℕ) (lists : List (List ℕ)) → length lists ≡ length wanted → ((k : ℕ) → k < length wanted → list_at lists k ≡ f (get_or wanted k 0))
+pub lists-are : (f : ℕ → List ℕ) (wanted : List ℕ) (lists : List (List ℕ)) → length lists ≡ length wanted
+    → ((k : ℕ) → k < length wanted → list_at lists k ≡ f (get_or wanted k 0))
     → lists ≡ map f wanted
 lists-are f wanted lists many each =
     ext_get_or [] lists (map f wanted) (many ∙ sym (length-map wanted f))

@@ -1,5 +1,6 @@
 -- May depend, as a test and by steps.
-use Rattle.std.proofs.Common.{◌≡◌, ℕ, ◌+◌, ◌<◌, ◌≤◌, Bool, true, false, List, [], ◌∷◌, ◌++◌, length, get_or, take, drop, refl, ap, sym, ◌∙◌, subst, inl, inr, ⊎_elim, arith, length-append}
+use Rattle.std.proofs.Common.{◌≡◌, ℕ, ◌+◌, ◌<◌, ◌≤◌, Bool, true, false, List, [], ◌∷◌, ◌++◌, length, get_or, take, drop, refl, ap, sym, ◌∙◌, subst, inl, inr}
+use Rattle.std.proofs.Common.{⊎_elim, arith, length-append}
 use Rattle.std.specs.Prelude.{fold, ◌&&◌, ◌||◌, ◌⊎◌}
 use Rattle.std.proofs.lemmas.Bool.{cases_lt, or_cases, or_left, or_right, and_from, and_parts, true≢false, eqb-true, eq-eqb}
 use Rattle.std.proofs.lemmas.List.{take-append-drop, drop_more, get_or_append_left, get_or_push, get_or_past, length-take-le}
@@ -25,7 +26,8 @@ grown-length step before [] = omega arith
 grown-length step before (node ∷ nodes) =
     omega (arith, grown-length step (more step before node) nodes, length-append before (step before node ∷ []))
 
-grown-keeps : (step : List Bool → Node → Bool) (nodes : List Node) (before : List Bool) (k : ℕ) → k < length before → get_or (fold (more step) before nodes) k false ≡ get_or before k false
+grown-keeps : (step : List Bool → Node → Bool) (nodes : List Node) (before : List Bool) (k : ℕ) → k < length before
+    → get_or (fold (more step) before nodes) k false ≡ get_or before k false
 grown-keeps step [] before k h = refl
 grown-keeps step (node ∷ nodes) before k h =
     grown-keeps step nodes (more step before node) k (omega (arith, length-append before (step before node ∷ [])))
@@ -67,7 +69,8 @@ grown-before step nodes p q h l =
 
 -- ---- one node
 
-looks-same : (known : List Possible) (n inputs p : ℕ) (f g : ℕ → Bool) (node : Node) → IsNode inputs p node → ((x : ℕ) → x < p → f x ≡ g x) → looks_at known n f node ≡ looks_at known n g node
+looks-same : (known : List Possible) (n inputs p : ℕ) (f g : ℕ → Bool) (node : Node) → IsNode inputs p node → ((x : ℕ) → x < p → f x ≡ g x)
+    → looks_at known n f node ≡ looks_at known n g node
 looks-same known n inputs p f g (Input m) h same = refl
 looks-same known n inputs p f g (Lit v) h same = refl
 looks-same known n inputs p f g (Do op a b c) h same =
@@ -84,7 +87,8 @@ depend-at known nodes inputs p n valid h =
     grown-at step nodes p h
     ∙ ap (λ k. is_open (fact_at known k) && looks_at known n (λ x. get_or before x false) (node_at nodes p)) (front-length step nodes p h)
     ∙ ap (λ b. is_open (fact_at known p) && b)
-    (looks-same known n inputs p (λ x. get_or before x false) (λ x. may_depend known nodes x n) (node_at nodes p) (are-valid inputs nodes valid p h) (λ x l. grown-before step nodes p x h l))
+    (looks-same known n inputs p (λ x. get_or before x false) (λ x. may_depend known nodes x n) (node_at nodes p) (are-valid inputs nodes valid p h)
+    (λ x l. grown-before step nodes p x h l))
 
 looks-into : (known : List Possible) (n : ℕ) (test : ℕ → Bool) (node : Node) → looks_at known n test node ≡ true
     → (node ≡ Input n) ⊎ ((x : ℕ) × LooksAt known node x × (test x ≡ true))
@@ -110,7 +114,8 @@ looks-out known n x test (Do op a b c) h t =
     ⊎_elim
     (λ e. or_left (test a || (second && test b)) (third && test c) (or_left (test a) (second && test b) (ap test (sym e) ∙ t)))
     (λ r. ⊎_elim
-    (λ e. or_left (test a || (second && test b)) (third && test c) (or_right (test a) (second && test b) (and_from second (test b) e.0 (ap test (sym e.1) ∙ t))))
+    (λ e. or_left (test a || (second && test b)) (third && test c)
+    (or_right (test a) (second && test b) (and_from second (test b) e.0 (ap test (sym e.1) ∙ t))))
     (λ e. or_right (test a || (second && test b)) (third && test c) (and_from third (test c) e.0 (ap test (sym e.1) ∙ t)))
     r)
     h
@@ -139,7 +144,8 @@ gives-within known nodes p n g =
 
 takes-within : (known : List Possible) (nodes : List Node) (p x : ℕ) → Takes known nodes p x → p < length nodes
 takes-within known nodes p x t =
-    ⊎_elim (λ l. l) (λ (past : length nodes ≤ p). absurd (subst (λ node. LooksAt known node x) (get_or_past nodes p (Lit Undef) past) t.1)) (cases_lt p (length nodes))
+    ⊎_elim (λ l. l) (λ (past : length nodes ≤ p). absurd (subst (λ node. LooksAt known node x) (get_or_past nodes p (Lit Undef) past) t.1))
+    (cases_lt p (length nodes))
 
 pub takes-below : (known : List Possible) (nodes : List Node) (inputs p x : ℕ) → AreNodes inputs 0 nodes → Takes known nodes p x → x < p
 takes-below known nodes inputs p x valid t =
@@ -147,25 +153,30 @@ takes-below known nodes inputs p x valid t =
 
 -- ---- the test, and steps
 
-pub by-steps : (known : List Possible) (nodes : List Node) (inputs p n : ℕ) → AreNodes inputs 0 nodes → may_depend known nodes p n ≡ true → Depends known nodes n p
+pub by-steps : (known : List Possible) (nodes : List Node) (inputs p n : ℕ) → AreNodes inputs 0 nodes → may_depend known nodes p n ≡ true
+    → Depends known nodes n p
 by-steps known nodes inputs p n valid = strong (λ p. may_depend known nodes p n ≡ true → Depends known nodes n p) each p
   where
     within : (p : ℕ) → may_depend known nodes p n ≡ true → p < length nodes
     within p e =
         ⊎_elim (λ l. l)
-        (λ (past : length nodes ≤ p). absurd (true≢false (sym e ∙ get_or_past (dependent known n nodes) p false (omega (arith, past, grown-length (next_depends known n) [] nodes)))))
+        (λ (past : length nodes ≤ p). absurd (true≢false (sym e
+        ∙ get_or_past (dependent known n nodes) p false (omega (arith, past, grown-length (next_depends known n) [] nodes)))))
         (cases_lt p (length nodes))
 
-    each : (p : ℕ) → ((q : ℕ) → q < p → may_depend known nodes q n ≡ true → Depends known nodes n q) → may_depend known nodes p n ≡ true → Depends known nodes n p
+    each : (p : ℕ) → ((q : ℕ) → q < p → may_depend known nodes q n ≡ true → Depends known nodes n q) → may_depend known nodes p n ≡ true
+        → Depends known nodes n p
     each p all e =
         let lt = within p e in
-        let parts = and_parts (is_open (fact_at known p)) (looks_at known n (λ x. may_depend known nodes x n) (node_at nodes p)) (sym (depend-at known nodes inputs p n valid lt) ∙ e) in
+        let parts = and_parts (is_open (fact_at known p)) (looks_at known n (λ x. may_depend known nodes x n) (node_at nodes p))
+        (sym (depend-at known nodes inputs p n valid lt) ∙ e) in
         ⊎_elim
         (λ is. input (parts.0, is))
         (λ l. argument (parts.0, l.1) (all l.0 (looks-below known inputs p l.0 (node_at nodes p) (are-valid inputs nodes valid p lt) l.1) l.2))
         (looks-into known n (λ x. may_depend known nodes x n) (node_at nodes p) parts.1)
 
-pub by-test : (known : List Possible) (nodes : List Node) (inputs n p : ℕ) → AreNodes inputs 0 nodes → Depends known nodes n p → may_depend known nodes p n ≡ true
+pub by-test : (known : List Possible) (nodes : List Node) (inputs n p : ℕ) → AreNodes inputs 0 nodes → Depends known nodes n p
+    → may_depend known nodes p n ≡ true
 by-test known nodes inputs n p valid (input g) =
     depend-at known nodes inputs p n valid (gives-within known nodes p n g)
     ∙ and_from (is_open (fact_at known p)) (looks_at known n (λ x. may_depend known nodes x n) (node_at nodes p)) g.0

@@ -1,5 +1,6 @@
 -- The numbers below a count that pass a test, and parts of lists.
-use Rattle.std.proofs.Common.{◌≡◌, ℕ, zero, suc, ◌+◌, ◌<◌, ◌≤◌, Bool, true, false, cond, List, [], ◌∷◌, ◌++◌, length, map, take, drop, All, refl, ap, sym, ◌∙◌, subst, ⊎_elim, arith}
+use Rattle.std.proofs.Common.{◌≡◌, ℕ, zero, suc, ◌+◌, ◌<◌, ◌≤◌, Bool, true, false, cond, List, [], ◌∷◌, ◌++◌, length, map, take, drop, All, refl, ap, sym, ◌∙◌}
+use Rattle.std.proofs.Common.{subst, ⊎_elim, arith}
 use Rattle.std.specs.Prelude.{filter, Contains}
 use Rattle.std.specs.List.{AllByRecursion, range_with_len}
 use Rattle.std.proofs.lemmas.Bool.{cases_lt}
@@ -7,10 +8,12 @@ use Rattle.std.proofs.lemmas.List.{map-append}
 use Rattle.std.proofs.Math.Seq.{take-add}
 use Rattle.std.proofs.lemmas.List.Elements.{filter_passes}
 
-from-more : (test : ℕ → Bool) (first n last : ℕ) → first + n ≡ last → filter test (range_with_len first (suc n)) ≡ filter test (range_with_len first n) ++ cond (test last) (last ∷ []) []
+from-more : (test : ℕ → Bool) (first n last : ℕ) → first + n ≡ last → filter test (range_with_len first (suc n)) ≡ filter test (range_with_len first n)
+    ++ cond (test last) (last ∷ []) []
 from-more test first zero last e = let same : first ≡ last = omega (arith, e) in ap (λ k. cond (test k) (k ∷ []) []) same
 from-more test first (suc n) last e =
-    by (test first) (filter test (range_with_len (first + 1) (suc n))) (filter test (range_with_len (first + 1) n)) (cond (test last) (last ∷ []) []) (from-more test (first + 1) n last (omega (arith, e)))
+    by (test first) (filter test (range_with_len (first + 1) (suc n))) (filter test (range_with_len (first + 1) n)) (cond (test last) (last ∷ []) [])
+    (from-more test (first + 1) n last (omega (arith, e)))
   where
     by : (b : Bool) (whole front one : List ℕ) → whole ≡ front ++ one → cond b (first ∷ whole) whole ≡ cond b (first ∷ front) front ++ one
     by true whole front one h = ap (λ xs. first ∷ xs) h
@@ -49,11 +52,13 @@ from-has test first (suc count) n le lt t =
     (λ (g : n ≤ first). let is : first ≡ n = omega arith in here (test first) (ap test is ∙ t) is)
     (cases_lt first n)
   where
-    later : (b : Bool) → Contains (filter test (range_with_len (first + 1) count)) n → Contains (cond b (first ∷ filter test (range_with_len (first + 1) count)) (filter test (range_with_len (first + 1) count))) n
+    later : (b : Bool) → Contains (filter test (range_with_len (first + 1) count)) n
+        → Contains (cond b (first ∷ filter test (range_with_len (first + 1) count)) (filter test (range_with_len (first + 1) count))) n
     later true c = contains-later first n (filter test (range_with_len (first + 1) count)) c
     later false c = c
 
-    here : (b : Bool) → b ≡ true → first ≡ n → Contains (cond b (first ∷ filter test (range_with_len (first + 1) count)) (filter test (range_with_len (first + 1) count))) n
+    here : (b : Bool) → b ≡ true → first ≡ n
+        → Contains (cond b (first ∷ filter test (range_with_len (first + 1) count)) (filter test (range_with_len (first + 1) count))) n
     here true e is = contains-first first n (filter test (range_with_len (first + 1) count)) is
     here false e is = cc
 

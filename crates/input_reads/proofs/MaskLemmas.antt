@@ -1,5 +1,6 @@
 -- Masks: one added, one node after another, and what the bits say at the end.
-use Rattle.std.proofs.Common.{◌≡◌, ◌≢◌, ℕ, zero, suc, ◌+◌, ◌*◌, ◌%◌, ◌^◌, ◌<◌, ◌≤◌, Bool, true, false, eqb, List, length, set, bit_or, w64, refl, ap, sym, ◌∙◌, subst, inl, inr, ⊎_elim, arith}
+use Rattle.std.proofs.Common.{◌≡◌, ◌≢◌, ℕ, zero, suc, ◌+◌, ◌*◌, ◌%◌, ◌^◌, ◌<◌, ◌≤◌, Bool, true, false, eqb, List, length, set, bit_or, w64, refl, ap, sym, ◌∙◌}
+use Rattle.std.proofs.Common.{subst, inl, inr, ⊎_elim, arith}
 use Rattle.std.specs.Prelude.{◌||◌, ◌⊎◌, max}
 use Rattle.std.specs.Int.{bit_at}
 use Rattle.std.proofs.lemmas.Bool.{cases_eq, cases_lt, or_cases, or_left, or_right, true≢false, eq-eqb}
@@ -112,7 +113,8 @@ bit-other masks x y k j h small ne = ⊎_elim
     (cases_eq y x)
 
 -- one asked node more
-pub marked-more : (wanted masks : List ℕ) (k x : ℕ) → x ≡ number_at wanted k → x < length masks → k < 64 → IsMarked wanted k masks → IsMarked wanted (k + 1) (with_bit masks x k)
+pub marked-more : (wanted masks : List ℕ) (k x : ℕ) → x ≡ number_at wanted k → x < length masks → k < 64 → IsMarked wanted k masks
+    → IsMarked wanted (k + 1) (with_bit masks x k)
 marked-more wanted masks k x e h small m = record {
   marks = λ j l. ⊎_elim
       (λ (is : j ≡ k). subst (λ i. has (mask_at (with_bit masks x k) (number_at wanted i)) i ≡ true) (sym is)
@@ -124,7 +126,8 @@ marked-more wanted masks k x e h small m = record {
       (λ (same : y ≡ x). let lt : j < k + 1 = omega arith in (lt, same ∙ e ∙ ap (number_at wanted) (sym is)))
       (λ (ne : y ≢ x). let z = m.only j y (sym (with-other masks x y (1 * 2 ^ k % 2 ^ 64) j ne) ∙ b) in let l : j < k = z.0 in absurd (omega arith))
       (cases_eq y x))
-      (λ (ne : j ≢ k). let z = m.only j y (sym (bit-other masks x y k j h small ne) ∙ b) in let l : j < k = z.0 in let lt : j < k + 1 = omega arith in (lt, z.1))
+      (λ (ne : j ≢ k). let z = m.only j y (sym (bit-other masks x y k j h small ne) ∙ b) in let l : j < k = z.0 in let lt : j < k + 1 = omega arith in
+      (lt, z.1))
       (cases_eq j k);
 }
 
@@ -140,7 +143,8 @@ spread-start known nodes wanted masks found within none m = record {
 }
 
 -- one node
-pub spread-step : (known : List Possible) (nodes : List Node) (inputs : ℕ) (wanted : List ℕ) (p q : ℕ) (masks found masks' found' : List ℕ) → AreNodes inputs 0 nodes → p ≡ q + 1
+pub spread-step : (known : List Possible) (nodes : List Node) (inputs : ℕ) (wanted : List ℕ) (p q : ℕ) (masks found masks' found' : List ℕ)
+    → AreNodes inputs 0 nodes → p ≡ q + 1
     → Adds (Takes known nodes q) (mask_at masks q) masks masks' → Adds (Gives known nodes q) (mask_at masks q) found found'
     → IsSpread known nodes wanted p masks found → IsSpread known nodes wanted q masks' found'
 spread-step known nodes inputs wanted p q masks found masks' found' valid next a b s = record {
@@ -169,10 +173,12 @@ both-ways false true f g = g refl
 both-ways false false f g = refl
 
 -- after the last
-pub spread-end : (known : List Possible) (nodes : List Node) (inputs : ℕ) (wanted masks found : List ℕ) → AreNodes inputs 0 nodes → IsSpread known nodes wanted 0 masks found
+pub spread-end : (known : List Possible) (nodes : List Node) (inputs : ℕ) (wanted masks found : List ℕ) → AreNodes inputs 0 nodes
+    → IsSpread known nodes wanted 0 masks found
     → AreMasks known nodes wanted found
 spread-end known nodes inputs wanted masks found valid s = record {
   bit = λ k n l. both-ways (has (mask_at found n) k) (may_depend known nodes (number_at wanted k) n)
       (λ b. by-test known nodes inputs n (number_at wanted k) valid (s.input k n l b))
-      (λ b. ⊎_elim (λ f. f) (λ r. let none : r.0 < 0 = r.1 in absurd (omega arith)) (s.left k n l (by-steps known nodes inputs (number_at wanted k) n valid b)));
+      (λ b. ⊎_elim (λ f. f) (λ r. let none : r.0 < 0 = r.1 in absurd (omega arith))
+      (s.left k n l (by-steps known nodes inputs (number_at wanted k) n valid b)));
 }

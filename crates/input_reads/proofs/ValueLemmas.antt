@@ -34,7 +34,8 @@ other-known : (r : Option (ℤ × ℤ)) (x : ℤ) → InSome r x → is_zero x �
 other-known None x h e = absurd h
 other-known (Some r) x h e = other_in r x h e
 
-choice-same : (f : Possible) (v a b c d : Value) → Holds f v → (may_be_other f.range ≡ true → a ≡ c) → (may_be_zero f.range ≡ true → b ≡ d) → chosen v a b ≡ chosen v c d
+choice-same : (f : Possible) (v a b c d : Value) → Holds f v → (may_be_other f.range ≡ true → a ≡ c) → (may_be_zero f.range ≡ true → b ≡ d)
+    → chosen v a b ≡ chosen v c d
 choice-same f Undef a b c d h first second = refl
 choice-same f Over a b c d h first second = refl
 choice-same f (Num x) a b c d h first second = go (is_zero x) refl
@@ -71,7 +72,8 @@ pub agree : (known : List Possible) (nodes : List Node) (inputs p : ℕ) (before
     → ((n : ℕ) → Depends known nodes n p → value_at before n ≡ value_at now n)
     → value_at (node_values before nodes) p ≡ value_at (node_values now nodes) p
 agree known nodes inputs p before now valid held kept =
-    strong (λ p. p < length nodes → ((n : ℕ) → Depends known nodes n p → value_at before n ≡ value_at now n) → value_at (node_values before nodes) p ≡ value_at (node_values now nodes) p) each p
+    strong (λ p. p < length nodes → ((n : ℕ) → Depends known nodes n p → value_at before n ≡ value_at now n)
+    → value_at (node_values before nodes) p ≡ value_at (node_values now nodes) p) each p
   where
     holds : (p : ℕ) → p < length nodes → Holds (fact_at known p) (value_at (node_values before nodes) p)
     holds p lt = held p (omega (arith, length-node_values before nodes))
@@ -80,7 +82,8 @@ agree known nodes inputs p before now valid held kept =
     holds-now p lt = kept p (omega (arith, length-node_values now nodes))
 
     same-entry : (p : ℕ) → p < length nodes → is_open (fact_at known p) ≡ true
-        → ((q : ℕ) → q < p → q < length nodes → ((n : ℕ) → Depends known nodes n q → value_at before n ≡ value_at now n) → value_at (node_values before nodes) q ≡ value_at (node_values now nodes) q)
+        → ((q : ℕ) → q < p → q < length nodes → ((n : ℕ) → Depends known nodes n q → value_at before n ≡ value_at now n)
+        → value_at (node_values before nodes) q ≡ value_at (node_values now nodes) q)
         → ((n : ℕ) → Depends known nodes n p → value_at before n ≡ value_at now n) → (node : Node) → node_at nodes p ≡ node → IsNode inputs p node
         → entry_of (values_for before) (node_values before nodes) node ≡ entry_of (values_for now) (node_values now nodes) node
     same-entry p lt some all agreed (Input n) is h = agreed n (input (some, is))
@@ -95,8 +98,10 @@ agree known nodes inputs p before now valid held kept =
         (holds a (omega arith)) (below a (inl refl)) (λ e. below b (inr (inl (e, refl)))) (λ e. below c (inr (inr (e, refl))))
 
     each : (p : ℕ)
-        → ((q : ℕ) → q < p → q < length nodes → ((n : ℕ) → Depends known nodes n q → value_at before n ≡ value_at now n) → value_at (node_values before nodes) q ≡ value_at (node_values now nodes) q)
-        → p < length nodes → ((n : ℕ) → Depends known nodes n p → value_at before n ≡ value_at now n) → value_at (node_values before nodes) p ≡ value_at (node_values now nodes) p
+        → ((q : ℕ) → q < p → q < length nodes → ((n : ℕ) → Depends known nodes n q → value_at before n ≡ value_at now n)
+        → value_at (node_values before nodes) q ≡ value_at (node_values now nodes) q)
+        → p < length nodes → ((n : ℕ) → Depends known nodes n p → value_at before n ≡ value_at now n)
+        → value_at (node_values before nodes) p ≡ value_at (node_values now nodes) p
     each p all lt agreed = by (one_value (fact_at known p)) refl
       where
         by : (one : Option Value) → one_value (fact_at known p) ≡ one → value_at (node_values before nodes) p ≡ value_at (node_values now nodes) p

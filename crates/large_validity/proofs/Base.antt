@@ -1,5 +1,6 @@
 -- The base of `large N` over cells.
-use Rattle.std.proofs.Common.{◌≡◌, ℕ, zero, suc, ◌+◌, ◌-◌, ◌<◌, ◌≤◌, ◌==◌, false, ◌||◌, List, [], ◌∷◌, ◌++◌, codes, decimal, Ok, Some, refl, sym, ap, ◌∙◌, subst, append_assoc, append-nil, arith}
+use Rattle.std.proofs.Common.{◌≡◌, ℕ, zero, suc, ◌+◌, ◌-◌, ◌<◌, ◌≤◌, ◌==◌, false, ◌||◌, List, [], ◌∷◌, ◌++◌, codes, decimal, Ok, Some, refl, sym, ap, ◌∙◌}
+use Rattle.std.proofs.Common.{subst, append_assoc, append-nil, arith}
 use Rattle.std.proofs.lemmas.Bool.{ne_eqb}
 use Rattle.std.proofs.lemmas.Fmt.{decimal_digit}
 use Rattle.std.proofs.lemmas.List.{map-append}
@@ -15,14 +16,16 @@ use Rattle.m_symbols.specs.Declarations.{Declared}
 use Rattle.m_symbols.specs.Cells.{variable_named}
 use Rattle.m_ast.specs.declared.plain_rules.Definition.{Definition}
 use Rattle.m_resolve.specs.Terms.{if_resolved, resolved_term, resolved_cell, cell_of_variable}
-use Rattle.m_resolve.specs.Bases.{target_of, resolved_target, new_target, cells_of, resolved_definition, resolved_definitions, resolved_conditions, label_of, base_with, resolved}
+use Rattle.m_resolve.specs.Bases.{target_of, resolved_target, new_target, cells_of, resolved_definition, resolved_definitions, resolved_conditions, label_of}
+use Rattle.m_resolve.specs.Bases.{base_with, resolved}
 use Rattle.large_validity.proofs.Names.{input_name, sum_name}
 use Rattle.large_validity.proofs.Pieces.{amount, after}
 use Rattle.large_validity.proofs.Lines.{declared_after, rules_after, numbered_line}
 use Rattle.large_validity.proofs.Items.{maximum_term, sum_term, error_of}
 use Rattle.large_validity.proofs.Variables.{sum_variable, declared, error_place}
 use Rattle.large_validity.proofs.Found.{input_found, sum_found}
-use Rattle.large_validity.proofs.Rules.{target_place, read_place, further_place, first_place, first_read, numbered_definition, first_definition, plain_definitions, the_condition, condition_term, si_place, base_plain}
+use Rattle.large_validity.proofs.Rules.{target_place, read_place, further_place, first_place, first_read, numbered_definition, first_definition}
+use Rattle.large_validity.proofs.Rules.{plain_definitions, the_condition, condition_term, si_place, base_plain}
 
 -- the maximum of 0 and the input k less 1000
 abbrev pub maximum_tree : ℕ → Tree
@@ -68,7 +71,8 @@ resolved_sum p n k at l h = ap (cell_of_variable (sum_name k) at) (sum_found p n
 maximum_stated : (p : Place) (n k : ℕ) (at : Place) → k < n → n ≤ 100000 → resolved_term (declared p n) (maximum_of k at) ≡ Ok (maximum_tree k)
 maximum_stated p n k at l h = rw (input_declared p n k at l h) refl
 
-resolved_sum_term : (p : Place) (n k j : ℕ) (at other : Place) → k < n → j < n → n ≤ 100000 → resolved_term (declared p n) (sum_of k j at other) ≡ Ok (sum_tree k j)
+resolved_sum_term : (p : Place) (n k j : ℕ) (at other : Place) → k < n → j < n → n ≤ 100000
+    → resolved_term (declared p n) (sum_of k j at other) ≡ Ok (sum_tree k j)
 resolved_sum_term p n k j at other l m h = rw (input_declared p n k at l h, resolved_sum p n j other m h) refl
 
 -- the sum 0 and its input, whose digits are `0`
@@ -79,15 +83,18 @@ first_target : (p : Place) (n : ℕ) → 1 ≤ n → n ≤ 100000 → variable_n
 first_target p n l h = subst (λ d. variable_named (declared p n) (84 ∷ d) ≡ Some (sum_variable p 0)) zero_text (sum_found p n 0 (omega arith) h)
 
 first_stated : (p : Place) (n : ℕ) (at : Place) → 1 ≤ n → n ≤ 100000 → resolved_term (declared p n) (maximum_term (codes "0") at) ≡ Ok (maximum_tree 0)
-first_stated p n at l h = subst (λ d. resolved_term (declared p n) (maximum_term d at) ≡ Ok (maximum_tree 0)) zero_text (maximum_stated p n 0 at (omega arith) h)
+first_stated p n at l h = subst (λ d. resolved_term (declared p n) (maximum_term d at) ≡ Ok (maximum_tree 0)) zero_text
+    (maximum_stated p n 0 at (omega arith) h)
 
 resolved_check : (p : Place) (n k : ℕ) (e : Place) → k < n → n ≤ 100000 → resolved_term (declared p n) (condition_term (decimal k) e) ≡ Ok (check_tree k)
 resolved_check p n k e l h = rw (resolved_sum p n k _ l h) refl
 
 definition_is : (d : Declared) (before : List CellDefinition) (definition : Definition) (c : ℕ) (tree : Tree)
-    → resolved_target d definition ≡ Ok c → is_among c (cells_of before) ≡ false → resolved_term d definition.term ≡ Ok tree → resolved_definition d before definition ≡ Ok (c, tree, definition.place)
+    → resolved_target d definition ≡ Ok c → is_among c (cells_of before) ≡ false → resolved_term d definition.term ≡ Ok tree
+    → resolved_definition d before definition ≡ Ok (c, tree, definition.place)
 definition_is d before definition c tree t f s =
-    let a : if_resolved (new_target d definition.place (cells_of before)) (resolved_target d definition) ≡ Ok c = ap (if_resolved (new_target d definition.place (cells_of before))) t ∙ rw f refl in
+    let a : if_resolved (new_target d definition.place (cells_of before)) (resolved_target d definition) ≡ Ok c = ap
+    (if_resolved (new_target d definition.place (cells_of before))) t ∙ rw f refl in
     ap (if_resolved (λ (c : ℕ). if_resolved (λ (tree : Tree). Ok (c, tree, definition.place)) (resolved_term d definition.term))) a
     ∙ ap (if_resolved (λ (tree : Tree). Ok (c, tree, definition.place))) s
 
@@ -122,7 +129,8 @@ resolved_ruled p m h q (suc j) before xs l f =
 
 ruled_fresh : (q : Place) (n : ℕ) (c : ℕ) → c ≤ 1 → is_among c (cells_of (cell_definitions q n)) ≡ false
 ruled_fresh q zero c l = refl
-ruled_fresh q (suc j) c l = ap (λ b. b || is_among c (cells_of (cell_definitions (after q (numbered_line j)) j))) (ne_eqb c (suc j + suc j + 1) (λ e. omega arith)) ∙ ruled_fresh (after q (numbered_line j)) j c l
+ruled_fresh q (suc j) c l = ap (λ b. b || is_among c (cells_of (cell_definitions (after q (numbered_line j)) j)))
+    (ne_eqb c (suc j + suc j + 1) (λ e. omega arith)) ∙ ruled_fresh (after q (numbered_line j)) j c l
 
 -- The rules are this base over the cells of what is declared.
 pub base_resolved : (p : Place) (n : ℕ) → 1 ≤ n → n ≤ 100000 → resolved (declared p n) (base_plain p n) ≡ Ok (base_of p n)
@@ -132,12 +140,14 @@ base_resolved p n some few =
     let r = rules_after q (n - 1) in
     let cells = cell_definitions q (n - 1) in
     let first : resolved_definition d cells (first_definition r) ≡ Ok (first_cell r) =
-    definition_is d cells (first_definition r) 1 (maximum_tree 0) (ap (target_of (first_definition r)) (first_target p n some few)) (ruled_fresh q (n - 1) 1 (omega arith))
+    definition_is d cells (first_definition r) 1 (maximum_tree 0) (ap (target_of (first_definition r)) (first_target p n some few))
+    (ruled_fresh q (n - 1) 1 (omega arith))
     (first_stated p n (first_read r) some few) in
     let stated : resolved_definitions d [] (plain_definitions q (n - 1) ++ (first_definition r ∷ [])) ≡ Ok (cells ++ first_cell r ∷ []) =
     resolved_ruled p n few q (n - 1) [] (first_definition r ∷ []) (omega arith) (λ c l. refl)
     ∙ ap (if_resolved (λ (stated : CellDefinition). Ok (cells ++ stated ∷ []))) first in
     let e = error_place p n in
-    let condition : resolved_conditions d ([], []) (the_condition (decimal (n - 1)) e ∷ []) ≡ Ok ((check_tree (n - 1), 0, si_place e) ∷ [], label_of (codes "1") (error_of e) ∷ []) =
+    let condition : resolved_conditions d ([], []) (the_condition (decimal (n - 1)) e ∷ []) ≡ Ok
+    ((check_tree (n - 1), 0, si_place e) ∷ [], label_of (codes "1") (error_of e) ∷ []) =
     rw (resolved_check p n (n - 1) e (omega arith) few) refl in
     rw (stated, condition) refl

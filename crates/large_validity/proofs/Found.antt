@@ -1,5 +1,6 @@
 -- Each name of the rule base of `large N` has its variable.
-use Rattle.std.proofs.Common.{◌≡◌, ℕ, zero, suc, ◌+◌, ◌<◌, ◌≤◌, Bool, true, false, cond, List, [], ◌∷◌, ◌++◌, Option, Some, None, refl, ap, ◌∙◌, subst, add-one, inl, inr, arith}
+use Rattle.std.proofs.Common.{◌≡◌, ℕ, zero, suc, ◌+◌, ◌<◌, ◌≤◌, Bool, true, false, cond, List, [], ◌∷◌, ◌++◌, Option, Some, None, refl, ap, ◌∙◌, subst, add-one}
+use Rattle.std.proofs.Common.{inl, inr, arith}
 use Rattle.std.proofs.lemmas.Bool.{cases_lt}
 use Rattle.std.specs.Str.{bytes_eq}
 use Rattle.std.specs.Option.{option_map, option_and_then}
@@ -19,7 +20,8 @@ abbrev pub find : List ℕ → List Variable → Option Variable
 find name [] = None
 find name (v ∷ vs) = cond (bytes_eq name v.item.name) (Some v) (find name vs)
 
-next_get : {X : Type 0} (x : X) (xs : List X) (o : Option ℕ) → option_and_then (slice_get (x ∷ xs)) (option_map (λ i. i + 1) o) ≡ option_and_then (slice_get xs) o
+next_get : {X : Type 0} (x : X) (xs : List X) (o : Option ℕ) → option_and_then (slice_get (x ∷ xs)) (option_map (λ i. i + 1) o) ≡ option_and_then (slice_get xs)
+    o
 next_get x xs None = refl
 next_get x xs (Some i) = ap (slice_get (x ∷ xs)) (add-one i)
 
@@ -27,7 +29,8 @@ pub found : (name : List ℕ) (vs : List Variable) → option_and_then (slice_ge
 found name [] = refl
 found name (v ∷ vs) = by (found name vs) (bytes_eq name v.item.name)
   where
-    by : option_and_then (slice_get vs) (index_of name (names_of vs)) ≡ find name vs → (b : Bool) → option_and_then (slice_get (v ∷ vs)) (cond b (Some 0) (option_map (λ i. i + 1) (index_of name (names_of vs)))) ≡ cond b (Some v) (find name vs)
+    by : option_and_then (slice_get vs) (index_of name (names_of vs)) ≡ find name vs → (b : Bool)
+        → option_and_then (slice_get (v ∷ vs)) (cond b (Some 0) (option_map (λ i. i + 1) (index_of name (names_of vs)))) ≡ cond b (Some v) (find name vs)
     by next true = refl
     by next false = next_get v vs (index_of name (names_of vs)) ∙ next
 

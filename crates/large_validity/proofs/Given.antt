@@ -1,5 +1,6 @@
 -- The household of `large N` reads to a pair for each input.
-use Rattle.std.proofs.Common.{◌≡◌, ℕ, ℤ, zero, suc, ◌+◌, ◌*◌, ◌%◌, ◌<◌, ◌≤◌, ◌==◌, Bool, true, false, cond, ◌||◌, nat_le, List, [], ◌∷◌, ◌++◌, codes, decimal, length, Option, Some, None, Result, Ok, Err, refl, sym, ap, ◌∙◌, subst, append_assoc, append-nil, inl, inr, arith}
+use Rattle.std.proofs.Common.{◌≡◌, ℕ, ℤ, zero, suc, ◌+◌, ◌*◌, ◌%◌, ◌<◌, ◌≤◌, ◌==◌, Bool, true, false, cond, ◌||◌, nat_le, List, [], ◌∷◌, ◌++◌, codes, decimal}
+use Rattle.std.proofs.Common.{length, Option, Some, None, Result, Ok, Err, refl, sym, ap, ◌∙◌, subst, append_assoc, append-nil, inl, inr, arith}
 use Rattle.std.specs.List.{AllByRecursion}
 use Rattle.std.specs.Option.{option_map}
 use Rattle.std.specs.Str.{bytes_eq}
@@ -25,7 +26,8 @@ use Rattle.household.specs.declared.fault.HouseholdFault.TheVariants.{TooManyRow
 use Rattle.household.specs.InTurn.{if_read, in_turn}
 use Rattle.household.specs.Records.{records_of}
 use Rattle.household.specs.Reader.{records_from_state}
-use Rattle.household.specs.Household.{inputs_of, is_input_among, line_behind, parsed_pair, input_type, is_fitting, fitting_pair, pair_of, new_pair, row_of, household_read, household_of}
+use Rattle.household.specs.Household.{inputs_of, is_input_among, line_behind, parsed_pair, input_type, is_fitting, fitting_pair, pair_of, new_pair, row_of}
+use Rattle.household.specs.Household.{household_read, household_of}
 use Rattle.household.proofs.LeftLemmas.{byte_joins, records_are_left}
 use Rattle.m_large.specs.Large.{row, rows, household_text}
 use Rattle.large_validity.proofs.Numerals.{whole_decimal}
@@ -68,7 +70,8 @@ first_step c h =
     let d : (c == 10) ≡ false = ne_eqb c 10 (λ e. let l = h.0 in omega arith) in
     rw (e, a, b, d) refl
 
-digits_join : (d : List ℕ) → AllByRecursion IsDigit d → (fields : List (List ℕ)) (field tail : List ℕ) → records_from_state st.InField fields field (d ++ tail) ≡ records_from_state st.InField fields (field ++ d) tail
+digits_join : (d : List ℕ) → AllByRecursion IsDigit d → (fields : List (List ℕ)) (field tail : List ℕ)
+    → records_from_state st.InField fields field (d ++ tail) ≡ records_from_state st.InField fields (field ++ d) tail
 digits_join [] h fields field tail = ap (λ f. records_from_state st.InField fields f tail) (sym (append-nil field))
 digits_join (c ∷ d) h fields field tail =
     let s = digit_step c h.0 in
@@ -76,7 +79,8 @@ digits_join (c ∷ d) h fields field tail =
     ∙ digits_join d h.1 fields (field ++ c ∷ []) tail
     ∙ ap (λ f. records_from_state st.InField fields f tail) (append_assoc field (c ∷ []) d)
 
-field_joins : (d : List ℕ) → AreDigits d → (fields : List (List ℕ)) (tail : List ℕ) → records_from_state st.StartField fields [] (d ++ tail) ≡ records_from_state st.InField fields d tail
+field_joins : (d : List ℕ) → AreDigits d → (fields : List (List ℕ)) (tail : List ℕ)
+    → records_from_state st.StartField fields [] (d ++ tail) ≡ records_from_state st.InField fields d tail
 field_joins [] h fields tail = absurd (h.0 refl)
 field_joins (c ∷ d) h fields tail =
     let s = first_step c h.1.0 in
@@ -84,7 +88,8 @@ field_joins (c ∷ d) h fields tail =
     ∙ digits_join d h.1.1 fields (c ∷ []) tail
 
 -- a row: a letter and digits, a comma, digits and the end of the line
-row_read : (d e : List ℕ) → AllByRecursion IsDigit d → AreDigits e → (tail : List ℕ) → read_from (67 ∷ (d ++ (44 ∷ (e ++ (10 ∷ tail))))) ≡ ((67 ∷ d) ∷ e ∷ []) ∷ read_from tail
+row_read : (d e : List ℕ) → AllByRecursion IsDigit d → AreDigits e → (tail : List ℕ)
+    → read_from (67 ∷ (d ++ (44 ∷ (e ++ (10 ∷ tail))))) ≡ ((67 ∷ d) ∷ e ∷ []) ∷ read_from tail
 row_read d e h g tail =
     digits_join d h [] (67 ∷ []) (44 ∷ (e ++ (10 ∷ tail)))
     ∙ field_joins e g ((67 ∷ d) ∷ []) (10 ∷ tail)
@@ -100,7 +105,8 @@ rows_read zero h tail = refl
 rows_read (suc k) h tail =
     ap read_from (append_assoc (rows k) (row k) tail)
     ∙ rows_read k (omega arith) (row k ++ tail)
-    ∙ ap (λ l. record_list k ++ l) (ap read_from (row_text (decimal k) (given k) tail) ∙ row_read (decimal k) (given k) (whole_decimal k (omega arith)).are.1 (whole_decimal ((997 * k) % 5000) (few_given k)).are tail)
+    ∙ ap (λ l. record_list k ++ l) (ap read_from (row_text (decimal k) (given k) tail)
+    ∙ row_read (decimal k) (given k) (whole_decimal k (omega arith)).are.1 (whole_decimal ((997 * k) % 5000) (few_given k)).are tail)
     ∙ sym (append_assoc (record_list k) (record_of k ∷ []) (read_from tail))
 
 abbrev header : Record
@@ -126,7 +132,8 @@ inputs_until (suc k) = inputs_until k ++ (input_of k ∷ [])
 
 pub declared_inputs : (p : Place) (n : ℕ) → inputs_declared (declared p n) ≡ inputs_until n
 declared_inputs p zero = refl
-declared_inputs p (suc k) = filter_map-append input_declared (variables p k) (input_variable p k ∷ sum_variable p k ∷ []) ∙ ap (λ l. l ++ (input_of k ∷ [])) (declared_inputs p k)
+declared_inputs p (suc k) = filter_map-append input_declared (variables p k) (input_variable p k ∷ sum_variable p k ∷ [])
+    ∙ ap (λ l. l ++ (input_of k ∷ [])) (declared_inputs p k)
 
 input_codes : (n : ℕ) → codes_of (inputs_until n) ≡ codes_until n
 input_codes zero = refl
@@ -164,7 +171,8 @@ index-there : (x : List ℕ) (ns ms : List (List ℕ)) (i : ℕ) → index_of x 
 index-there x [] ms i h = cc
 index-there x (n ∷ ns) ms i h = by (bytes_eq x n) (index_of x ns) refl h (index-there x ns ms)
   where
-    by : (b : Bool) (o : Option ℕ) → index_of x ns ≡ o → cond b (Some 0) (option_map (λ j. j + 1) o) ≡ Some i → ((j : ℕ) → index_of x ns ≡ Some j → index_of x (ns ++ ms) ≡ Some j)
+    by : (b : Bool) (o : Option ℕ) → index_of x ns ≡ o → cond b (Some 0) (option_map (λ j. j + 1) o) ≡ Some i
+        → ((j : ℕ) → index_of x ns ≡ Some j → index_of x (ns ++ ms) ≡ Some j)
         → cond b (Some 0) (option_map (λ j. j + 1) (index_of x (ns ++ ms))) ≡ Some i
     by true o e f next = f
     by false None e f next = cc
@@ -220,11 +228,13 @@ parsed_row n k l h =
     ∙ ap (if_read (new_pair line (pairs k))) stated
     ∙ ap (λ b. cond b (Err (CodeTwice line)) (Ok p)) fresh
 
-turns-append : {A B F : Type 0} (read : List B → A → Result B F) (before mid : List B) (xs ys : List A) → in_turn read before xs ≡ Ok mid → in_turn read before (xs ++ ys) ≡ in_turn read mid ys
+turns-append : {A B F : Type 0} (read : List B → A → Result B F) (before mid : List B) (xs ys : List A) → in_turn read before xs ≡ Ok mid
+    → in_turn read before (xs ++ ys) ≡ in_turn read mid ys
 turns-append read before mid [] ys h = let e : before ≡ mid = cc in ap (λ b. in_turn read b ys) e
 turns-append read before mid (x ∷ xs) ys h = by (read before x) h (λ value. turns-append read (before ++ value ∷ []) mid xs ys)
   where
-    by : (r : Result _ _) → if_read (λ value. in_turn read (before ++ value ∷ []) xs) r ≡ Ok mid → ((value : _) → in_turn read (before ++ value ∷ []) xs ≡ Ok mid → in_turn read (before ++ value ∷ []) (xs ++ ys) ≡ in_turn read mid ys)
+    by : (r : Result _ _) → if_read (λ value. in_turn read (before ++ value ∷ []) xs) r ≡ Ok mid
+        → ((value : _) → in_turn read (before ++ value ∷ []) xs ≡ Ok mid → in_turn read (before ++ value ∷ []) (xs ++ ys) ≡ in_turn read mid ys)
         → if_read (λ value. in_turn read (before ++ value ∷ []) (xs ++ ys)) r ≡ in_turn read mid ys
     by (Ok value) f next = next value f
     by (Err fault) f next = cc

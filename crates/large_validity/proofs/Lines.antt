@@ -21,7 +21,8 @@ ending xs = space ∷ mark signs.Semicolon ∷ feed ∷ xs
 -- `R0 : saisie revenu classe = 0 alias C0 : "r" ;`
 abbrev pub input_line : List ℕ → List Piece → List Piece
 input_line d xs =
-    named 82 d ∷ colon (reserved keys.Saisie ∷ space ∷ plain (codes "revenu") ∷ space ∷ plain (codes "classe") ∷ space ∷ mark signs.Equal ∷ space ∷ digits (codes "0")
+    named 82 d ∷ colon (reserved keys.Saisie ∷ space ∷ plain (codes "revenu") ∷ space ∷ plain (codes "classe") ∷ space ∷ mark signs.Equal ∷ space ∷ digits
+    (codes "0")
     ∷ space ∷ reserved keys.Alias ∷ space ∷ named 67 d ∷ colon (quoted (codes "r") ∷ ending xs))
 
 -- `T0 : calculee : "t" ;`
@@ -109,7 +110,8 @@ base_tokens p n =
 
 -- ---- their tokens
 
-pub declarations_lex : (n : ℕ) → n ≤ 100000 → (rest : List ℕ) (p : Place) (ts : List Token) → Lexes (declared_after p n) rest ts → Lexes p (declarations n ++ rest) (declaration_tokens p n ts)
+pub declarations_lex : (n : ℕ) → n ≤ 100000 → (rest : List ℕ) (p : Place) (ts : List Token) → Lexes (declared_after p n) rest ts
+    → Lexes p (declarations n ++ rest) (declaration_tokens p n ts)
 declarations_lex zero h rest p ts l = l
 declarations_lex (suc k) h rest p ts l =
     let d = (whole_decimal k (omega arith)).are.1 in
@@ -118,20 +120,23 @@ declarations_lex (suc k) h rest p ts l =
     subst (λ t. Lexes p t (declaration_tokens p k us)) (sym (append_assoc (declarations k) (declaration k) rest))
     (declarations_lex k (omega arith) (declaration k ++ rest) p us (pieces_lex (declaration_line (decimal k)) (d, (whole_zero, (d, (d, tt)))) refl rest q ts l))
 
-pub rules_lex : (n : ℕ) → n < 100000 → (rest : List ℕ) (p : Place) (ts : List Token) → Lexes (rules_after p n) rest ts → Lexes p (rules n ++ rest) (rule_tokens p n ts)
+pub rules_lex : (n : ℕ) → n < 100000 → (rest : List ℕ) (p : Place) (ts : List Token) → Lexes (rules_after p n) rest ts
+    → Lexes p (rules n ++ rest) (rule_tokens p n ts)
 rules_lex zero h rest p ts l = l
 rules_lex (suc j) h rest p ts l =
     let d = (whole_decimal (suc j) (omega arith)).are.1 in
     let e = (whole_decimal j (omega arith)).are.1 in
     let q = after p (numbered_line j) in
     subst (λ t. Lexes p t (rule_tokens p (suc j) ts)) (sym (append_assoc (rule (j + 2) (suc j) j) (rules j) rest))
-    (pieces_lex (numbered_line j) (whole_decimal (j + 2) (omega arith), (d, (whole_zero, (d, (whole_thousand, (e, tt)))))) refl (rules j ++ rest) p (rule_tokens q j ts) (rules_lex j (omega arith) rest q ts l))
+    (pieces_lex (numbered_line j) (whole_decimal (j + 2) (omega arith), (d, (whole_zero, (d, (whole_thousand, (e, tt)))))) refl (rules j ++ rest) p
+    (rule_tokens q j ts) (rules_lex j (omega arith) rest q ts l))
 
 end_lexes : (k : ℕ) → k ≤ 100000 → (p : Place) → Lexes p (first_rule ++ (check k ++ [])) (end_tokens p k)
 end_lexes k h p =
     let d = (whole_decimal k h).are.1 in
     let q = after p first_line in
-    pieces_lex first_line (whole_one, (zero_digit, (whole_zero, (zero_digit, (whole_thousand, tt))))) refl (check k ++ []) p (tokens_before q (check_line (decimal k)) [])
+    pieces_lex first_line (whole_one, (zero_digit, (whole_zero, (zero_digit, (whole_thousand, tt))))) refl (check k ++ []) p
+    (tokens_before q (check_line (decimal k)) [])
     (pieces_lex (check_line (decimal k)) (one_digit, (whole_one, (d, (whole_zero, (one_digit, tt))))) refl [] q [] end)
 
 -- The tokens of the rule base of `large N`.

@@ -23,7 +23,8 @@ codes_until zero = []
 codes_until (suc k) = codes_until k ++ (code_name k ∷ [])
 
 pub differ : (m j : ℕ) → j < m → m ≤ 100000 → bytes_eq (decimal m) (decimal j) ≡ false
-differ m j l h = cases (bytes_eq (decimal m) (decimal j)) (λ e. let f = decimal_injective m j (omega arith) (omega arith) (same (decimal m) (decimal j) e) in absurd (omega arith)) (λ e. e)
+differ m j l h = cases (bytes_eq (decimal m) (decimal j)) (λ e. let f = decimal_injective m j (omega arith) (omega arith) (same (decimal m) (decimal j) e) in
+    absurd (omega arith)) (λ e. e)
 
 pub new_input : (m k : ℕ) → k ≤ m → m ≤ 100000 → has (input_name m) (names k) ≡ false
 new_input m zero l h = refl

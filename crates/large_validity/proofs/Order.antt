@@ -54,4 +54,5 @@ base_acyclic p n =
     let q = declared_after p n in
     let r = rules_after q (n - 1) in
     let first : ReadsBefore (first_cell r) = λ y h. (let e = read_maximum 0 y h in omega arith) in
-    acyclic (base_of p n) (λ x y h. among_before (cell_definitions q (n - 1) ++ (first_cell r ∷ [])) (ruled_before q (n - 1) (first_cell r ∷ []) (first, tt)) x y h)
+    acyclic (base_of p n) (λ x y h. among_before (cell_definitions q (n - 1) ++ (first_cell r ∷ [])) (ruled_before q (n - 1) (first_cell r ∷ []) (first, tt)) x
+    y h)

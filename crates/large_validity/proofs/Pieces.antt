@@ -1,5 +1,6 @@
 -- Texts as lists of pieces, each a gap or the spelling of a token, and the tokens of such a text.
-use Rattle.std.proofs.Common.{◌≡◌, ◌≢◌, ◌⊎◌, ◌==◌, ℕ, ℤ, ◌<◌, ◌≤◌, Bool, true, false, cond, nat_le, nat_lt, pos, Err, append_assoc, ◌&&◌, ◌||◌, not, List, [], ◌∷◌, ◌++◌, length, Ok, refl, sym, ap, ◌∙◌, subst, arith, inl, inr}
+use Rattle.std.proofs.Common.{◌≡◌, ◌≢◌, ◌⊎◌, ◌==◌, ℕ, ℤ, ◌<◌, ◌≤◌, Bool, true, false, cond, nat_le, nat_lt, pos, Err, append_assoc, ◌&&◌, ◌||◌, not, List, []}
+use Rattle.std.proofs.Common.{◌∷◌, ◌++◌, length, Ok, refl, sym, ap, ◌∙◌, subst, arith, inl, inr}
 use Rattle.std.specs.List.{AllByRecursion}
 use Rattle.std.specs.Str.{bytes_eq}
 use Rattle.std.specs.Char.{is_ascii_digit}
@@ -303,10 +304,12 @@ digits_test [] h = absurd (h.0 refl)
 digits_test (b ∷ t) h = and-both (only_digits (b ∷ t)) _ (only_digits_test (b ∷ t) h.1) (lt-ltb 0 (length (b ∷ t)) (omega arith))
 
 pub read_amount : (d : List ℕ) → IsWhole d → amount_read (text_value d) ≡ Ok (amount d)
-read_amount d h = ap amount_read (text_value-number d (millionths_of d []) (number_value-digits d (digits_test d h.are))) ∙ ap (λ b. cond b (Ok (amount d)) (Err TooGreat)) (le-leb _ _ h.most)
+read_amount d h = ap amount_read (text_value-number d (millionths_of d []) (number_value-digits d (digits_test d h.are)))
+    ∙ ap (λ b. cond b (Ok (amount d)) (Err TooGreat)) (le-leb _ _ h.most)
 
 -- one piece
-pub piece_lexes : (x : Piece) (P : Type 0) → Holds x P → (rest : List ℕ) (p : Place) (ts : List Token) → is_set x ≡ true → fits x (first rest) ≡ true → Lexes (behind (spelling x) p) rest ts → Lexes p (spelling x ++ rest) (before_tokens p x ts)
+pub piece_lexes : (x : Piece) (P : Type 0) → Holds x P → (rest : List ℕ) (p : Place) (ts : List Token) → is_set x ≡ true → fits x (first rest) ≡ true
+    → Lexes (behind (spelling x) p) rest ts → Lexes p (spelling x ++ rest) (before_tokens p x ts)
 piece_lexes space P h rest p ts s f l = gap (longest_blank (32 ∷ rest) 32 rest refl (inl refl)) (inl (32, inl refl, refl)) l
 piece_lexes feed P h rest p ts s f l = gap (longest_blank (10 ∷ rest) 10 rest refl (inr (inr (inr refl)))) (inl (10, inr (inr (inr refl)), refl)) l
 piece_lexes (plain t) P h rest p ts s f l =
@@ -324,13 +327,15 @@ piece_lexes (named c d) P h rest p ts s f l =
     let w = capital_word c d (least 65 c m.0) (least c 90 m.1) h.0 in
     token (longest_of (t ++ rest) t rest (longest_word (t ++ rest) t rest refl w (stops rest f))) (a_word w (not_reserved t (not_true _ k.1))) l
 piece_lexes (digits d) P h rest p ts s f l =
-    token (longest_of (d ++ rest) d rest (longest_whole (d ++ rest) d rest refl h.0.are (stops rest f) (no_decimals rest f))) (a_number (inl h.0.are) (read_amount d h.0)) l
+    token (longest_of (d ++ rest) d rest (longest_whole (d ++ rest) d rest refl h.0.are (stops rest f) (no_decimals rest f)))
+    (a_number (inl h.0.are) (read_amount d h.0)) l
 piece_lexes (quoted inside) P h rest p ts s f l =
     let all = unquoted inside s in
     token (longest_quoted ((quote ∷ (inside ++ quote ∷ [])) ++ rest) inside rest refl all) (a_text (all, refl)) l
 piece_lexes (mark g) P h rest p ts s f l =
     let o = one_byte (sign_spelling g) s in
-    token (subst (λ t. Longest (sign_spelling g ++ rest) t rest) (sym o.1) (longest_one (sign_spelling g ++ rest) o.0 rest g (ap (λ t. t ++ rest) o.1) o.1 (no_two o.0 rest f))) (a_sign refl) l
+    token (subst (λ t. Longest (sign_spelling g ++ rest) t rest) (sym o.1) (longest_one (sign_spelling g ++ rest) o.0 rest g (ap (λ t. t ++ rest) o.1) o.1
+    (no_two o.0 rest f))) (a_sign refl) l
 
 small_some : (t : List ℕ) → is_small_word t ≡ true → t ≢ []
 small_some [] h e = cc
@@ -371,7 +376,8 @@ next_set y [] h = (ends_set y h 0).0
 next_set y (x ∷ xs) h = (both _ _ (both _ _ h).0).0
 
 -- The bytes of pieces, and whatever stands after them, have their tokens before those of the rest.
-pub pieces_lex : (xs : List Piece) → AllHold xs → are_set xs ≡ true → (rest : List ℕ) (p : Place) (ts : List Token) → Lexes (after p xs) rest ts → Lexes p (text_of xs ++ rest) (tokens_before p xs ts)
+pub pieces_lex : (xs : List Piece) → AllHold xs → are_set xs ≡ true → (rest : List ℕ) (p : Place) (ts : List Token) → Lexes (after p xs) rest ts
+    → Lexes p (text_of xs ++ rest) (tokens_before p xs ts)
 pieces_lex [] h s rest p ts l = l
 pieces_lex (x ∷ []) h s rest p ts l =
     let k = ends_set x s (first rest) in

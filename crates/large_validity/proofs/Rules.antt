@@ -1,5 +1,6 @@
 -- The rules of the base of `large N` without loops: no fault, and the same terms.
-use Rattle.std.proofs.Common.{◌≡◌, ℕ, zero, suc, ◌+◌, ◌-◌, ◌*◌, ◌<◌, ◌≤◌, false, cond, nat_le, List, [], ◌∷◌, ◌++◌, replicate, codes, decimal, Option, Some, None, refl, ap, ◌∙◌, arith}
+use Rattle.std.proofs.Common.{◌≡◌, ℕ, zero, suc, ◌+◌, ◌-◌, ◌*◌, ◌<◌, ◌≤◌, false, cond, nat_le, List, [], ◌∷◌, ◌++◌, replicate, codes, decimal, Option, Some}
+use Rattle.std.proofs.Common.{None, refl, ap, ◌∙◌, arith}
 use Rattle.std.specs.Prelude.{filter, slice_index_or, unwrap_or}
 use Rattle.std.specs.List.{AllByRecursion, list_any, flat_map}
 use Rattle.std.specs.Option.{option_or}
@@ -26,7 +27,8 @@ use Rattle.index_expand.specs.Faults.{expand_fault, too_many}
 use Rattle.large_validity.proofs.Numerals.{whole_decimal, zero_digit}
 use Rattle.large_validity.proofs.Pieces.{amount, after}
 use Rattle.large_validity.proofs.Lines.{first_line, declared_after, rules_after, numbered_line}
-use Rattle.large_validity.proofs.Items.{formula_place, maximum_term, sum_term, rule_item, the_check, input_place, other_place, verification_place, condition_place, checked_place, declared_items, numbered_item, rule_items, first_item, end_items, base_items}
+use Rattle.large_validity.proofs.Items.{formula_place, maximum_term, sum_term, rule_item, the_check, input_place, other_place, verification_place}
+use Rattle.large_validity.proofs.Items.{condition_place, checked_place, declared_items, numbered_item, rule_items, first_item, end_items, base_items}
 use Rattle.large_validity.proofs.Variables.{error_place}
 
 abbrev pub iliad : List ℕ
@@ -76,7 +78,8 @@ maximum_bound s k p h = let a = word_bound s 82 k p refl h in λ i. (a i ++ []) 
 sum_bound : (s : Scope) (k j : List ℕ) (p q : Place) → AllByRecursion IsDigit k → AllByRecursion IsDigit j → term_faults s (sum_term k j p q) ≡ []
 sum_bound s k j p q h g = let a = maximum_bound s k p h in let b = word_bound s 84 j q refl g in λ i. a i ++ (b i ++ [])
 
-rule_bound : (n k : List ℕ) (p q : Place) (t : Syntax) → AllByRecursion IsDigit k → ((s : Scope) → term_faults s t ≡ []) → item_faults (rule_item n k p q t) ≡ []
+rule_bound : (n k : List ℕ) (p q : Place) (t : Syntax) → AllByRecursion IsDigit k → ((s : Scope) → term_faults s t ≡ [])
+    → item_faults (rule_item n k p q t) ≡ []
 rule_bound n k p q t h g = let a = word_bound no_scope 84 k q refl h in let b = g no_scope in λ i. (a i ++ b i) ++ []
 
 check_bound : (k : List ℕ) (p : Place) → AllByRecursion IsDigit k → item_faults (last_check k p) ≡ []
@@ -108,7 +111,8 @@ numbered_bound : (q : Place) (j : ℕ) → suc j < 100000 → item_faults (numbe
 numbered_bound q j h =
     let k = (whole_decimal (suc j) (omega arith)).are.1 in
     let i = (whole_decimal j (omega arith)).are.1 in
-    rule_bound (decimal (j + 2)) (decimal (suc j)) q (target_place q j) (numbered_term q j) k (λ s. sum_bound s (decimal (suc j)) (decimal j) (read_place q j) (further_place q j) k i)
+    rule_bound (decimal (j + 2)) (decimal (suc j)) q (target_place q j) (numbered_term q j) k
+    (λ s. sum_bound s (decimal (suc j)) (decimal j) (read_place q j) (further_place q j) k i)
 
 first_bound : (r : Place) → item_faults (first_item r) ≡ []
 first_bound r = rule_bound (codes "1") (codes "0") r (first_place r) (first_term r) zero_digit (λ s. maximum_bound s (codes "0") (first_read r) zero_digit)
@@ -121,7 +125,8 @@ ruled_bound q (suc j) xs l =
 
 -- ---- parts
 
-ruled_parts : (d : Declared) (q : Place) (n before : ℕ) (xs : List Item) → before + 8 * n ≤ 2000000 → too_many d before (rule_items q n ++ xs) ≡ too_many d (before + 8 * n) xs
+ruled_parts : (d : Declared) (q : Place) (n before : ℕ) (xs : List Item) → before + 8 * n ≤ 2000000
+    → too_many d before (rule_items q n ++ xs) ≡ too_many d (before + 8 * n) xs
 ruled_parts d q zero before xs h = let e : before ≡ before + 8 * 0 = omega arith in ap (λ m. too_many d m xs) e
 ruled_parts d q (suc j) before xs h =
     let r = after q (numbered_line j) in
@@ -130,7 +135,8 @@ ruled_parts d q (suc j) before xs h =
     ∙ ruled_parts d r j (before + 8) xs (omega arith)
     ∙ ap (λ m. too_many d m xs) e
 
-end_parts : (d : Declared) (r : Place) (k : List ℕ) (p : Place) (before : ℕ) → before + 10 ≤ 2000000 → too_many d before (first_item r ∷ last_check k p ∷ []) ≡ None
+end_parts : (d : Declared) (r : Place) (k : List ℕ) (p : Place) (before : ℕ) → before + 10 ≤ 2000000
+    → too_many d before (first_item r ∷ last_check k p ∷ []) ≡ None
 end_parts d r k p before h =
     ap (λ b. cond b (Some (TooManyParts r)) (too_many d (before + 6) (last_check k p ∷ []))) (le-ltb 2000000 (before + 6) (omega arith))
     ∙ ap (λ b. cond b (Some (TooManyParts (verification_place p))) None) (le-ltb 2000000 (before + 6 + 4) (omega arith))
@@ -147,7 +153,8 @@ base_expands p n d some few =
     ruled_bound q (n - 1) last (omega arith)
     ∙ ap (λ fs. fs ++ (item_faults (last_check k end) ++ [])) (first_bound r)
     ∙ ap (λ fs. fs ++ []) (check_bound k end (whole_decimal (n - 1) (omega arith)).are.1) in
-    let parts : too_many d 0 (rules_and_check p n) ≡ None = ruled_parts d q (n - 1) 0 last (omega arith) ∙ end_parts d r k end (0 + 8 * (n - 1)) (omega arith) in
+    let parts : too_many d 0 (rules_and_check p n) ≡ None = ruled_parts d q (n - 1) 0 last (omega arith)
+    ∙ end_parts d r k end (0 + 8 * (n - 1)) (omega arith) in
     ap (λ l. option_or (least None (flat_map item_faults l)) (too_many d 0 l)) (counted p n)
     ∙ ap (λ fs. option_or (least None fs) (too_many d 0 (rules_and_check p n))) faults
     ∙ parts
@@ -166,7 +173,8 @@ same_word (b ∷ w) = ap (λ o. unwrap_or o (b ∷ []) ++ replaced no_letters w)
 same_maximum : (l : Letters) (k : List ℕ) (p : Place) → replaced l (82 ∷ k) ≡ 82 ∷ k → expanded None l (maximum_term k p) ≡ maximum_term k p
 same_maximum l k p e = rw e refl
 
-same_sum : (l : Letters) (k j : List ℕ) (p q : Place) → replaced l (82 ∷ k) ≡ 82 ∷ k → replaced l (84 ∷ j) ≡ 84 ∷ j → expanded None l (sum_term k j p q) ≡ sum_term k j p q
+same_sum : (l : Letters) (k j : List ℕ) (p q : Place) → replaced l (82 ∷ k) ≡ 82 ∷ k → replaced l (84 ∷ j) ≡ 84 ∷ j
+    → expanded None l (sum_term k j p q) ≡ sum_term k j p q
 same_sum l k j p q e f = rw (e, f) refl
 
 -- ---- the expansion
@@ -197,7 +205,8 @@ definition_with target term place = record { target = target; slot = Whole; term
 numbered_defined : (d : Declared) (q : Place) (j : ℕ) → item_definitions d (numbered_item q j) ≡ numbered_definition q j ∷ []
 numbered_defined d q j =
     let a = same_word (84 ∷ decimal (suc j)) in
-    let b = same_sum no_letters (decimal (suc j)) (decimal j) (read_place q j) (further_place q j) (same_word (82 ∷ decimal (suc j))) (same_word (84 ∷ decimal j)) in
+    let b = same_sum no_letters (decimal (suc j)) (decimal j) (read_place q j) (further_place q j) (same_word (82 ∷ decimal (suc j)))
+    (same_word (84 ∷ decimal j)) in
     λ i. definition_with (a i) (b i) (target_place q j) ∷ []
 
 first_defined : (d : Declared) (r : Place) → item_definitions d (first_item r) ≡ first_definition r ∷ []
@@ -208,13 +217,20 @@ first_defined d r =
 
 condition_stated : (k : List ℕ) (e : Place) → item_conditions (last_check k e) ≡ the_condition k e ∷ []
 condition_stated k e = let a = same_word (84 ∷ k) in
-    λ i. record { verif = codes "1"; error = 69 ∷ codes "1"; term = two ops.Lt (word_term (a i) (checked_place (si_place e))) (lit (Num (amount (codes "0")))); place = si_place e } ∷ []
+    λ i. record {
+      verif = codes "1";
+      error = 69 ∷ codes "1";
+      term = two ops.Lt (word_term (a i) (checked_place (si_place e))) (lit (Num (amount (codes "0"))));
+      place = si_place e;
+    } ∷ []
 
-ruled_defined : (d : Declared) (q : Place) (n : ℕ) (xs : List Item) → flat_map (item_definitions d) (rule_items q n ++ xs) ≡ plain_definitions q n ++ flat_map (item_definitions d) xs
+ruled_defined : (d : Declared) (q : Place) (n : ℕ) (xs : List Item) → flat_map (item_definitions d) (rule_items q n ++ xs) ≡ plain_definitions q n
+    ++ flat_map (item_definitions d) xs
 ruled_defined d q zero xs = refl
 ruled_defined d q (suc j) xs =
     let r = after q (numbered_line j) in
-    ap (λ l. l ++ flat_map (item_definitions d) (rule_items r j ++ xs)) (numbered_defined d q j) ∙ ap (λ l. numbered_definition q j ∷ l) (ruled_defined d r j xs)
+    ap (λ l. l ++ flat_map (item_definitions d) (rule_items r j ++ xs)) (numbered_defined d q j)
+    ∙ ap (λ l. numbered_definition q j ∷ l) (ruled_defined d r j xs)
 
 ruled_conditions : (q : Place) (n : ℕ) (xs : List Item) → flat_map item_conditions (rule_items q n ++ xs) ≡ flat_map item_conditions xs
 ruled_conditions q zero xs = refl
@@ -235,7 +251,8 @@ base_expansion p n d =
     let end = after r first_line in
     let last = first_item r ∷ last_check k end ∷ [] in
     let a : flat_map (item_definitions d) (filter (counts_in iliad) (base_items p n)) ≡ plain_definitions q (n - 1) ++ (first_definition r ∷ []) =
-    ap (flat_map (item_definitions d)) (counted p n) ∙ ruled_defined d q (n - 1) last ∙ ap (λ l. plain_definitions q (n - 1) ++ (l ++ [])) (first_defined d r) in
+    ap (flat_map (item_definitions d)) (counted p n) ∙ ruled_defined d q (n - 1) last
+    ∙ ap (λ l. plain_definitions q (n - 1) ++ (l ++ [])) (first_defined d r) in
     let b : flat_map item_conditions (filter (counts_in iliad) (base_items p n)) ≡ the_condition k end ∷ [] =
     ap (flat_map item_conditions) (counted p n) ∙ ruled_conditions q (n - 1) last ∙ ap (λ l. l ++ []) (condition_stated k end) in
     λ i. record { definitions = a i; conditions = b i }

@@ -27,7 +27,13 @@ abbrev pub the_text : ℕ → Text
 the_text n = record { name = base_name; bytes = base_text n }
 
 text_meaning : (n : ℕ) → 1 ≤ n → n ≤ 100000 → SaysItems 0 (the_text n) (base_items start n)
-text_meaning n some few = record { tokens = base_tokens start n; lexed = base_lexes n some few start; shallow = base_shallow n start; spelled = base_spelled n some few start }
+text_meaning n some few = record {
+  tokens = base_tokens start n;
+  lexed = base_lexes n some few start;
+  shallow = base_shallow n start;
+  spelled = base_spelled n
+      some few start;
+}
 
 texts_mean : (n : ℕ) → 1 ≤ n → n ≤ 100000 → SayAll 0 (the_text n ∷ []) (base_items start n)
 texts_mean n some few = subst (SayAll 0 (the_text n ∷ [])) (append-nil (base_items start n)) (a_file (text_meaning n some few) no_files)

@@ -105,7 +105,8 @@ no_errors_ruled q zero xs = refl
 no_errors_ruled q (suc j) xs = no_errors_ruled (after q (numbered_line j)) j xs
 
 made : (vs ws : List VariableItem) (us : List Variable) (es fs : List ErrorItem) → vs ≡ ws → placed_from 0 ws ≡ us → es ≡ fs
-    → (let left : Declared = record { variables = placed_from 0 vs; errors = es } in left) ≡ (let right : Declared = record { variables = us; errors = fs } in right)
+    → (let left : Declared = record { variables = placed_from 0 vs; errors = es } in left) ≡ (let right : Declared = record { variables = us; errors = fs } in
+    right)
 made vs ws us es fs e f g = let h : placed_from 0 vs ≡ us = ap (placed_from 0) e ∙ f in λ i. record { variables = h i; errors = g i }
 
 -- What the items declare.
@@ -115,10 +116,15 @@ base_declares p n =
     let r = rules_after q (n - 1) in
     let last = first_item r ∷ end_items (decimal (n - 1)) (after r first_line) in
     let e : variables_of (base_items p n) ≡ variable_items p n =
-    filter_map-append variable_in (declared_items p n) (rule_items q (n - 1) ++ last) ∙ ap (λ l. variables_of (declared_items p n) ++ l) (no_variables_ruled q (n - 1) last) ∙ append-nil (variables_of (declared_items p n)) ∙ items_declared p n in
+    filter_map-append variable_in (declared_items p n) (rule_items q (n - 1) ++ last)
+    ∙ ap (λ l. variables_of (declared_items p n) ++ l) (no_variables_ruled q (n - 1) last) ∙ append-nil (variables_of (declared_items p n))
+    ∙ items_declared p n in
     let f : errors_of (base_items p n) ≡ error_of (error_place p n) ∷ [] =
-    filter_map-append error_in (declared_items p n) (rule_items q (n - 1) ++ last) ∙ ap (λ l. errors_of (declared_items p n) ++ l) (no_errors_ruled q (n - 1) last) ∙ ap (λ l. l ++ (error_of (error_place p n) ∷ [])) (no_errors_declared p n) in
-    made (variables_of (base_items p n)) (variable_items p n) (variables p n) (errors_of (base_items p n)) (error_of (error_place p n) ∷ []) e (placed_variables p n) f
+    filter_map-append error_in (declared_items p n) (rule_items q (n - 1) ++ last)
+    ∙ ap (λ l. errors_of (declared_items p n) ++ l) (no_errors_ruled q (n - 1) last)
+    ∙ ap (λ l. l ++ (error_of (error_place p n) ∷ [])) (no_errors_declared p n) in
+    made (variables_of (base_items p n)) (variable_items p n) (variables p n) (errors_of (base_items p n)) (error_of (error_place p n) ∷ []) e
+    (placed_variables p n) f
 
 -- ---- names and codes
 

@@ -10,4 +10,10 @@ large_requests n = joined (codes "T" ∷ decimal (n - 1) ∷ new_line ∷ [])
 
 -- The source: the one generated rule file, its application, no driver, and the last sum as what is asked for.
 abbrev pub large_source : ℕ → Source
-large_source n = record { application = codes "iliad"; texts = record { name = base_name; bytes = base_text n } ∷ []; driver = None; requests = Some (large_requests n) }
+large_source n = record {
+  application = codes "iliad";
+  texts = record { name = base_name; bytes = base_text n } ∷ [];
+  driver = None;
+  requests = Some
+      (large_requests n);
+}

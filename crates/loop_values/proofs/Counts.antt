@@ -1,5 +1,6 @@
 -- Counts that stop at a greatest one.
-use Rattle.std.proofs.Common.{◌≡◌, ℕ, zero, suc, ◌+◌, ◌*◌, ◌<◌, ◌≤◌, min, List, [], ◌∷◌, ◌++◌, length, length-append, drop, get_or, arith, refl, sym, ap, ◌∙◌, ⊎_elim}
+use Rattle.std.proofs.Common.{◌≡◌, ℕ, zero, suc, ◌+◌, ◌*◌, ◌<◌, ◌≤◌, min, List, [], ◌∷◌, ◌++◌, length, length-append, drop, get_or, arith, refl, sym, ap, ◌∙◌}
+use Rattle.std.proofs.Common.{⊎_elim}
 use Rattle.std.proofs.lemmas.Bool.{cases_lt}
 use Rattle.std.proofs.Math.Seq.{drop-cons}
 use Rattle.std.specs.List.{flat_map}
@@ -41,7 +42,8 @@ times_more c n r m next all inv e =
     ∙ inv
 
 -- what is left of indexes, one after the other
-pub count_next : (indexes : List Index) (i : ℕ) (x : Index) → i < length indexes → x ≡ get_or indexes i x → instance_count (drop i indexes) ≡ length (index_values x) * instance_count (drop (i + 1) indexes)
+pub count_next : (indexes : List Index) (i : ℕ) (x : Index) → i < length indexes → x ≡ get_or indexes i x
+    → instance_count (drop i indexes) ≡ length (index_values x) * instance_count (drop (i + 1) indexes)
 count_next indexes i x l at = let one : suc i ≡ i + 1 = omega arith in ap instance_count (drop-cons indexes i x l ∙ (λ k. sym at k ∷ drop (one k) indexes))
 
 regroup : (a b d : ℕ) → a * (b * d) ≡ (a * b) * d
@@ -49,15 +51,18 @@ regroup a b d = omega arith
 
 pub count_append : (xs ys : List Index) → instance_count (xs ++ ys) ≡ instance_count xs * instance_count ys
 count_append [] ys = omega arith
-count_append (x ∷ xs) ys = ap (λ n. length (index_values x) * n) (count_append xs ys) ∙ regroup (length (index_values x)) (instance_count xs) (instance_count ys)
+count_append (x ∷ xs) ys = ap (λ n. length (index_values x) * n) (count_append xs ys)
+    ∙ regroup (length (index_values x)) (instance_count xs) (instance_count ys)
 
 -- the instances of one header more
-pub headers_next : (headers : List Header) (i : ℕ) (x : Header) (c next m all : ℕ) → i < length headers → x ≡ get_or headers i x → min (c * instance_count (all_indexes (drop i headers))) m ≡ all → next ≡ min (c * instance_count x.indexes) m
+pub headers_next : (headers : List Header) (i : ℕ) (x : Header) (c next m all : ℕ) → i < length headers → x ≡ get_or headers i x
+    → min (c * instance_count (all_indexes (drop i headers))) m ≡ all → next ≡ min (c * instance_count x.indexes) m
     → min (next * instance_count (all_indexes (drop (i + 1) headers))) m ≡ all
 headers_next headers i x c next m all l at inv e =
     ap (λ n. min (n * instance_count (all_indexes (drop (i + 1) headers))) m) e
     ∙ min_times (c * instance_count x.indexes) (instance_count (all_indexes (drop (i + 1) headers))) m
-    ∙ ap (λ n. min n m) (sym (regroup c (instance_count x.indexes) (instance_count (all_indexes (drop (i + 1) headers)))) ∙ ap (λ n. c * n) (sym (count_append x.indexes (all_indexes (drop (i + 1) headers)))))
+    ∙ ap (λ n. min n m) (sym (regroup c (instance_count x.indexes) (instance_count (all_indexes (drop (i + 1) headers))))
+    ∙ ap (λ n. c * n) (sym (count_append x.indexes (all_indexes (drop (i + 1) headers)))))
     ∙ ap (λ hs. min (c * instance_count (all_indexes hs)) m) (sym here)
     ∙ inv
   where
@@ -71,4 +76,5 @@ same_lengths g (v ∷ vs) c h = length-append (g v) (flat_map g vs) ∙ (let her
 -- there are as many instances as the count says
 pub length_instances : (indexes : List Index) (letters : Letters) → length (instances indexes letters) ≡ instance_count indexes
 length_instances [] letters = refl
-length_instances (x ∷ xs) letters = same_lengths (λ value. instances xs (bind letters x.letter value)) (index_values x) (instance_count xs) (λ value. length_instances xs (bind letters x.letter value))
+length_instances (x ∷ xs) letters = same_lengths (λ value. instances xs (bind letters x.letter value)) (index_values x) (instance_count xs)
+    (λ value. length_instances xs (bind letters x.letter value))

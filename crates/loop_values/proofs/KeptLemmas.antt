@@ -21,23 +21,29 @@ hidden : (kept : List Index) (b : ℕ) (v : List ℕ) (letters : Letters) → bi
 hidden [] b v letters h = absurd (false≢true h)
 hidden (y ∷ ys) b v letters h =
     ⊎_elim
-    (λ (same : b ≡ y.letter). (λ k. flat_map (λ w. instances ys ((ap (λ c. set (set letters c (Some v)) y.letter (Some w)) same ∙ set-set letters y.letter (Some v) (Some w)) k)) (index_values y)))
+    (λ (same : b ≡ y.letter). (λ k. flat_map
+    (λ w. instances ys ((ap (λ c. set (set letters c (Some v)) y.letter (Some w)) same ∙ set-set letters y.letter (Some v) (Some w)) k)) (index_values y)))
     (λ (other : b ≡ y.letter → ⊥).
-    (λ k. flat_map (λ w. (ap (instances ys) (set_comm letters b y.letter (Some v) (Some w) other) ∙ hidden ys b v (bind letters y.letter w) (rest_true (eqb y.letter b) (binds b ys) (ne_eqb y.letter b (λ e. other (sym e))) h)) k) (index_values y)))
+    (λ k. flat_map (λ w. (ap (instances ys) (set_comm letters b y.letter (Some v) (Some w) other)
+    ∙ hidden ys b v (bind letters y.letter w) (rest_true (eqb y.letter b) (binds b ys) (ne_eqb y.letter b (λ e. other (sym e))) h)) k) (index_values y)))
     (cases_eq b y.letter)
 
-hidden_value : (kept : List Index) (b : ℕ) (values : List (List ℕ)) (letters : Letters) → length values ≡ 1 → binds b kept ≡ true → flat_map (λ v. instances kept (bind letters b v)) values ≡ instances kept letters
+hidden_value : (kept : List Index) (b : ℕ) (values : List (List ℕ)) (letters : Letters) → length values ≡ 1 → binds b kept ≡ true
+    → flat_map (λ v. instances kept (bind letters b v)) values ≡ instances kept letters
 hidden_value kept b [] letters one h = absurd (omega arith)
 hidden_value kept b (v ∷ []) letters one h = append-nil (instances kept (bind letters b v)) ∙ hidden kept b v letters h
 hidden_value kept b (v ∷ w ∷ rest) letters one h = absurd (omega arith)
 
-pub left_out : (kept : List Index) (bound : List Bool) (x : Index) (all : List Index) → AreKept kept bound all → x.letter < 256 → get_or bound x.letter false ≡ true → length (index_values x) ≡ 1 → AreKept kept bound (x ∷ all)
+pub left_out : (kept : List Index) (bound : List Bool) (x : Index) (all : List Index) → AreKept kept bound all → x.letter < 256
+    → get_or bound x.letter false ≡ true → length (index_values x) ≡ 1 → AreKept kept bound (x ∷ all)
 left_out kept bound x all k small b one = record {
-  same = λ letters. sym (hidden_value kept x.letter (index_values x) letters one (k.marked x.letter small b)) ∙ (λ i. flat_map (λ v. k.same (bind letters x.letter v) i) (index_values x));
+  same = λ letters. sym (hidden_value kept x.letter (index_values x) letters one (k.marked x.letter small b))
+      ∙ (λ i. flat_map (λ v. k.same (bind letters x.letter v) i) (index_values x));
   marked = k.marked;
 }
 
-pub put_first : (kept new : List Index) (bound : List Bool) (x : Index) (all : List Index) → AreKept kept bound all → new ≡ x ∷ kept → AreKept new (set bound x.letter true) (x ∷ all)
+pub put_first : (kept new : List Index) (bound : List Bool) (x : Index) (all : List Index) → AreKept kept bound all → new ≡ x ∷ kept
+    → AreKept new (set bound x.letter true) (x ∷ all)
 put_first kept new bound x all k e = record {
   same = λ letters. ap (λ ys. instances ys letters) e ∙ (λ i. flat_map (λ v. k.same (bind letters x.letter v) i) (index_values x));
   marked = λ b small h.
@@ -57,11 +63,15 @@ kept_start kept headers e = record {
 }
 
 -- one more from the end
-pub front_index : (indexes all : List Index) (left : ℕ) (x : Index) → left < length indexes → x ≡ get_or indexes left x → drop left indexes ++ all ≡ x ∷ (drop (left + 1) indexes ++ all)
-front_index indexes all left x l at = let one : suc left ≡ left + 1 = omega arith in (λ k. (drop-cons indexes left x l ∙ (λ j. sym at j ∷ drop (one j) indexes)) k ++ all)
+pub front_index : (indexes all : List Index) (left : ℕ) (x : Index) → left < length indexes → x ≡ get_or indexes left x
+    → drop left indexes ++ all ≡ x ∷ (drop (left + 1) indexes ++ all)
+front_index indexes all left x l at = let one : suc left ≡ left + 1 = omega arith in (λ k. (drop-cons indexes left x l ∙ (λ j. sym at j ∷ drop (one j) indexes))
+    k ++ all)
 
-pub front_header : (headers : List Header) (left : ℕ) (x : Header) → left < length headers → x ≡ get_or headers left x → all_indexes (drop left headers) ≡ x.indexes ++ all_indexes (drop (left + 1) headers)
-front_header headers left x l at = let one : suc left ≡ left + 1 = omega arith in ap all_indexes (drop-cons headers left x l ∙ (λ j. sym at j ∷ drop (one j) headers))
+pub front_header : (headers : List Header) (left : ℕ) (x : Header) → left < length headers → x ≡ get_or headers left x
+    → all_indexes (drop left headers) ≡ x.indexes ++ all_indexes (drop (left + 1) headers)
+front_header headers left x l at = let one : suc left ≡ left + 1 = omega arith in ap all_indexes (drop-cons headers left x l
+    ∙ (λ j. sym at j ∷ drop (one j) headers))
 
 pub kept_none : (kept : List Index) → kept ≡ [] → AreKept kept (replicate 256 false) []
 kept_none kept e = record {

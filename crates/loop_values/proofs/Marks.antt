@@ -24,11 +24,15 @@ one_more n =
     (λ none. or_from (ltb 1 n) (ltb 0 n) (le-ltb 1 n (omega arith)) (le-ltb 0 n none) ∙ sym (le-ltb 1 (n + 1) (omega arith)))
     (cases_lt 0 n)
 
-uses_yes : (indexes : List Index) (i : ℕ) (x : Index) (b : ℕ) → i < length indexes → x ≡ get_or indexes i x → b ≡ x.letter → uses b (take (i + 1) indexes) ≡ uses b (take i indexes) + 1
-uses_yes indexes i x b l at e = count_by_more_yes (λ index. index.letter == b) indexes i x l (ap (λ (y : Index). y.letter == b) (sym at) ∙ eq-eqb x.letter b (sym e))
+uses_yes : (indexes : List Index) (i : ℕ) (x : Index) (b : ℕ) → i < length indexes → x ≡ get_or indexes i x → b ≡ x.letter
+    → uses b (take (i + 1) indexes) ≡ uses b (take i indexes) + 1
+uses_yes indexes i x b l at e = count_by_more_yes (λ index. index.letter == b) indexes i x l (ap (λ (y : Index). y.letter == b) (sym at)
+    ∙ eq-eqb x.letter b (sym e))
 
-uses_no : (indexes : List Index) (i : ℕ) (x : Index) (b : ℕ) → i < length indexes → x ≡ get_or indexes i x → (b ≡ x.letter → ⊥) → uses b (take (i + 1) indexes) ≡ uses b (take i indexes)
-uses_no indexes i x b l at e = count_by_more_no (λ index. index.letter == b) indexes i x l (ap (λ (y : Index). y.letter == b) (sym at) ∙ ne_eqb x.letter b (λ s. e (sym s)))
+uses_no : (indexes : List Index) (i : ℕ) (x : Index) (b : ℕ) → i < length indexes → x ≡ get_or indexes i x → (b ≡ x.letter → ⊥)
+    → uses b (take (i + 1) indexes) ≡ uses b (take i indexes)
+uses_no indexes i x b l at e = count_by_more_no (λ index. index.letter == b) indexes i x l (ap (λ (y : Index). y.letter == b) (sym at)
+    ∙ ne_eqb x.letter b (λ s. e (sym s)))
 
 once_more : (once : List Bool) (indexes : List Index) (i : ℕ) (x : Index) → i < length indexes → x ≡ get_or indexes i x → length once ≡ 256
     → ((b : ℕ) → b < 256 → get_or once b false ≡ ltb 0 (uses b (take i indexes)))

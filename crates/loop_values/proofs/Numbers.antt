@@ -1,5 +1,6 @@
 -- Numbers that digits spell, and the numbers between two.
-use Rattle.std.proofs.Common.{◌≡◌, ℕ, zero, suc, ◌+◌, ◌-◌, ◌*◌, ◌^◌, ◌<◌, ◌≤◌, List, [], ◌∷◌, length, map, take, get_or, ◌++◌, append_assoc, eqb, arith, refl, sym, ap, ◌∙◌}
+use Rattle.std.proofs.Common.{◌≡◌, ℕ, zero, suc, ◌+◌, ◌-◌, ◌*◌, ◌^◌, ◌<◌, ◌≤◌, List, [], ◌∷◌, length, map, take, get_or, ◌++◌, append_assoc, eqb, arith, refl}
+use Rattle.std.proofs.Common.{sym, ap, ◌∙◌}
 use Rattle.std.proofs.Math.Nat.{pow-suc, pow-le-pow_right}
 use Rattle.std.proofs.lemmas.Bool.{ne_eqb}
 use Rattle.std.specs.Prelude.{IsTrue}
@@ -19,7 +20,8 @@ digit_at (c ∷ cs) (suc i) h below = digit_at cs i (both _ _ h).1 (omega arith)
 pub digit_below : (ds : List ℕ) (i : ℕ) → IsTrue (only_digits ds) → i < length ds → get_or ds i 0 - 48 ≤ 9
 digit_below ds i h below = let d = digit_at ds i h below in omega (arith, digit_is (get_or ds i 0) d, digit_small (get_or ds i 0) d)
 
-pub number_more : (ds : List ℕ) (i n : ℕ) → IsTrue (only_digits ds) → i < length ds → n ≡ digits_value 10 (take i ds) → n * 10 + (get_or ds i 0 - 48) ≡ digits_value 10 (take (i + 1) ds)
+pub number_more : (ds : List ℕ) (i n : ℕ) → IsTrue (only_digits ds) → i < length ds → n ≡ digits_value 10 (take i ds)
+    → n * 10 + (get_or ds i 0 - 48) ≡ digits_value 10 (take (i + 1) ds)
 number_more ds i n h below e =
     let more = digits_value_more 10 ds i below in
     let digit = digit_is (get_or ds i 0) (digit_at ds i h below) in
@@ -47,7 +49,8 @@ pub map_range_next : {X : Type 0} (f : ℕ → X) (a end : ℕ) → a < end → 
 map_range_next f a end h = ap (map f) (range_next a end h)
 
 -- one more element of those that numbers from one on give
-pub range_push : {X : Type 0} (f : ℕ → X) (done next : List X) (x : X) (a end : ℕ) (all : List X) → a < end → done ++ map f (range_with_len a (end - a)) ≡ all → x ≡ f a → next ≡ done ++ x ∷ []
+pub range_push : {X : Type 0} (f : ℕ → X) (done next : List X) (x : X) (a end : ℕ) (all : List X) → a < end → done ++ map f (range_with_len a (end - a)) ≡ all
+    → x ≡ f a → next ≡ done ++ x ∷ []
     → next ++ map f (range_with_len (a + 1) (end - (a + 1))) ≡ all
 range_push f done next x a end all lt inv e p =
     ap (λ v. v ++ map f (range_with_len (a + 1) (end - (a + 1)))) p

@@ -4,7 +4,8 @@ use Rattle.m_ast.specs.declared.term.Node.{Node}
 use Rattle.m_ast.specs.declared.term.Node.TheVariants.{Lit, Named, X, Cell, Apply, Chain, Among, Loop}
 use Rattle.m_ast.specs.declared.term.Link.{Link}
 use Rattle.m_ast.specs.declared.term.Member.{Member}
-use Rattle.m_ast.specs.Syntax.{Syntax, lit, named, the_x, cell, apply, chain, among, loop, Terms, no_terms, a_term, Links, no_links, a_link, Members, no_members, a_member}
+use Rattle.m_ast.specs.Syntax.{Syntax, lit, named, the_x, cell, apply, chain, among, loop, Terms, no_terms, a_term, Links, no_links, a_link, Members}
+use Rattle.m_ast.specs.Syntax.{no_members, a_member}
 
 abbrev pub terms_of : List Syntax → Terms
 terms_of [] = no_terms

@@ -12,7 +12,8 @@ pub counting_first : (whole : ℕ) → IsCounting 0 whole whole
 counting_first whole = record { done = 0; is = omega arith; sum = omega arith }
 
 -- a piece more
-pub counting_more : (count some new piece rest left whole : ℕ) → left ≡ piece + rest → IsCounting count left whole → some ≡ counted_to_end piece → new ≡ min (count + some) (2 ^ 64 - 1)
+pub counting_more : (count some new piece rest left whole : ℕ) → left ≡ piece + rest → IsCounting count left whole → some ≡ counted_to_end piece
+    → new ≡ min (count + some) (2 ^ 64 - 1)
     → IsCounting new rest whole
 counting_more count some new piece rest left whole is counting of_piece added =
     let before = counting.is in
@@ -20,7 +21,8 @@ counting_more count some new piece rest left whole is counting of_piece added =
     record { done = counting.done + piece; is = omega (arith, before, of_piece, added); sum = omega (arith, sum, is) }
 
 -- one more, of which all is known
-pub counting_one : (count some new piece rest left whole : ℕ) → left ≡ piece + rest → IsCounting count left whole → some ≡ piece → new ≡ min (count + some) (2 ^ 64 - 1) → IsCounting new rest whole
+pub counting_one : (count some new piece rest left whole : ℕ) → left ≡ piece + rest → IsCounting count left whole → some ≡ piece
+    → new ≡ min (count + some) (2 ^ 64 - 1) → IsCounting new rest whole
 counting_one count some new piece rest left whole is counting of_piece added =
     let before = counting.is in
     let sum = counting.sum in

@@ -1,5 +1,6 @@
 -- Where nothing is read before it's written, what registers and slots hold at the start is no matter.
-use Rattle.std.proofs.Common.{◌≡◌, ◌≢◌, ℕ, zero, suc, ◌<◌, Bool, true, false, length, get_or, set, map, replicate, List, [], ◌∷◌, Option, None, Some, is_none, refl, sym, ◌∙◌, ap, subst, ⊎_elim, arith}
+use Rattle.std.proofs.Common.{◌≡◌, ◌≢◌, ℕ, zero, suc, ◌<◌, Bool, true, false, length, get_or, set, map, replicate, List, [], ◌∷◌, Option, None, Some, is_none}
+use Rattle.std.proofs.Common.{refl, sym, ◌∙◌, ap, subst, ⊎_elim, arith}
 use Rattle.std.specs.Prelude.{if◌then◌else◌, IsSome}
 use Rattle.std.specs.Option.{option_and_then, option_map, option_map_or}
 use Rattle.std.specs.List.{AllByRecursion}
@@ -29,13 +30,17 @@ use Rattle.m_batch.specs.inner.Ran.{Ran, stop_in, run_on, ran_from, ran_answer}
 
 -- ---- a run that has stopped
 
-stop_kept : (inputs pool : List Value) (packed : List Packed) (ran : Ran) (stop : Stop) → ran.stop ≡ Some stop → (ran_from inputs pool ran packed).stop ≡ Some stop
+stop_kept : (inputs pool : List Value) (packed : List Packed) (ran : Ran) (stop : Stop) → ran.stop ≡ Some stop
+    → (ran_from inputs pool ran packed).stop ≡ Some stop
 stop_kept inputs pool [] ran stop is = is
-stop_kept inputs pool (p ∷ packed) ran stop is = stop_kept inputs pool packed (run_on inputs pool ran p) stop (ap (λ (o : Option Stop). kept o (stop_in ran.registers p)) is)
+stop_kept inputs pool (p ∷ packed) ran stop is = stop_kept inputs pool packed (run_on inputs pool ran p) stop
+    (ap (λ (o : Option Stop). kept o (stop_in ran.registers p)) is)
 
-same_stop : (inputs pool : List Value) (packed : List Packed) (ran : Ran) (stop : Option Stop) → ran.stop ≡ stop → IsSome stop → ran_answer (ran_from inputs pool ran packed) ≡ ran_answer ran
+same_stop : (inputs pool : List Value) (packed : List Packed) (ran : Ran) (stop : Option Stop) → ran.stop ≡ stop → IsSome stop
+    → ran_answer (ran_from inputs pool ran packed) ≡ ran_answer ran
 same_stop inputs pool packed ran (Some stop) is some =
-    ap (λ (o : Option Stop). answer_of o (ran_from inputs pool ran packed).outputs) (stop_kept inputs pool packed ran stop is) ∙ ap (λ (o : Option Stop). answer_of o ran.outputs) (sym is)
+    ap (λ (o : Option Stop). answer_of o (ran_from inputs pool ran packed).outputs) (stop_kept inputs pool packed ran stop is)
+    ∙ ap (λ (o : Option Stop). answer_of o ran.outputs) (sym is)
 same_stop inputs pool packed ran None is some = absurd (cc some)
 
 -- it answers its stop, whatever follows
@@ -56,7 +61,8 @@ picked true None f k e = absurd (cc e)
 picked false o f k e = absurd (cc e)
 
 -- each instruction moves what is known to what the next one needs
-fault_next : (n : Counts) (s : State) (k : ℕ) (i : Instr) (is : List Instr) → fault_from n s k (i ∷ is) ≡ None → (t : State) × (moved i s ≡ Some t) × (fault_from n t (suc k) is ≡ None)
+fault_next : (n : Counts) (s : State) (k : ℕ) (i : Instr) (is : List Instr) → fault_from n s k (i ∷ is) ≡ None → (t : State) × (moved i s ≡ Some t)
+    × (fault_from n t (suc k) is ≡ None)
 fault_next n s k i is e = picked (has_numbers n s i) (moved i s) (λ t. fault_from n t (suc k) is) k e
 
 then_from : (o : Option ℕ) (f : ℕ → Option State) (t : State) → option_and_then f o ≡ Some t → (x : ℕ) × (o ≡ Some x) × (f x ≡ Some t)
@@ -109,13 +115,17 @@ output_set : (outputs : List (Option ℕ)) (rs ms : List Value) (k x : ℕ) (v w
     → (j y : ℕ) → get_or (set outputs k (Some x)) j None ≡ Some y → at (set rs k v) j ≡ at (set ms k w) j
 output_set outputs rs ms k x v w in_rs in_ms is h j y e =
     ⊎_elim
-    (λ (same : j ≡ k). subst (λ (i : ℕ). at (set rs k v) i ≡ at (set ms k w) i) (sym same) (get_or-set_same rs k v Undef in_rs ∙ is ∙ sym (get_or-set_same ms k w Undef in_ms)))
-    (λ (ne : j ≢ k). get_or-set_other rs k j v Undef ne ∙ h j y (sym (get_or-set_other outputs k j (Some x) None ne) ∙ e) ∙ sym (get_or-set_other ms k j w Undef ne))
+    (λ (same : j ≡ k). subst (λ (i : ℕ). at (set rs k v) i ≡ at (set ms k w) i) (sym same) (get_or-set_same rs k v Undef in_rs ∙ is
+    ∙ sym (get_or-set_same ms k w Undef in_ms)))
+    (λ (ne : j ≢ k). get_or-set_other rs k j v Undef ne ∙ h j y (sym (get_or-set_other outputs k j (Some x) None ne) ∙ e)
+    ∙ sym (get_or-set_other ms k j w Undef ne))
     (cases_eq j k)
 
 -- a node is computed
-agree_node : (used : List ℕ) (s : State) (m : Machine) (ran : Ran) (r : ℕ) (node : Node) (v w : Value) (stop : Option Stop) → Agree used s m ran → r < REGISTERS → v ≡ w
-    → Agree used (with_node r node s) (record m { registers = put m.registers r w }) (record { registers = set ran.registers r v; slots = ran.slots; outputs = ran.outputs; stop = stop })
+agree_node : (used : List ℕ) (s : State) (m : Machine) (ran : Ran) (r : ℕ) (node : Node) (v w : Value) (stop : Option Stop) → Agree used s m ran → r < REGISTERS
+    → v ≡ w
+    → Agree used (with_node r node s) (record m { registers = put m.registers r w })
+    (record { registers = set ran.registers r v; slots = ran.slots; outputs = ran.outputs; stop = stop })
 agree_node used s m ran r node v w stop h lt is = record {
   width = length-set ran.registers r v ∙ h.width;
   room = h.room;
@@ -127,9 +137,11 @@ agree_node used s m ran r node v w stop h lt is = record {
 }
 
 -- a slot is written
-slot_set : (used : List ℕ) (f : ℕ → Option ℕ) (cells : ℕ → Value) (ss : List Value) (k x : ℕ) (v w : Value) → AreDistinct used → length ss ≡ length used → k < length used → v ≡ w
+slot_set : (used : List ℕ) (f : ℕ → Option ℕ) (cells : ℕ → Value) (ss : List Value) (k x : ℕ) (v w : Value) → AreDistinct used → length ss ≡ length used
+    → k < length used → v ≡ w
     → ((d y : ℕ) → d < length used → f (get_or used d 0) ≡ Some y → at ss d ≡ cells (get_or used d 0))
-    → (d y : ℕ) → d < length used → put f (get_or used k 0) (Some x) (get_or used d 0) ≡ Some y → at (set ss k v) d ≡ put cells (get_or used k 0) w (get_or used d 0)
+    → (d y : ℕ) → d < length used → put f (get_or used k 0) (Some x) (get_or used d 0) ≡ Some y
+    → at (set ss k v) d ≡ put cells (get_or used k 0) w (get_or used d 0)
 slot_set used f cells ss k x v w apart room lt is h d y below e =
     ⊎_elim
     (λ (same : d ≡ k). subst (λ (j : ℕ). at (set ss k v) j ≡ put cells (get_or used k 0) w (get_or used j 0)) (sym same)
@@ -150,9 +162,11 @@ agree_act : (inputs pool : List Value) (used : List ℕ) (n : Counts) (p : Packe
     → IsPacked n.inputs n.outputs (length pool) (length used) p → length s.outputs ≡ n.outputs → moved (unpacked pool used p) s ≡ Some t → Agree used s m ran
     → Agree used t (act inputs (unpacked pool used p) m) (run_on inputs pool ran p)
 agree_act inputs pool used n (Take r k) s t m ran apart ok many e h =
-    subst (After inputs pool used (Take r k) m ran) (some-is _ t e) (agree_node used s m ran r (Input k) (at inputs k) (at inputs k) (kept ran.stop None) h ok.0 refl)
+    subst (After inputs pool used (Take r k) m ran) (some-is _ t e) (agree_node used s m ran r (Input k) (at inputs k) (at inputs k) (kept ran.stop None) h ok.0
+    refl)
 agree_act inputs pool used n (Lit r k) s t m ran apart ok many e h =
-    subst (After inputs pool used (Lit r k) m ran) (some-is _ t e) (agree_node used s m ran r (LitNode (at pool k)) (at pool k) (at pool k) (kept ran.stop None) h ok.0 refl)
+    subst (After inputs pool used (Lit r k) m ran) (some-is _ t e) (agree_node used s m ran r (LitNode (at pool k)) (at pool k) (at pool k) (kept ran.stop None)
+    h ok.0 refl)
 agree_act inputs pool used n (Do op r a b c) s t m ran apart ok many e h =
     let x = then_from (s.registers a) _ t e in
     let y = then_from (s.registers b) _ t x.2 in
@@ -178,7 +192,8 @@ agree_act inputs pool used n (Load r k) s t m ran apart ok many e h =
     subst (After inputs pool used (Load r k) m ran) x.2 (record {
       width = length-set ran.registers r (at ran.slots k) ∙ h.width;
       room = h.room;
-      registers = register_set s.registers m.registers ran.registers r x.0 (at ran.slots k) (m.slots (get_or used k 0)) (omega (arith, ok.0, h.width)) (h.slots k x.0 ok.1 x.1) h.registers;
+      registers = register_set s.registers m.registers ran.registers r x.0 (at ran.slots k) (m.slots (get_or used k 0)) (omega (arith, ok.0, h.width))
+          (h.slots k x.0 ok.1 x.1) h.registers;
       slots = h.slots;
       outputs = h.outputs;
       many = h.many;
@@ -187,7 +202,8 @@ agree_act inputs pool used n (Load r k) s t m ran apart ok many e h =
 agree_act inputs pool used n (Check g r over_only label) s t m ran apart ok many e h =
     let x = then_from (s.registers g) _ t e in
     let y = map_from (s.registers r) _ t x.2 in
-    subst (After inputs pool used (Check g r over_only label) m ran) y.2 (record { width = h.width; room = h.room; registers = h.registers; slots = h.slots; outputs = h.outputs; many = h.many; given = h.given })
+    subst (After inputs pool used (Check g r over_only label) m ran) y.2
+    (record { width = h.width; room = h.room; registers = h.registers; slots = h.slots; outputs = h.outputs; many = h.many; given = h.given })
 agree_act inputs pool used n (Output k r) s t m ran apart ok many e h =
     let x = map_from (s.registers r) _ t e in
     subst (After inputs pool used (Output k r) m ran) x.2 (record {
@@ -195,13 +211,15 @@ agree_act inputs pool used n (Output k r) s t m ran apart ok many e h =
       room = h.room;
       registers = h.registers;
       slots = h.slots;
-      outputs = output_set s.outputs ran.outputs m.outputs k x.0 (at ran.registers r) (m.registers r) (omega (arith, ok.0, many, h.many)) (omega (arith, ok.0, many, h.given)) (h.registers r x.0 x.1) h.outputs;
+      outputs = output_set s.outputs ran.outputs m.outputs k x.0 (at ran.registers r) (m.registers r) (omega (arith, ok.0, many, h.many))
+          (omega (arith, ok.0, many, h.given)) (h.registers r x.0 x.1) h.outputs;
       many = length-set ran.outputs k (at ran.registers r) ∙ h.many ∙ sym (length-set s.outputs k (Some x.0));
       given = length-set m.outputs k (m.registers r) ∙ h.given ∙ sym (length-set s.outputs k (Some x.0));
     })
 
 -- what an instruction stops is the same
-same_end : (inputs pool : List Value) (used : List ℕ) (p : Packed) (s t : State) (m : Machine) (ran : Ran) → moved (unpacked pool used p) s ≡ Some t → m.ended ≡ None → Agree used s m ran
+same_end : (inputs pool : List Value) (used : List ℕ) (p : Packed) (s t : State) (m : Machine) (ran : Ran) → moved (unpacked pool used p) s ≡ Some t
+    → m.ended ≡ None → Agree used s m ran
     → (act inputs (unpacked pool used p) m).ended ≡ stop_in ran.registers p
 unfolding check_stop
 same_end inputs pool used (Take r n) s t m ran e going h = going
@@ -212,7 +230,8 @@ same_end inputs pool used (Load r k) s t m ran e going h = going
 same_end inputs pool used (Check g r over_only label) s t m ran e going h =
     let x = then_from (s.registers g) _ t e in
     let y = map_from (s.registers r) _ t x.2 in
-    ap (λ v. check_stop v (m.registers r) over_only label) (sym (h.registers g x.0 x.1)) ∙ ap (λ v. check_stop (at ran.registers g) v over_only label) (sym (h.registers r y.0 y.1))
+    ap (λ v. check_stop v (m.registers r) over_only label) (sym (h.registers g x.0 x.1))
+    ∙ ap (λ v. check_stop (at ran.registers g) v over_only label) (sym (h.registers r y.0 y.1))
 same_end inputs pool used (Output k r) s t m ran e going h = going
 
 -- no instruction changes how many outputs there are
@@ -246,7 +265,8 @@ acts_next : (inputs : List Value) (m : Machine) (i : Instr) (is : List Instr) �
 acts_next inputs m i is going = ap (λ (o : Option Stop). acts inputs (act_at inputs o i m) is) going
 
 -- both have stopped
-both_stopped : (inputs pool : List Value) (packed : List Packed) (is : List Instr) (m : Machine) (ran : Ran) (stop : Stop) → ran.stop ≡ Some stop → m.ended ≡ Some stop
+both_stopped : (inputs pool : List Value) (packed : List Packed) (is : List Instr) (m : Machine) (ran : Ran) (stop : Stop) → ran.stop ≡ Some stop
+    → m.ended ≡ Some stop
     → ran_answer (ran_from inputs pool ran packed) ≡ end_of (acts inputs m is)
 both_stopped inputs pool packed is m ran stop ran_is m_is =
     ap (λ (o : Option Stop). answer_of o (ran_from inputs pool ran packed).outputs) (stop_kept inputs pool packed ran stop ran_is)
@@ -254,11 +274,13 @@ both_stopped inputs pool packed is m ran stop ran_is m_is =
     ∙ ap end_of (sym (acts-ended inputs m stop is m_is))
 
 -- a run and a machine that agree, of which both have stopped or none
-goes : (inputs pool : List Value) (used : List ℕ) (n : Counts) (k : ℕ) (packed : List Packed) (s : State) (m : Machine) (ran : Ran) (stop : Option Stop) → AreDistinct used
+goes : (inputs pool : List Value) (used : List ℕ) (n : Counts) (k : ℕ) (packed : List Packed) (s : State) (m : Machine) (ran : Ran) (stop : Option Stop)
+    → AreDistinct used
     → AllByRecursion (IsPacked n.inputs n.outputs (length pool) (length used)) packed → fault_from n s k (Instrs pool used packed) ≡ None
     → m.ended ≡ stop → ran.stop ≡ stop → length s.outputs ≡ n.outputs → Agree used s m ran
     → ran_answer (ran_from inputs pool ran packed) ≡ end_of (acts inputs m (Instrs pool used packed))
-goes inputs pool used n k packed s m ran (Some stop) apart ok right ended stopped many h = both_stopped inputs pool packed (Instrs pool used packed) m ran stop stopped ended
+goes inputs pool used n k packed s m ran (Some stop) apart ok right ended stopped many h = both_stopped inputs pool packed (Instrs pool used packed) m ran stop
+    stopped ended
 goes inputs pool used n k [] s m ran None apart ok right ended stopped many h =
     let some = not_none (all_given s.outputs) right in
     let same : ran.outputs ≡ m.outputs = ext_get_or Undef ran.outputs m.outputs (h.many ∙ sym h.given)
@@ -302,7 +324,8 @@ pub ran_is_run : (code : Listing) (parts : Parts) (inputs : List Value) (ran : R
     → ran_answer (ran_from inputs parts.pool.now ran parts.packed.now) ≡ machine_run code inputs
 ran_is_run code parts inputs ran are many going registers slots outputs =
     let instrs : Instrs parts.pool.now parts.used.now parts.packed.now ≡ code.instrs = ap (λ (l : Listing). l.instrs) are.listing in
-    goes inputs parts.pool.now parts.used.now code.counts 0 parts.packed.now (start code.counts.outputs) (fresh code.counts.outputs) ran None are.distinct are.packed
+    goes inputs parts.pool.now parts.used.now code.counts 0 parts.packed.now (start code.counts.outputs) (fresh code.counts.outputs) ran None are.distinct
+    are.packed
     (ap (fault_from code.counts (start code.counts.outputs) 0) instrs ∙ are.right) refl going (length-replicate code.counts.outputs None)
     (agree_start parts.used.now code.counts.outputs ran registers slots outputs)
     ∙ ap (λ (is : List Instr). end_of (acts inputs (fresh code.counts.outputs) is)) instrs

@@ -37,4 +37,5 @@ same-outputs (Some stop) outputs ends e = cc
 pub outputs-long : (code : Listing) (inputs outputs : List Value) → Values outputs ≡ machine_run code inputs → length outputs ≡ code.counts.outputs
 outputs-long code inputs outputs e =
     let after = acts inputs (fresh code.counts.outputs) code.instrs in
-    ap length (same-outputs after.ended outputs after.outputs e) ∙ acts-outputs inputs (fresh code.counts.outputs) code.instrs ∙ length-replicate code.counts.outputs Undef
+    ap length (same-outputs after.ended outputs after.outputs e) ∙ acts-outputs inputs (fresh code.counts.outputs) code.instrs
+    ∙ length-replicate code.counts.outputs Undef

@@ -1,5 +1,6 @@
 -- Places of inputs, from one row to the next, and the lists of values that are filled by them.
-use Rattle.std.proofs.Common.{◌≡◌, ◌≢◌, ℕ, ℤ, zero, suc, ◌+◌, ◌-◌, ◌<◌, ◌≤◌, eqb, List, [], ◌∷◌, ◌++◌, length, get_or, set, map, take, drop, replicate, refl, sym, ap, subst, ◌∙◌, ⊎_elim, zero-add, arith, Vec}
+use Rattle.std.proofs.Common.{◌≡◌, ◌≢◌, ℕ, ℤ, zero, suc, ◌+◌, ◌-◌, ◌<◌, ◌≤◌, eqb, List, [], ◌∷◌, ◌++◌, length, get_or, set, map, take, drop, replicate, refl}
+use Rattle.std.proofs.Common.{sym, ap, subst, ◌∙◌, ⊎_elim, zero-add, arith, Vec}
 use Rattle.std.specs.declared.alloc.Global.{Global}
 use Rattle.std.specs.List.{AllByRecursion, range_with_len}
 use Rattle.std.proofs.lemmas.Bool.{eq-eqb, ne_eqb, cases_eq, cond-true, cond-false}
@@ -19,10 +20,12 @@ use Rattle.m_batch.specs.inner.Places.{place_of, IsPlacing, HasPlaces, RowHasPla
 -- ---- places, one after another
 
 -- the input of a pair is among so many
-pub pair_below : (n : ℕ) (pairs given : List (ℕ × ℤ)) (k : ℕ) (pair : ℕ × ℤ) → AllByRecursion (λ input. input < n) (inputs_of pairs) → given ≡ pairs → k < length given
+pub pair_below : (n : ℕ) (pairs given : List (ℕ × ℤ)) (k : ℕ) (pair : ℕ × ℤ) → AllByRecursion (λ input. input < n) (inputs_of pairs) → given ≡ pairs
+    → k < length given
     → pair ≡ get_or given k pair → pair.0 < n
 pair_below n pairs given k pair known is lt at =
-    let known' : AllByRecursion (λ input. input < n) (inputs_of given) = subst (λ (ps : List (ℕ × ℤ)). AllByRecursion (λ input. input < n) (inputs_of ps)) (sym is) known in
+    let known' : AllByRecursion (λ input. input < n) (inputs_of given) = subst (λ (ps : List (ℕ × ℤ)). AllByRecursion (λ input. input < n) (inputs_of ps))
+    (sym is) known in
     subst (λ (p : ℕ × ℤ). p.0 < n) (sym at) (input_in_range n given k pair known' lt)
 
 pub keep_trans : (a b c : Places) → KeepPlaces a b → KeepPlaces b c → KeepPlaces a c
@@ -39,7 +42,8 @@ placed_push places [] pair has below some = ((below, some), tt)
 placed_push places (p ∷ pairs) pair has below some = (has.0, placed_push places pairs pair has.1 below some)
 
 -- a pair more
-pub placed_next : (old new : Places) (pairs given : List (ℕ × ℤ)) (k : ℕ) (pair : ℕ × ℤ) → HasPlaces old (take k pairs) → KeepPlaces old new → given ≡ pairs → k < length given
+pub placed_next : (old new : Places) (pairs given : List (ℕ × ℤ)) (k : ℕ) (pair : ℕ × ℤ) → HasPlaces old (take k pairs) → KeepPlaces old new → given ≡ pairs
+    → k < length given
     → pair ≡ get_or given k pair → pair.0 < length old.of.items → 0 < place_of new pair.0 → HasPlaces new (take (k + 1) pairs)
 placed_next old new pairs given k pair has keep is lt at below some =
     let here : pair ≡ get_or pairs k pair = at ∙ ap (λ (ps : List (ℕ × ℤ)). get_or ps k pair) is in
@@ -63,12 +67,14 @@ rows_push : (old new : Places) (rows : List Row) (row : Row) → KeepPlaces old 
 rows_push old new [] row keep all has = (has, tt)
 rows_push old new (r ∷ rows) row keep all has = (keep_placed old new r.household.pairs keep all.0, rows_push old new rows row keep all.1 has)
 
-pub rows_next : (inputs : ℕ) (old new : Places) (rows : List Row) (k : ℕ) (row : Row) → ArePlaced inputs old (take k rows) → IsPlacing new → KeepPlaces old new → k < length rows
+pub rows_next : (inputs : ℕ) (old new : Places) (rows : List Row) (k : ℕ) (row : Row) → ArePlaced inputs old (take k rows) → IsPlacing new → KeepPlaces old new
+    → k < length rows
     → row ≡ get_or rows k row → HasPlaces new row.household.pairs → ArePlaced inputs new (take (k + 1) rows)
 rows_next inputs old new rows k row are placing keep lt at has = record {
   many = keep.many ∙ are.many;
   placing = placing;
-  placed = subst (AllByRecursion (RowHasPlaces new)) (ap (λ (r : Row). take k rows ++ r ∷ []) at ∙ sym (take_more rows k row lt)) (rows_push old new (take k rows) row keep are.placed has);
+  placed = subst (AllByRecursion (RowHasPlaces new)) (ap (λ (r : Row). take k rows ++ r ∷ []) at ∙ sym (take_more rows k row lt))
+      (rows_push old new (take k rows) row keep are.placed has);
 }
 
 -- ---- lists of values
@@ -89,12 +95,14 @@ filled_none places row n is k below = ap (λ (vs : List Value). at vs (place_of 
     undefined (suc n) (suc k) = undefined n k
 
 -- the inputs of one place from 1 on are one
-one_input : (places : Places) (n m : ℕ) → IsPlacing places → n < length places.of.items → m < length places.of.items → 0 < place_of places n → place_of places m ≡ place_of places n → m ≡ n
+one_input : (places : Places) (n m : ℕ) → IsPlacing places → n < length places.of.items → m < length places.of.items → 0 < place_of places n
+    → place_of places m ≡ place_of places n → m ≡ n
 one_input places n m is n_in m_in some same =
     sym (is.back m m_in (subst (λ (k : ℕ). 0 < k) (sym same) some)) ∙ ap (λ (k : ℕ). get_or places.inputs.items k 0) same ∙ is.back n n_in some
 
 -- a pair before pairs
-filled_more : (places : Places) (row : List Value) (pairs : List (ℕ × ℤ)) (pair : ℕ × ℤ) → IsPlacing places → length row ≡ length places.inputs.items → pair.0 < length places.of.items
+filled_more : (places : Places) (row : List Value) (pairs : List (ℕ × ℤ)) (pair : ℕ × ℤ) → IsPlacing places → length row ≡ length places.inputs.items
+    → pair.0 < length places.of.items
     → 0 < place_of places pair.0 → IsFilled places row pairs → IsFilled places (set row (place_of places pair.0) (Num pair.1)) (pair ∷ pairs)
 filled_more places row pairs pair is width below some filled n n_in =
     ⊎_elim
@@ -115,7 +123,8 @@ pair_has places [] k d has lt = absurd (omega arith)
 pair_has places (p ∷ pairs) zero d has lt = has.0
 pair_has places (p ∷ pairs) (suc k) d has lt = pair_has places pairs k d has.1 (omega arith)
 
-pub pair_placed : (places : Places) (pairs given : List (ℕ × ℤ)) (k : ℕ) (pair : ℕ × ℤ) → HasPlaces places pairs → given ≡ pairs → k < length given → pair ≡ get_or given k pair
+pub pair_placed : (places : Places) (pairs given : List (ℕ × ℤ)) (k : ℕ) (pair : ℕ × ℤ) → HasPlaces places pairs → given ≡ pairs → k < length given
+    → pair ≡ get_or given k pair
     → (pair.0 < length places.of.items) × (0 < place_of places pair.0)
 pair_placed places pairs given k pair has is lt at =
     let has' : HasPlaces places given = subst (HasPlaces places) (sym is) has in
@@ -127,11 +136,14 @@ place_is places n place below at = at ∙ any_default places.of.items n place 0 
 -- the place of a pair is within a list of so many values
 pub place_within : (places : Places) (row : List Value) (n place : ℕ) → IsPlacing places → n < length places.of.items → place ≡ get_or places.of.items n place
     → length row ≡ length places.inputs.items → place < length row
-place_within places row n place is below at width = let here = is.below n below in let same = place_is places n place below at in omega (arith, here, same, width)
+place_within places row n place is below at width = let here = is.below n below in let same = place_is places n place below at in omega
+    (arith, here, same, width)
 
 -- the next pair, from the back on
-pub filled_next : (places : Places) (row : List Value) (pairs given : List (ℕ × ℤ)) (left : ℕ) (pair : ℕ × ℤ) (place : ℕ) → IsPlacing places → HasPlaces places pairs → given ≡ pairs
-    → length row ≡ length places.inputs.items → 0 < left → left ≤ length given → pair ≡ get_or given (left - 1) pair → place ≡ get_or places.of.items pair.0 place
+pub filled_next : (places : Places) (row : List Value) (pairs given : List (ℕ × ℤ)) (left : ℕ) (pair : ℕ × ℤ) (place : ℕ) → IsPlacing places
+    → HasPlaces places pairs → given ≡ pairs
+    → length row ≡ length places.inputs.items → 0 < left → left ≤ length given → pair ≡ get_or given (left - 1) pair
+    → place ≡ get_or places.of.items pair.0 place
     → IsFilled places row (drop left given) → IsFilled places (set row place (Num pair.1)) (drop (left - 1) given)
 filled_next places row pairs given left pair place placing has is width some within read at_place filled =
     let k = left - 1 in
@@ -140,17 +152,20 @@ filled_next places row pairs given left pair place placing has is width some wit
     let here = pair_placed places pairs given k pair has is k_in read in
     let cut : drop k given ≡ pair ∷ drop left given = drop_more given k pair k_in ∙ (λ i. sym read i ∷ drop (next i) given) in
     subst (λ (p : ℕ). IsFilled places (set row p (Num pair.1)) (drop k given)) (sym (place_is places pair.0 place here.0 at_place))
-    (subst (IsFilled places (set row (place_of places pair.0) (Num pair.1))) (sym cut) (filled_more places row (drop left given) pair placing width here.0 here.1 filled))
+    (subst (IsFilled places (set row (place_of places pair.0) (Num pair.1))) (sym cut)
+    (filled_more places row (drop left given) pair placing width here.0 here.1 filled))
 
 -- a list that is filled gives the inputs what the pairs do
-pub filled_inputs : (places : Places) (row : List Value) (pairs : List (ℕ × ℤ)) → IsFilled places row pairs → row_inputs places.of.items row ≡ values_of pairs (length places.of.items)
+pub filled_inputs : (places : Places) (row : List Value) (pairs : List (ℕ × ℤ)) → IsFilled places row pairs
+    → row_inputs places.of.items row ≡ values_of pairs (length places.of.items)
 filled_inputs places row pairs filled =
     let many = length places.of.items in
     same_lists _ _ (length-map places.of.items (at row) ∙ sym (length-values_of pairs many)) (λ k d l.
     let k_in : k < many = omega (arith, l, length-map places.of.items (at row)) in
     get_or-map (at row) places.of.items k 0 d k_in
     ∙ filled k k_in
-    ∙ sym (get_or-map (value_at pairs) (range_with_len 0 many) k 0 d (omega (arith, k_in, length-range_with_len 0 many)) ∙ ap (value_at pairs) (get_or-range_with_len 0 many k 0 k_in ∙ zero-add k)))
+    ∙ sym (get_or-map (value_at pairs) (range_with_len 0 many) k 0 d (omega (arith, k_in, length-range_with_len 0 many))
+    ∙ ap (value_at pairs) (get_or-range_with_len 0 many k 0 k_in ∙ zero-add k)))
 
 -- the row of a list that was put in its place
 row_put : (block : List (Vec Value Global)) (r : ℕ) (new : Vec Value Global) → r < length block → row_at (set block r new) r ≡ new.items
@@ -170,7 +185,8 @@ row_taken block n r lt =
     ∙ get_or-take n (map (λ (v : Vec Value Global). v.items) block) r [] lt
 
 -- the amounts of a row more
-pub values_next : (places : List ℕ) (rows : List Row) (block : List (Vec Value Global)) (r : ℕ) (row : Row) (new : Vec Value Global) → r < length block → r < length rows
+pub values_next : (places : List ℕ) (rows : List Row) (block : List (Vec Value Global)) (r : ℕ) (row : Row) (new : Vec Value Global) → r < length block
+    → r < length rows
     → row ≡ get_or rows r row → row_inputs places new.items ≡ values_of row.household.pairs (length places)
     → ((k : ℕ) (d : Row) → k < r → row_inputs places (row_at block k) ≡ values_of (get_or rows k d).household.pairs (length places))
     → (k : ℕ) (d : Row) → k < r + 1 → row_inputs places (row_at (set block r new) k) ≡ values_of (get_or rows k d).household.pairs (length places)

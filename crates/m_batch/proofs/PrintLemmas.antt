@@ -1,5 +1,6 @@
 -- What is printed of rows, part after part.
-use Rattle.std.proofs.Common.{◌≡◌, ℕ, suc, ◌+◌, ◌*◌, ◌-◌, ◌<◌, ◌≤◌, length, get_or, take, drop, List, [], ◌∷◌, ◌++◌, refl, sym, ◌∙◌, ap, subst, append_assoc, arith, ◌⊎◌, ⊎_elim, inl, inr}
+use Rattle.std.proofs.Common.{◌≡◌, ℕ, suc, ◌+◌, ◌*◌, ◌-◌, ◌<◌, ◌≤◌, length, get_or, take, drop, List, [], ◌∷◌, ◌++◌, refl, sym, ◌∙◌, ap, subst, append_assoc}
+use Rattle.std.proofs.Common.{arith, ◌⊎◌, ⊎_elim, inl, inr}
 use Rattle.std.specs.List.{AllByRecursion}
 use Rattle.std.proofs.lemmas.Bool.{cases_lt}
 use Rattle.std.proofs.lemmas.List.{drop_all, drop_more, drop-drop, length-drop, length-take, take-append-drop}
@@ -74,7 +75,8 @@ module _ (may : ℕ → Row → Answer → Type 0) (code : Listing) where
   may_there at next one other (inl there) may_rest = subst (λ k. MayFrom k other) (sym there) may_rest
   may_there at next one other (inr none) may_rest = subst (MayFrom next) (sym none) tt
 
-  pub may_next : (at : ℕ) (left one other : List Row) (next : ℕ) → left ≡ one ++ other → Next at next one other → MayFrom at left → MayFrom at one × MayFrom next other
+  pub may_next : (at : ℕ) (left one other : List Row) (next : ℕ) → left ≡ one ++ other → Next at next one other → MayFrom at left
+      → MayFrom at one × MayFrom next other
   may_next at left one other next is there all =
       let both = may_split at one other (subst (MayFrom at) is all) in
       (both.0, may_there at next one other there both.1)
@@ -85,7 +87,8 @@ module _ (may : ℕ → Row → Answer → Type 0) (code : Listing) where
       let taken = length-take at rows in
       let here : from + at ≡ from + length (take at rows) = omega (arith, taken, inside) in
       let back = (may_next from rows (take at rows) (drop at rows) (from + at) (sym (take-append-drop at rows)) (inl here) all).1 in
-      (may_next (from + at) (drop at rows) (part_at rows size at) (drop size (drop at rows)) (from + at + length (part_at rows size at)) (sym (take-append-drop size (drop at rows))) (inl refl) back).0
+      (may_next (from + at) (drop at rows) (part_at rows size at) (drop size (drop at rows)) (from + at + length (part_at rows size at))
+      (sym (take-append-drop size (drop at rows))) (inl refl) back).0
 
 -- what holds of each of some rows holds of each in either part
 pub each_next : {X : Type 0} (P : X → Type 0) (one other : List X) → AllByRecursion P (one ++ other) → AllByRecursion P one × AllByRecursion P other
@@ -106,7 +109,8 @@ window_next rows from end some within =
     let there : from + (end - from) ≡ end = omega arith in
     let taken = length-take (end - from) (drop from rows) in
     let left = length-drop from rows in (
-      sym (take-append-drop (end - from) (drop from rows)) ∙ ap (λ (rest : List Row). take (end - from) (drop from rows) ++ rest) (drop-drop (end - from) from rows ∙ ap (λ k. drop k rows) there),
+      sym (take-append-drop (end - from) (drop from rows))
+          ∙ ap (λ (rest : List Row). take (end - from) (drop from rows) ++ rest) (drop-drop (end - from) from rows ∙ ap (λ k. drop k rows) there),
       inl (omega (arith, taken, left, some, within)),
     )
 
@@ -127,7 +131,8 @@ part_next rows part size n from is =
     )
 
 -- what was made of a part, and of those after it
-pub made_next : {U : Type 0} (gives : ℕ → List Row → U → Type 0) (size n : ℕ) (rows : List Row) (made : List U) (u d : U) → n < length made → u ≡ get_or made n d
+pub made_next : {U : Type 0} (gives : ℕ → List Row → U → Type 0) (size n : ℕ) (rows : List Row) (made : List U) (u d : U) → n < length made
+    → u ≡ get_or made n d
     → AreOfParts gives size (n * size) (drop (n * size) rows) (drop n made)
     → gives (n * size) (part_at rows size (n * size)) u × AreOfParts gives size ((n + 1) * size) (drop ((n + 1) * size) rows) (drop (n + 1) made)
 made_next {U} gives size n rows made u d inside is all =
@@ -144,21 +149,26 @@ made_next {U} gives size n rows made u d inside is all =
 there : (place k : ℕ) → place + k + 1 ≡ place + (k + 1)
 there place k = omega arith
 
-pub text_at : (text : ℕ → Row → Answer → List ℕ) (place : ℕ) (rows : List Row) (answers : List Answer) (k : ℕ) (row d : Row) (answer e : Answer) → k < length rows → k < length answers
+pub text_at : (text : ℕ → Row → Answer → List ℕ) (place : ℕ) (rows : List Row) (answers : List Answer) (k : ℕ) (row d : Row) (answer e : Answer)
+    → k < length rows → k < length answers
     → row ≡ get_or rows k d → answer ≡ get_or answers k e
-    → printed_text text (place + k) (drop k rows) (drop k answers) ≡ text (place + k) row answer ++ printed_text text (place + (k + 1)) (drop (k + 1) rows) (drop (k + 1) answers)
+    → printed_text text (place + k) (drop k rows) (drop k answers) ≡ text (place + k) row answer ++ printed_text text (place + (k + 1)) (drop (k + 1) rows)
+    (drop (k + 1) answers)
 text_at text place rows answers k row d answer e rows_in answers_in is_row is_answer =
     (λ i. printed_text text (place + k) (drop_more rows k d rows_in i) (drop_more answers k e answers_in i))
     ∙ (λ i. text (place + k) (sym is_row i) (sym is_answer i) ++ printed_text text (there place k i) (drop (k + 1) rows) (drop (k + 1) answers))
 
-pub count_at : (count : ℕ → Row → Answer → ℕ) (place : ℕ) (rows : List Row) (answers : List Answer) (k : ℕ) (row d : Row) (answer e : Answer) → k < length rows → k < length answers
+pub count_at : (count : ℕ → Row → Answer → ℕ) (place : ℕ) (rows : List Row) (answers : List Answer) (k : ℕ) (row d : Row) (answer e : Answer) → k < length rows
+    → k < length answers
     → row ≡ get_or rows k d → answer ≡ get_or answers k e
-    → printed_count count (place + k) (drop k rows) (drop k answers) ≡ count (place + k) row answer + printed_count count (place + (k + 1)) (drop (k + 1) rows) (drop (k + 1) answers)
+    → printed_count count (place + k) (drop k rows) (drop k answers) ≡ count (place + k) row answer + printed_count count (place + (k + 1)) (drop (k + 1) rows)
+    (drop (k + 1) answers)
 count_at count place rows answers k row d answer e rows_in answers_in is_row is_answer =
     (λ i. printed_count count (place + k) (drop_more rows k d rows_in i) (drop_more answers k e answers_in i))
     ∙ (λ i. count (place + k) (sym is_row i) (sym is_answer i) + printed_count count (there place k i) (drop (k + 1) rows) (drop (k + 1) answers))
 
-pub may_at : (may : ℕ → Row → Answer → Type 0) (place : ℕ) (rows : List Row) (answers : List Answer) (k : ℕ) (row d : Row) (answer e : Answer) → k < length rows → k < length answers
+pub may_at : (may : ℕ → Row → Answer → Type 0) (place : ℕ) (rows : List Row) (answers : List Answer) (k : ℕ) (row d : Row) (answer e : Answer) → k < length rows
+    → k < length answers
     → row ≡ get_or rows k d → answer ≡ get_or answers k e → MayPrintEach may (place + k) (drop k rows) (drop k answers)
     → may (place + k) row answer × MayPrintEach may (place + (k + 1)) (drop (k + 1) rows) (drop (k + 1) answers)
 may_at may place rows answers k row d answer e rows_in answers_in is_row is_answer all =
@@ -169,7 +179,8 @@ may_at may place rows answers k row d answer e rows_in answers_in is_row is_answ
     )
 
 -- where each row may be printed with each answer, all may
-pub each_may : (may : ℕ → Row → Answer → Type 0) → ((at : ℕ) (row : Row) (answer : Answer) → may at row answer) → (at : ℕ) (rows : List Row) (answers : List Answer) → MayPrintEach may at rows answers
+pub each_may : (may : ℕ → Row → Answer → Type 0) → ((at : ℕ) (row : Row) (answer : Answer) → may at row answer)
+    → (at : ℕ) (rows : List Row) (answers : List Answer) → MayPrintEach may at rows answers
 each_may may all at [] answers = tt
 each_may may all at (row ∷ rows) [] = tt
 each_may may all at (row ∷ rows) (answer ∷ answers) = (all at row answer, each_may may all (at + 1) rows answers)

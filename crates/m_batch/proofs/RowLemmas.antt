@@ -20,6 +20,7 @@ answers_added code rows i first answers new answer h is before more =
     ∙ ap (λ given. first ++ given) (sym (map-append (row_answer code) (take i rows) (get_or rows i d ∷ [])) ∙ ap (answers_of code) (sym (take_more rows i d h)))
 
 -- the rows of a table have no other inputs than the table's codes
-pub rows_below : (inputs : ℕ) (rows : List Row) → AllByRecursion (λ row. AreInputs inputs row.household.pairs) rows → AllByRecursion (HasInputsBelow inputs) rows
+pub rows_below : (inputs : ℕ) (rows : List Row) → AllByRecursion (λ row. AreInputs inputs row.household.pairs) rows
+    → AllByRecursion (HasInputsBelow inputs) rows
 rows_below inputs [] all = tt
 rows_below inputs (row ∷ rows) all = (all.0.known, rows_below inputs rows all.1)

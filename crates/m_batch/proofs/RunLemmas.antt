@@ -17,15 +17,18 @@ use Rattle.m_batch.specs.inner.Ran.{Ran, run_on, ran_from, ran_of, ran_answer, I
 use Rattle.m_batch.proofs.OrderLemmas.{ran_stays, ran_is_run}
 
 -- an instruction more
-pub run_next : (numbers : List ℕ) (rows : List (Vec Value Global)) (pool : List Value) (packed : List Packed) (n : ℕ) (d : Packed) (old before new : Room) → n < length packed
-    → AreRun numbers rows pool (take n packed) old before → IsStep numbers rows pool (get_or packed n d) before new → AreRun numbers rows pool (take (n + 1) packed) old new
+pub run_next : (numbers : List ℕ) (rows : List (Vec Value Global)) (pool : List Value) (packed : List Packed) (n : ℕ) (d : Packed) (old before new : Room)
+    → n < length packed
+    → AreRun numbers rows pool (take n packed) old before → IsStep numbers rows pool (get_or packed n d) before new
+    → AreRun numbers rows pool (take (n + 1) packed) old new
 run_next numbers rows pool packed n d old before new h so_far step = λ r below.
     let inputs = row_inputs numbers (row_at rows r) in
     step r below ∙ ap (λ (ran : Ran). run_on inputs pool ran (get_or packed n d)) (so_far r below)
     ∙ sym (fold_more (run_on inputs pool) (ran_of r old) packed n d h)
 
 -- a run that has stopped answers the same, however many instructions are left
-pub stopped_answer : (inputs pool : List Value) (packed : List Packed) (n : ℕ) (start here : Ran) → here ≡ ran_from inputs pool start (take n packed) → IsSome here.stop
+pub stopped_answer : (inputs pool : List Value) (packed : List Packed) (n : ℕ) (start here : Ran) → here ≡ ran_from inputs pool start (take n packed)
+    → IsSome here.stop
     → ran_answer here ≡ ran_answer (ran_from inputs pool start packed)
 stopped_answer inputs pool packed n start here run stop =
     let all : ran_from inputs pool start packed ≡ ran_from inputs pool here (drop n packed) =
@@ -38,4 +41,5 @@ pub block_answer : (code : Listing) (parts : Parts) (inputs : List Value) (start
     → ran_answer end ≡ ran_answer (ran_from inputs parts.pool.now start parts.packed.now) → start.stop ≡ None
     → length start.registers ≡ REGISTERS → length start.slots ≡ length parts.used.now → length start.outputs ≡ code.counts.outputs
     → ran_answer end ≡ machine_run code inputs
-block_answer code parts inputs start end are many run going registers slots outputs = run ∙ ran_is_run code parts inputs start are many going registers slots outputs
+block_answer code parts inputs start end are many run going registers slots outputs = run
+    ∙ ran_is_run code parts inputs start are many going registers slots outputs

@@ -12,7 +12,8 @@ use Rattle.m_batch.specs.declared.fault.PrintFault.TheVariants.{Memory, Failed}
 -- the next part was not written to its end
 pub part_stopped : {S U : Type 0} (written : S → Option (List ℕ)) (faults : S → ℕ) (old now new : S) (text piece rest left : List ℕ)
     (whole : Result U PrintFault) (other fault : PrintFault) → whole ≡ Err other → other ≡ fault → left ≡ piece ++ rest → Given written faults old now text left
-    → AppendsPrefix (written now) (written new) piece → Counted {T = Unit {0}} (Err fault) (faults now) (faults new) → WritesRows written faults old new whole text
+    → AppendsPrefix (written now) (written new) piece → Counted {T = Unit {0}} (Err fault) (faults now) (faults new)
+    → WritesRows written faults old new whole text
 part_stopped written faults old now new text piece rest left whole other Memory f s is given prefix counted = rw (f ∙ ap Err s) (record {
   all = tt;
   prefix = rw (given.whole ∙ ap (λ bytes. given.front ++ bytes) is)
@@ -33,7 +34,8 @@ nothing_more None = refl
 nothing_more (Some bytes) = ap Some (sym (append-nil bytes))
 
 -- there was no memory before the first write
-pub nothing_written : {S U : Type 0} (written : S → Option (List ℕ)) (faults : S → ℕ) (old : S) (text : List ℕ) (result : Result U PrintFault) (fault : PrintFault)
+pub nothing_written : {S U : Type 0} (written : S → Option (List ℕ)) (faults : S → ℕ) (old : S) (text : List ℕ) (result : Result U PrintFault)
+    (fault : PrintFault)
     → result ≡ Err fault → fault ≡ Memory → WritesRows written faults old old result text
 nothing_written written faults old text result fault f s = rw (f ∙ ap Err s) (record {
   all = tt;
@@ -42,7 +44,8 @@ nothing_written written faults old text result fault f s = rw (f ∙ ap Err s) (
 })
 
 -- a call failed that was to write all
-pub gave_failed : {S U : Type 0} (written : S → Option (List ℕ)) (faults : S → ℕ) (old new : S) (text whole : List ℕ) (result : Result U PrintFault) (fault : PrintFault)
+pub gave_failed : {S U : Type 0} (written : S → Option (List ℕ)) (faults : S → ℕ) (old new : S) (text whole : List ℕ) (result : Result U PrintFault)
+    (fault : PrintFault)
     → result ≡ Err fault → fault ≡ Failed → text ≡ whole → Rose (faults old) (faults new) → AppendsPrefix (written old) (written new) text
     → WritesRows written faults old new result whole
 gave_failed written faults old new text whole result fault f s is rose prefix = rw (f ∙ ap Err s) (record {

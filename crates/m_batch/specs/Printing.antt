@@ -34,7 +34,8 @@ Counted (Err Memory) old new = new ≡ old
 Counted (Err Failed) old new = Rose old new
 
 -- A text was written; or there was no memory on the way, or a write failed, and a prefix of it was.
-pub record WritesRows {S T : Type 0} (written : S → Option (List ℕ)) (faults : S → ℕ) (old new : S) (result : Result T PrintFault) (text : List ℕ) : Type 0 where
-  pub all : OnOk result (written new ≡ append_known (written old) text)
-  pub prefix : OnErr result (AppendsPrefix (written old) (written new) text)
-  pub counted : Counted result (faults old) (faults new)
+pub record WritesRows {S T : Type 0} (written : S → Option (List ℕ)) (faults : S → ℕ) (old new : S) (result : Result T PrintFault) (text : List ℕ) : Type 0
+  where
+    pub all : OnOk result (written new ≡ append_known (written old) text)
+    pub prefix : OnErr result (AppendsPrefix (written old) (written new) text)
+    pub counted : Counted result (faults old) (faults new)

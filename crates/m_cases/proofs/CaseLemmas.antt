@@ -1,5 +1,6 @@
 -- What each case of a table has: known inputs, amounts of their types, and expectations of known outputs.
-use Rattle.std.proofs.Common.{◌≡◌, ◌≢◌, ℕ, ℤ, suc, ◌+◌, ◌<◌, ◌≤◌, ◌^◌, Bool, true, false, cond, eqb, leb, arith, List, [], ◌∷◌, ◌++◌, length, length-append, Option, Some, None, Result, Ok, Err, refl, sym, ◌∙◌, subst, append_assoc}
+use Rattle.std.proofs.Common.{◌≡◌, ◌≢◌, ℕ, ℤ, suc, ◌+◌, ◌<◌, ◌≤◌, ◌^◌, Bool, true, false, cond, eqb, leb, arith, List, [], ◌∷◌, ◌++◌, length, length-append}
+use Rattle.std.proofs.Common.{Option, Some, None, Result, Ok, Err, refl, sym, ◌∙◌, subst, append_assoc}
 use mathlib.Core.Bool.{◌&&◌}
 use Rattle.std.specs.List.{AllByRecursion, list_any}
 use Rattle.std.proofs.lemmas.Bool.{and_parts, leb-false}
@@ -35,8 +36,12 @@ record AreKnown (n : ℕ) (numbers : List ℕ) : Type 0 where
   known : AllByRecursion (λ number. number < n) numbers
   once : AreDifferent numbers
 
-known-push : (n : ℕ) (numbers : List ℕ) (number : ℕ) → AreKnown n numbers → number < n → is_input_among number numbers ≡ false → AreKnown n (numbers ++ number ∷ [])
-known-push n numbers number k l e = record { known = AllByRecursion-push (λ m. m < n) numbers number k.known l; once = AreDifferent-push numbers number e k.once }
+known-push : (n : ℕ) (numbers : List ℕ) (number : ℕ) → AreKnown n numbers → number < n → is_input_among number numbers ≡ false
+    → AreKnown n (numbers ++ number ∷ [])
+known-push n numbers number k l e = record {
+  known = AllByRecursion-push (λ m. m < n) numbers number k.known l;
+  once = AreDifferent-push numbers number e k.once;
+}
 
 -- ---- columns
 
@@ -45,7 +50,8 @@ record AreColumns (inputs outputs : ℕ) (columns : List Column) : Type 0 where
   amounts : AreKnown inputs (column_inputs columns)
   expected : AreKnown outputs (column_outputs columns)
 
-column_next : (inputs outputs : ℕ) (columns : List Column) (column : Column) → AreColumns inputs outputs columns → IsBelow inputs outputs column → list_any (is_same_column column) columns ≡ false
+column_next : (inputs outputs : ℕ) (columns : List Column) (column : Column) → AreColumns inputs outputs columns → IsBelow inputs outputs column
+    → list_any (is_same_column column) columns ≡ false
     → AreColumns inputs outputs (columns ++ column ∷ [])
 column_next inputs outputs columns (Input a) c b e = record {
   amounts = subst (AreKnown inputs) (inputs-push columns (Input a)) (known-push inputs (column_inputs columns) a c.amounts b (any_input a columns ∙ e));
@@ -56,23 +62,28 @@ column_next inputs outputs columns (Output a) c b e = record {
   expected = subst (AreKnown outputs) (outputs-push columns (Output a)) (known-push outputs (column_outputs columns) a c.expected b (any_output a columns ∙ e));
 }
 
-input_below : (inputs outputs : ℕ) (o : Option ℕ) (column : Column) → input_declared o ≡ Ok column → ((i : ℕ) → o ≡ Some i → i < inputs) → IsBelow inputs outputs column
+input_below : (inputs outputs : ℕ) (o : Option ℕ) (column : Column) → input_declared o ≡ Ok column → ((i : ℕ) → o ≡ Some i → i < inputs)
+    → IsBelow inputs outputs column
 input_below inputs outputs None column h k = cc h
 input_below inputs outputs (Some i) column h k = let same : Input i ≡ column = cc in subst (IsBelow inputs outputs) same (k i refl)
 
-output_below : (inputs outputs : ℕ) (o : Option ℕ) (column : Column) → parsed_output o ≡ Ok column → ((i : ℕ) → o ≡ Some i → i < outputs) → IsBelow inputs outputs column
+output_below : (inputs outputs : ℕ) (o : Option ℕ) (column : Column) → parsed_output o ≡ Ok column → ((i : ℕ) → o ≡ Some i → i < outputs)
+    → IsBelow inputs outputs column
 output_below inputs outputs None column h k = cc h
 output_below inputs outputs (Some i) column h k = let same : Output i ≡ column = cc in subst (IsBelow inputs outputs) same (k i refl)
 
-pub field_below : (inputs : List Coded) (names : List (List ℕ)) (field : List ℕ) (column : Column) → parsed_field inputs names field ≡ Ok column → IsBelow (length inputs) (length names) column
+pub field_below : (inputs : List Coded) (names : List (List ℕ)) (field : List ℕ) (column : Column) → parsed_field inputs names field ≡ Ok column
+    → IsBelow (length inputs) (length names) column
 field_below inputs names [] column h = input_below (length inputs) (length names) (index_of [] (codes_of inputs)) column h (code_known inputs [])
 field_below inputs names (byte ∷ bytes) column h = by (eqb byte 61) h
   where
-    by : (b : Bool) → cond b (parsed_output (index_of bytes names)) (input_declared (index_of (byte ∷ bytes) (codes_of inputs))) ≡ Ok column → IsBelow (length inputs) (length names) column
+    by : (b : Bool) → cond b (parsed_output (index_of bytes names)) (input_declared (index_of (byte ∷ bytes) (codes_of inputs))) ≡ Ok column
+        → IsBelow (length inputs) (length names) column
     by true g = output_below (length inputs) (length names) (index_of bytes names) column g (λ i e. (index_of-some bytes names i e).1)
     by false g = input_below (length inputs) (length names) (index_of (byte ∷ bytes) (codes_of inputs)) column g (code_known inputs (byte ∷ bytes))
 
-columns_known : (inputs : List Coded) (names fields : List (List ℕ)) (columns : List Column) → in_turn (column_of inputs names) [] fields ≡ Ok columns → AreColumns (length inputs) (length names) columns
+columns_known : (inputs : List Coded) (names fields : List (List ℕ)) (columns : List Column) → in_turn (column_of inputs names) [] fields ≡ Ok columns
+    → AreColumns (length inputs) (length names) columns
 columns_known inputs names fields columns h =
     turns_keep (column_of inputs names) (AreColumns (length inputs) (length names))
     (λ before field column q e.
@@ -120,23 +131,31 @@ record AreGood (n : ℕ) (before : List (ℕ × ℤ)) (columns : List ℕ) : Typ
   inputs : AreKnown n (inputs_of before ++ columns)
   amounts : AreAmounts before
 
-cells_good : {n : ℕ} (line : ℕ) (before : List (ℕ × ℤ)) (columns : List ℕ) (cells : List (List ℕ)) (pairs : List (ℕ × ℤ)) → AreGood n before columns → cells_read line before columns cells ≡ Ok pairs → AreGood n pairs []
+cells_good : {n : ℕ} (line : ℕ) (before : List (ℕ × ℤ)) (columns : List ℕ) (cells : List (List ℕ)) (pairs : List (ℕ × ℤ)) → AreGood n before columns
+    → cells_read line before columns cells ≡ Ok pairs → AreGood n pairs []
 cells_good {n} line before [] cells pairs q h = let same : before ≡ pairs = cc in subst (λ (p : List (ℕ × ℤ)). AreGood n p []) same q
 cells_good {n} line before (input ∷ columns) [] pairs q h =
     let same : before ≡ pairs = cc in
     subst (λ (p : List (ℕ × ℤ)). AreGood n p []) same
-    (record { inputs = subst (AreKnown n) (sym (append-nil (inputs_of before))) (known-front (inputs_of before) (input ∷ columns) q.inputs); amounts = q.amounts })
+    (record {
+      inputs = subst (AreKnown n) (sym (append-nil (inputs_of before))) (known-front (inputs_of before) (input ∷ columns) q.inputs);
+      amounts = q.amounts;
+    })
 cells_good {n} line before (input ∷ columns) (cell ∷ cells) pairs q h =
-    by (eqb (length cell) 0) h (cells_good line before columns cells pairs (record { inputs = known-without (inputs_of before) columns input q.inputs; amounts = q.amounts }))
+    by (eqb (length cell) 0) h (cells_good line before columns cells pairs
+    (record { inputs = known-without (inputs_of before) columns input q.inputs; amounts = q.amounts }))
     (λ pair e. cells_good line (before ++ pair ∷ []) columns cells pairs (record {
       inputs = subst (λ (xs : List ℕ). AreKnown n (xs ++ columns)) (sym (inputs_of-push before pair))
-          (rw append_assoc (subst (λ (i : ℕ). AreKnown n (inputs_of before ++ i ∷ columns)) (sym (stated_input line input (amount_read (text_value cell)) pair e)) q.inputs));
+          (rw append_assoc (subst (λ (i : ℕ). AreKnown n (inputs_of before ++ i ∷ columns))
+          (sym (stated_input line input (amount_read (text_value cell)) pair e)) q.inputs));
       amounts = AllByRecursion-push (λ (p : ℕ × ℤ). IsAmount p.1) before pair q.amounts (stated_amount line input (text_value cell) pair e);
     }))
   where
-    by : (b : Bool) → cond b (cells_read line before columns cells) (if_read (λ pair. cells_read line (before ++ pair ∷ []) columns cells) (parsed_amount line input (amount_read (text_value cell)))) ≡ Ok pairs
+    by : (b : Bool) → cond b (cells_read line before columns cells)
+        (if_read (λ pair. cells_read line (before ++ pair ∷ []) columns cells) (parsed_amount line input (amount_read (text_value cell)))) ≡ Ok pairs
         → (cells_read line before columns cells ≡ Ok pairs → AreGood n pairs [])
-        → ((pair : ℕ × ℤ) → parsed_amount line input (amount_read (text_value cell)) ≡ Ok pair → cells_read line (before ++ pair ∷ []) columns cells ≡ Ok pairs → AreGood n pairs [])
+        → ((pair : ℕ × ℤ) → parsed_amount line input (amount_read (text_value cell)) ≡ Ok pair → cells_read line (before ++ pair ∷ []) columns cells ≡ Ok pairs
+        → AreGood n pairs [])
         → AreGood n pairs []
     by true g empty filled = empty g
     by false g empty filled =
@@ -146,26 +165,33 @@ cells_good {n} line before (input ∷ columns) (cell ∷ cells) pairs q h =
 -- amounts that fit are of their types
 all_of_types : (inputs : List Coded) (pairs : List (ℕ × ℤ)) → AreAmounts pairs → are_fitting inputs pairs ≡ true → AreOfTypes inputs pairs
 all_of_types inputs [] a f = tt
-all_of_types inputs (pair ∷ pairs) a f = let b = and_parts (is_fitting inputs pair) (are_fitting inputs pairs) f in ((a.0, b.0), all_of_types inputs pairs a.1 b.1)
+all_of_types inputs (pair ∷ pairs) a f = let b = and_parts (is_fitting inputs pair) (are_fitting inputs pairs) f in
+    ((a.0, b.0), all_of_types inputs pairs a.1 b.1)
 
 -- ---- expectations
 
-cells_expected : (n line : ℕ) (before : List (ℕ × Expected)) (columns : List Column) (cells : List (List ℕ)) (all : List (ℕ × Expected)) → AllByRecursion (λ e. e.0 < n) before
+cells_expected : (n line : ℕ) (before : List (ℕ × Expected)) (columns : List Column) (cells : List (List ℕ)) (all : List (ℕ × Expected))
+    → AllByRecursion (λ e. e.0 < n) before
     → AllByRecursion (λ output. output < n) (column_outputs columns) → expected_read line before columns cells ≡ Ok all
     → AllByRecursion (λ e. e.0 < n) all × (length all ≤ length before + length (column_outputs columns))
 cells_expected n line before [] cells all b c h =
     let same : before ≡ all = cc in subst (λ (l : List (ℕ × Expected)). AllByRecursion (λ e. e.0 < n) l × (length l ≤ length before + 0)) same (b, omega arith)
 cells_expected n line before (column ∷ columns) [] all b c h =
-    let same : before ≡ all = cc in subst (λ (l : List (ℕ × Expected)). AllByRecursion (λ e. e.0 < n) l × (length l ≤ length before + length (column_outputs (column ∷ columns)))) same (b, omega arith)
+    let same : before ≡ all = cc in subst (λ (l : List (ℕ × Expected)). AllByRecursion (λ e. e.0 < n) l
+    × (length l ≤ length before + length (column_outputs (column ∷ columns)))) same (b, omega arith)
 cells_expected n line before (Input input ∷ columns) (cell ∷ cells) all b c h = cells_expected n line before columns cells all b c h
 cells_expected n line before (Output output ∷ columns) (cell ∷ cells) all b c h =
     by (eqb (length cell) 0) h (cells_expected n line before columns cells all b c.1)
-    (λ e g. let more = cells_expected n line (before ++ (output, e) ∷ []) columns cells all (AllByRecursion-push (λ (x : ℕ × Expected). x.0 < n) before (output, e) b c.0) c.1 g in
+    (λ e g. let more = cells_expected n line (before ++ (output, e) ∷ []) columns cells all
+    (AllByRecursion-push (λ (x : ℕ × Expected). x.0 < n) before (output, e) b c.0) c.1 g in
     (more.0, (let l = length-append before ((output, e) ∷ []) in let m = more.1 in omega (arith, l, m))))
   where
-    by : (t : Bool) → cond t (expected_read line before columns cells) (if_read (λ e. expected_read line (before ++ (output, e) ∷ []) columns cells) (parsed_expectation line cell)) ≡ Ok all
-        → (expected_read line before columns cells ≡ Ok all → AllByRecursion (λ e. e.0 < n) all × (length all ≤ length before + length (column_outputs columns)))
-        → ((e : Expected) → expected_read line (before ++ (output, e) ∷ []) columns cells ≡ Ok all → AllByRecursion (λ e. e.0 < n) all × (length all ≤ length before + suc (length (column_outputs columns))))
+    by : (t : Bool) → cond t (expected_read line before columns cells) (if_read (λ e. expected_read line (before ++ (output, e) ∷ []) columns cells)
+        (parsed_expectation line cell)) ≡ Ok all
+        → (expected_read line before columns cells ≡ Ok all → AllByRecursion (λ e. e.0 < n) all
+        × (length all ≤ length before + length (column_outputs columns)))
+        → ((e : Expected) → expected_read line (before ++ (output, e) ∷ []) columns cells ≡ Ok all → AllByRecursion (λ e. e.0 < n) all
+        × (length all ≤ length before + suc (length (column_outputs columns))))
         → AllByRecursion (λ e. e.0 < n) all × (length all ≤ length before + suc (length (column_outputs columns)))
     by true g empty filled = let e = empty g in (e.0, (let m = e.1 in omega (arith, m)))
     by false g empty filled =
@@ -184,7 +210,8 @@ household_ok : {A : Type 0} (r : Result A HouseholdFault) (a : A) → of_househo
 household_ok (Ok b) a e = cc
 household_ok (Err f) a e = cc e
 
-case_good : (inputs : List Coded) (names line : ℕ) (columns : List Column) (fields : List (List ℕ)) (case : Case) → names < 2 ^ 32 → AreColumns (length inputs) names columns
+case_good : (inputs : List Coded) (names line : ℕ) (columns : List Column) (fields : List (List ℕ)) (case : Case) → names < 2 ^ 32
+    → AreColumns (length inputs) names columns
     → parsed_case inputs line columns fields ≡ Ok case → IsGoodCase inputs names case
 case_good inputs names line columns [] case small c h = cc h
 case_good inputs names line columns (label ∷ cells) case small c h =
@@ -205,8 +232,10 @@ case_good inputs names line columns (label ∷ cells) case small c h =
     })
 
 -- all cases are good
-pub cases_good : (inputs : List Coded) (names : List (List ℕ)) (fields : List (List ℕ)) (columns : List Column) (records : List (List (List ℕ))) (cases : List Case) → length names < 2 ^ 32
-    → in_turn (column_of inputs names) [] fields ≡ Ok columns → in_turn (case_of inputs columns) [] records ≡ Ok cases → AllByRecursion (IsGoodCase inputs (length names)) cases
+pub cases_good : (inputs : List Coded) (names : List (List ℕ)) (fields : List (List ℕ)) (columns : List Column) (records : List (List (List ℕ)))
+    (cases : List Case) → length names < 2 ^ 32
+    → in_turn (column_of inputs names) [] fields ≡ Ok columns → in_turn (case_of inputs columns) [] records ≡ Ok cases
+    → AllByRecursion (IsGoodCase inputs (length names)) cases
 cases_good inputs names fields columns records cases small c h =
     turns_keep (case_of inputs columns) (AllByRecursion (IsGoodCase inputs (length names)))
     (λ before record_fields case q e.
@@ -215,15 +244,18 @@ cases_good inputs names fields columns records cases small c h =
     (case_good inputs (length names) (line_behind (length before)) columns record_fields case small (columns_known inputs names fields columns c) a.1))
     [] records cases tt h
 
-pub rows_known : (inputs : List Coded) (names : ℕ) (cases : List Case) → AllByRecursion (IsGoodCase inputs names) cases → AllByRecursion (λ row. AreInputs (length inputs) row.household.pairs) (cases_made cases).rows
+pub rows_known : (inputs : List Coded) (names : ℕ) (cases : List Case) → AllByRecursion (IsGoodCase inputs names) cases
+    → AllByRecursion (λ row. AreInputs (length inputs) row.household.pairs) (cases_made cases).rows
 rows_known inputs names [] h = tt
 rows_known inputs names (case ∷ cases) h = (h.0.known, rows_known inputs names cases h.1)
 
-pub rows_types : (inputs : List Coded) (names : ℕ) (cases : List Case) → AllByRecursion (IsGoodCase inputs names) cases → AllByRecursion (λ row. AreOfTypes inputs row.household.pairs) (cases_made cases).rows
+pub rows_types : (inputs : List Coded) (names : ℕ) (cases : List Case) → AllByRecursion (IsGoodCase inputs names) cases
+    → AllByRecursion (λ row. AreOfTypes inputs row.household.pairs) (cases_made cases).rows
 rows_types inputs names [] h = tt
 rows_types inputs names (case ∷ cases) h = (h.0.types, rows_types inputs names cases h.1)
 
-pub each_expected : (inputs : List Coded) (names : ℕ) (cases : List Case) → AllByRecursion (IsGoodCase inputs names) cases → AllByRecursion (AreExpected names) (cases_made cases).expected
+pub each_expected : (inputs : List Coded) (names : ℕ) (cases : List Case) → AllByRecursion (IsGoodCase inputs names) cases
+    → AllByRecursion (AreExpected names) (cases_made cases).expected
 each_expected inputs names [] h = tt
 each_expected inputs names (case ∷ cases) h = (h.0.expected, each_expected inputs names cases h.1)
 
@@ -231,7 +263,8 @@ pub as_many : (cases : List Case) → length (cases_made cases).expected ≡ len
 as_many cases = length-map cases (λ (c : Case). c.expected) ∙ sym (length-map cases (λ (c : Case). c.row))
 
 -- they are not too many
-few_cases : (inputs : List Coded) (columns : List Column) (records : List (List (List ℕ))) (cases : List Case) → in_turn (case_of inputs columns) [] records ≡ Ok cases → length cases ≤ ROWS
+few_cases : (inputs : List Coded) (columns : List Column) (records : List (List (List ℕ))) (cases : List Case)
+    → in_turn (case_of inputs columns) [] records ≡ Ok cases → length cases ≤ ROWS
 few_cases inputs columns records cases h =
     turns_keep (case_of inputs columns) (λ (l : List Case). length l ≤ ROWS)
     (λ before record_fields case q e.
@@ -241,5 +274,7 @@ few_cases inputs columns records cases h =
     omega (arith, below, long))
     [] records cases (omega arith) h
 
-pub few_rows : (inputs : List Coded) (columns : List Column) (records : List (List (List ℕ))) (cases : List Case) → in_turn (case_of inputs columns) [] records ≡ Ok cases → length (cases_made cases).rows ≤ ROWS
-few_rows inputs columns records cases h = let many = length-map cases (λ (c : Case). c.row) in let few = few_cases inputs columns records cases h in omega (arith, many, few)
+pub few_rows : (inputs : List Coded) (columns : List Column) (records : List (List (List ℕ))) (cases : List Case)
+    → in_turn (case_of inputs columns) [] records ≡ Ok cases → length (cases_made cases).rows ≤ ROWS
+few_rows inputs columns records cases h = let many = length-map cases (λ (c : Case). c.row) in let few = few_cases inputs columns records cases h in omega
+    (arith, many, few)

@@ -1,5 +1,6 @@
 -- The cells of a record, from one of them on.
-use Rattle.std.proofs.Common.{◌≡◌, ℕ, ℤ, ◌+◌, ◌<◌, ◌≤◌, Bool, true, false, cond, eqb, arith, get_or, drop, List, [], ◌∷◌, ◌++◌, length, Result, Ok, Err, refl, sym, ap, ◌∙◌}
+use Rattle.std.proofs.Common.{◌≡◌, ℕ, ℤ, ◌+◌, ◌<◌, ◌≤◌, Bool, true, false, cond, eqb, arith, get_or, drop, List, [], ◌∷◌, ◌++◌, length, Result, Ok, Err, refl}
+use Rattle.std.proofs.Common.{sym, ap, ◌∙◌}
 use Rattle.std.proofs.lemmas.List.{drop_more, drop_all}
 use Rattle.m_fixed.specs.Text.{text_value, amount_read}
 use Rattle.household.specs.declared.fault.HouseholdFault.{HouseholdFault}
@@ -44,50 +45,66 @@ expected_step line before (Output output) cell columns cells =
     one_made (eqb (length cell) 0) (λ e. (output, e)) (λ b. expected_read line b columns cells) before (parsed_expectation line cell)
 
 -- the columns and the cells from a place on
-at_place : {B : Type 0} (read : List Column → List (List ℕ) → B) (columns : List Column) (fields : List (List ℕ)) (k : ℕ) (column d : Column) (cell : List ℕ) → length fields ≡ length columns + 1 → k < length columns
-    → column ≡ get_or columns k d → cell ≡ get_or fields (k + 1) [] → read (drop k columns) (drop (k + 1) fields) ≡ read (column ∷ drop (k + 1) columns) (cell ∷ drop (k + 1 + 1) fields)
+at_place : {B : Type 0} (read : List Column → List (List ℕ) → B) (columns : List Column) (fields : List (List ℕ)) (k : ℕ) (column d : Column) (cell : List ℕ)
+    → length fields ≡ length columns + 1 → k < length columns
+    → column ≡ get_or columns k d → cell ≡ get_or fields (k + 1) [] → read (drop k columns) (drop (k + 1) fields) ≡ read (column ∷ drop (k + 1) columns)
+    (cell ∷ drop (k + 1 + 1) fields)
 at_place read columns fields k column d cell l h c e =
     ap (λ cs. read cs (drop (k + 1) fields)) (drop_more columns k d h ∙ ap (λ x. x ∷ drop (k + 1) columns) (sym c))
-    ∙ ap (λ (fs : List (List ℕ)). read (column ∷ drop (k + 1) columns) fs) (drop_more fields (k + 1) [] (omega (arith, l, h)) ∙ ap (λ (x : List ℕ). x ∷ drop (k + 1 + 1) fields) (sym e))
+    ∙ ap (λ (fs : List (List ℕ)). read (column ∷ drop (k + 1) columns) fs) (drop_more fields (k + 1) [] (omega (arith, l, h))
+    ∙ ap (λ (x : List ℕ). x ∷ drop (k + 1 + 1) fields) (sym e))
 
 -- a cell more
-pub amounts_next : (line : ℕ) (before after : List (ℕ × ℤ)) (columns : List Column) (fields : List (List ℕ)) (k : ℕ) (column d : Column) (cell : List ℕ) → length fields ≡ length columns + 1 → k < length columns
+pub amounts_next : (line : ℕ) (before after : List (ℕ × ℤ)) (columns : List Column) (fields : List (List ℕ)) (k : ℕ) (column d : Column) (cell : List ℕ)
+    → length fields ≡ length columns + 1 → k < length columns
     → column ≡ get_or columns k d → cell ≡ get_or fields (k + 1) [] → amounts_behind line before column cell ≡ Ok after
     → cells_read line after (column_inputs (drop (k + 1) columns)) (input_cells (drop (k + 1) columns) (drop (k + 1 + 1) fields))
     ≡ cells_read line before (column_inputs (drop k columns)) (input_cells (drop k columns) (drop (k + 1) fields))
 amounts_next line before after columns fields k column d cell l h c e more =
-    sym (at_place (amounts_from line before) columns fields k column d cell l h c e ∙ amounts_step line before column cell (drop (k + 1) columns) (drop (k + 1 + 1) fields)
+    sym (at_place (amounts_from line before) columns fields k column d cell l h c e
+    ∙ amounts_step line before column cell (drop (k + 1) columns) (drop (k + 1 + 1) fields)
     ∙ ap (if_read (λ b. amounts_from line b (drop (k + 1) columns) (drop (k + 1 + 1) fields))) more)
 
-pub expected_next : (line : ℕ) (before after : List (ℕ × Expected)) (columns : List Column) (fields : List (List ℕ)) (k : ℕ) (column d : Column) (cell : List ℕ) → length fields ≡ length columns + 1 → k < length columns
+pub expected_next : (line : ℕ) (before after : List (ℕ × Expected)) (columns : List Column) (fields : List (List ℕ)) (k : ℕ) (column d : Column) (cell : List ℕ)
+    → length fields ≡ length columns + 1 → k < length columns
     → column ≡ get_or columns k d → cell ≡ get_or fields (k + 1) [] → expected_behind line before column cell ≡ Ok after
     → expected_read line after (drop (k + 1) columns) (drop (k + 1 + 1) fields) ≡ expected_read line before (drop k columns) (drop (k + 1) fields)
 expected_next line before after columns fields k column d cell l h c e more =
-    sym (at_place (expected_read line before) columns fields k column d cell l h c e ∙ expected_step line before column cell (drop (k + 1) columns) (drop (k + 1 + 1) fields)
+    sym (at_place (expected_read line before) columns fields k column d cell l h c e
+    ∙ expected_step line before column cell (drop (k + 1) columns) (drop (k + 1 + 1) fields)
     ∙ ap (if_read (λ b. expected_read line b (drop (k + 1) columns) (drop (k + 1 + 1) fields))) more)
 
 -- a cell with a fault
-pub fault_of : {A B : Type 0} (next : A → Result B HouseholdFault) (r : Result A HouseholdFault) (fault : CasesFault) → of_household r ≡ Err fault → of_household (if_read next r) ≡ Err fault
+pub fault_of : {A B : Type 0} (next : A → Result B HouseholdFault) (r : Result A HouseholdFault) (fault : CasesFault) → of_household r ≡ Err fault
+    → of_household (if_read next r) ≡ Err fault
 fault_of next (Ok v) fault e = absurd (cc)
 fault_of next (Err f) fault e = let same : case_fault f ≡ fault = cc in ap Err same
 
-pub amounts_stop : (line : ℕ) (before : List (ℕ × ℤ)) (columns : List Column) (fields : List (List ℕ)) (k : ℕ) (column d : Column) (cell : List ℕ) (fault : CasesFault) (all : Result (List (ℕ × ℤ)) HouseholdFault)
-    → length fields ≡ length columns + 1 → k < length columns → column ≡ get_or columns k d → cell ≡ get_or fields (k + 1) [] → of_household (amounts_behind line before column cell) ≡ Err fault
+pub amounts_stop : (line : ℕ) (before : List (ℕ × ℤ)) (columns : List Column) (fields : List (List ℕ)) (k : ℕ) (column d : Column) (cell : List ℕ)
+    (fault : CasesFault) (all : Result (List (ℕ × ℤ)) HouseholdFault)
+    → length fields ≡ length columns + 1 → k < length columns → column ≡ get_or columns k d → cell ≡ get_or fields (k + 1) []
+    → of_household (amounts_behind line before column cell) ≡ Err fault
     → cells_read line before (column_inputs (drop k columns)) (input_cells (drop k columns) (drop (k + 1) fields)) ≡ all → of_household all ≡ Err fault
 amounts_stop line before columns fields k column d cell fault all l h c e bad so_far =
-    ap of_household (sym so_far ∙ at_place (amounts_from line before) columns fields k column d cell l h c e ∙ amounts_step line before column cell (drop (k + 1) columns) (drop (k + 1 + 1) fields))
+    ap of_household (sym so_far ∙ at_place (amounts_from line before) columns fields k column d cell l h c e
+    ∙ amounts_step line before column cell (drop (k + 1) columns) (drop (k + 1 + 1) fields))
     ∙ fault_of (λ b. amounts_from line b (drop (k + 1) columns) (drop (k + 1 + 1) fields)) (amounts_behind line before column cell) fault bad
 
-pub expected_stop : (line : ℕ) (before : List (ℕ × Expected)) (columns : List Column) (fields : List (List ℕ)) (k : ℕ) (column d : Column) (cell : List ℕ) (fault : CasesFault) (all : Result (List (ℕ × Expected)) CasesFault)
-    → length fields ≡ length columns + 1 → k < length columns → column ≡ get_or columns k d → cell ≡ get_or fields (k + 1) [] → expected_behind line before column cell ≡ Err fault
+pub expected_stop : (line : ℕ) (before : List (ℕ × Expected)) (columns : List Column) (fields : List (List ℕ)) (k : ℕ) (column d : Column) (cell : List ℕ)
+    (fault : CasesFault) (all : Result (List (ℕ × Expected)) CasesFault)
+    → length fields ≡ length columns + 1 → k < length columns → column ≡ get_or columns k d → cell ≡ get_or fields (k + 1) []
+    → expected_behind line before column cell ≡ Err fault
     → expected_read line before (drop k columns) (drop (k + 1) fields) ≡ all → all ≡ Err fault
 expected_stop line before columns fields k column d cell fault all l h c e bad so_far =
-    sym so_far ∙ at_place (expected_read line before) columns fields k column d cell l h c e ∙ expected_step line before column cell (drop (k + 1) columns) (drop (k + 1 + 1) fields)
+    sym so_far ∙ at_place (expected_read line before) columns fields k column d cell l h c e
+    ∙ expected_step line before column cell (drop (k + 1) columns) (drop (k + 1 + 1) fields)
     ∙ ap (if_read (λ b. expected_read line b (drop (k + 1) columns) (drop (k + 1 + 1) fields))) bad
 
 -- no cell is left
-pub amounts_end : (line : ℕ) (before : List (ℕ × ℤ)) (columns : List Column) (cells : List (List ℕ)) (k : ℕ) → length columns ≤ k → cells_read line before (column_inputs (drop k columns)) (input_cells (drop k columns) cells) ≡ Ok before
+pub amounts_end : (line : ℕ) (before : List (ℕ × ℤ)) (columns : List Column) (cells : List (List ℕ)) (k : ℕ) → length columns ≤ k
+    → cells_read line before (column_inputs (drop k columns)) (input_cells (drop k columns) cells) ≡ Ok before
 amounts_end line before columns cells k h = ap (λ cs. amounts_from line before cs cells) (drop_all k columns h)
 
-pub expected_end : (line : ℕ) (before : List (ℕ × Expected)) (columns : List Column) (cells : List (List ℕ)) (k : ℕ) → length columns ≤ k → expected_read line before (drop k columns) cells ≡ Ok before
+pub expected_end : (line : ℕ) (before : List (ℕ × Expected)) (columns : List Column) (cells : List (List ℕ)) (k : ℕ) → length columns ≤ k
+    → expected_read line before (drop k columns) cells ≡ Ok before
 expected_end line before columns cells k h = ap (λ cs. expected_read line before cs cells) (drop_all k columns h)

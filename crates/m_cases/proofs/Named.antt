@@ -18,13 +18,17 @@ counted (Named name ∷ outputs) = omega (arith, counted outputs)
 counted (Noted number ∷ outputs) = omega (arith, counted outputs)
 
 -- the notes from one output on
-pub notes_at_name : (outputs : List FaceOutput) (i : ℕ) (output : FaceOutput) (name : List ℕ) → i < length outputs → output ≡ get_or outputs i output → output ≡ Named name
+pub notes_at_name : (outputs : List FaceOutput) (i : ℕ) (output : FaceOutput) (name : List ℕ) → i < length outputs → output ≡ get_or outputs i output
+    → output ≡ Named name
     → length (notes_of (drop i outputs)) ≡ length (notes_of (drop (i + 1) outputs))
-notes_at_name outputs i output name h is named = ap (λ (l : List FaceOutput). length (notes_of l)) (drop_more outputs i output h) ∙ ap (λ o. length (notes_of (o ∷ drop (i + 1) outputs))) (sym is ∙ named)
+notes_at_name outputs i output name h is named = ap (λ (l : List FaceOutput). length (notes_of l)) (drop_more outputs i output h)
+    ∙ ap (λ o. length (notes_of (o ∷ drop (i + 1) outputs))) (sym is ∙ named)
 
-pub notes_at_note : (outputs : List FaceOutput) (i : ℕ) (output : FaceOutput) (number : ℕ) → i < length outputs → output ≡ get_or outputs i output → output ≡ Noted number
+pub notes_at_note : (outputs : List FaceOutput) (i : ℕ) (output : FaceOutput) (number : ℕ) → i < length outputs → output ≡ get_or outputs i output
+    → output ≡ Noted number
     → length (notes_of (drop i outputs)) ≡ suc (length (notes_of (drop (i + 1) outputs)))
-notes_at_note outputs i output number h is noted = ap (λ (l : List FaceOutput). length (notes_of l)) (drop_more outputs i output h) ∙ ap (λ o. length (notes_of (o ∷ drop (i + 1) outputs))) (sym is ∙ noted)
+notes_at_note outputs i output number h is noted = ap (λ (l : List FaceOutput). length (notes_of l)) (drop_more outputs i output h)
+    ∙ ap (λ o. length (notes_of (o ∷ drop (i + 1) outputs))) (sym is ∙ noted)
 
 pub notes_end : (outputs : List FaceOutput) (i : ℕ) → length outputs ≤ i → length (notes_of (drop i outputs)) ≡ 0
 notes_end outputs i h = ap (λ (l : List FaceOutput). length (notes_of l)) (drop_all i outputs h)

@@ -1,5 +1,6 @@
 -- Expectations by the numbers of the face.
-use Rattle.std.proofs.Common.{◌≡◌, ℕ, zero, suc, ◌+◌, ◌<◌, ◌≤◌, ◌^◌, cond, arith, get_or, set, take, drop, List, [], ◌∷◌, ◌++◌, map, length, Option, Some, None, Result, Ok, Err, true, refl, sym, ap, ◌∙◌}
+use Rattle.std.proofs.Common.{◌≡◌, ℕ, zero, suc, ◌+◌, ◌<◌, ◌≤◌, ◌^◌, cond, arith, get_or, set, take, drop, List, [], ◌∷◌, ◌++◌, map, length, Option, Some, None}
+use Rattle.std.proofs.Common.{Result, Ok, Err, true, refl, sym, ap, ◌∙◌}
 use Rattle.std.specs.List.{AllByRecursion}
 use Rattle.std.proofs.lemmas.Bool.{and_parts, false≢true}
 use Rattle.std.proofs.lemmas.List.{drop_more, drop_all, get_or-drop, length-map, length-take-le, take_more, take_all}
@@ -19,12 +20,14 @@ use Rattle.m_cases.specs.declared.fault.CasesFault.{CasesFault}
 use Rattle.household.specs.InTurn.{if_read}
 use Rattle.m_cases.specs.declared.expected.Expected.TheVariants.{Is}
 use Rattle.m_cases.specs.Cases.{AreExpected, cases_made, numbered, numbered_cases}
-use Rattle.m_cases.specs.Mismatches.{HasOutput, HasValueEach, got_of, is_met, mismatch_count, mismatch_line, mismatch_lines, named_values, one_line, output_names}
+use Rattle.m_cases.specs.Mismatches.{HasOutput, HasValueEach, got_of, is_met, mismatch_count, mismatch_line, mismatch_lines, named_values, one_line}
+use Rattle.m_cases.specs.Mismatches.{output_names}
 use Rattle.m_cases.proofs.Named.{no_notes}
 
 -- ---- the numbers
 
-known_numbered : (notes n all : ℕ) (es : List (ℕ × Expected)) → notes + n ≤ all → AllByRecursion (λ e. e.0 < n) es → AllByRecursion (λ e. e.0 < all) (numbered notes es)
+known_numbered : (notes n all : ℕ) (es : List (ℕ × Expected)) → notes + n ≤ all → AllByRecursion (λ e. e.0 < n) es
+    → AllByRecursion (λ e. e.0 < all) (numbered notes es)
 known_numbered notes n all [] few h = tt
 known_numbered notes n all (e ∷ es) few h = let l = h.0 in (omega (arith, few, l), known_numbered notes n all es few h.1)
 
@@ -32,7 +35,8 @@ long : (notes : ℕ) (es : List (ℕ × Expected)) → length (numbered notes es
 long notes [] = refl
 long notes (e ∷ es) = ap suc (long notes es)
 
-pub each_numbered : (notes n all : ℕ) (expected : List (List (ℕ × Expected))) → notes + n ≤ all → AllByRecursion (AreExpected n) expected → AllByRecursion (AreExpected all) (map (numbered notes) expected)
+pub each_numbered : (notes n all : ℕ) (expected : List (List (ℕ × Expected))) → notes + n ≤ all → AllByRecursion (AreExpected n) expected
+    → AllByRecursion (AreExpected all) (map (numbered notes) expected)
 each_numbered notes n all [] few h = tt
 each_numbered notes n all (es ∷ expected) few h = (
   record {
@@ -71,14 +75,16 @@ assoc [] ys zs = refl
 assoc (x ∷ xs) ys zs = ap (λ l. x ∷ l) (assoc xs ys zs)
 
 -- what stands at the next place
-pub next_is : (notes : ℕ) (es all : List (ℕ × Expected)) (i : ℕ) (d : ℕ × Expected) → all ≡ numbered notes (take i es) ++ drop i es → i < length es → get_or all i d ≡ get_or es i d
+pub next_is : (notes : ℕ) (es all : List (ℕ × Expected)) (i : ℕ) (d : ℕ × Expected) → all ≡ numbered notes (take i es) ++ drop i es → i < length es
+    → get_or all i d ≡ get_or es i d
 next_is notes es all i d is h =
     let n = seam notes es i (omega (arith, h)) in
     ap (λ l. get_or l i d) (is ∙ ap (λ l. numbered notes (take i es) ++ l) (drop_more es i d h))
     ∙ ap (λ k. get_or (numbered notes (take i es) ++ get_or es i d ∷ drop (i + 1) es) k d) (sym n)
     ∙ get_or-append_seam (numbered notes (take i es)) (get_or es i d) (drop (i + 1) es) d
 
-pub next_numbered : (notes : ℕ) (es all : List (ℕ × Expected)) (i : ℕ) (d new : ℕ × Expected) → all ≡ numbered notes (take i es) ++ drop i es → i < length es → new ≡ (notes + (get_or es i d).0, (get_or es i d).1)
+pub next_numbered : (notes : ℕ) (es all : List (ℕ × Expected)) (i : ℕ) (d new : ℕ × Expected) → all ≡ numbered notes (take i es) ++ drop i es → i < length es
+    → new ≡ (notes + (get_or es i d).0, (get_or es i d).1)
     → set all i new ≡ numbered notes (take (i + 1) es) ++ drop (i + 1) es
 next_numbered notes es all i d new is h put =
     let n = seam notes es i (omega (arith, h)) in
@@ -87,7 +93,8 @@ next_numbered notes es all i d new is h put =
     ∙ set-append_seam (numbered notes (take i es)) (get_or es i d) (drop (i + 1) es) new
     ∙ sym (assoc (numbered notes (take i es)) (new ∷ []) (drop (i + 1) es))
     ∙ ap (λ (x : ℕ × Expected). (numbered notes (take i es) ++ x ∷ []) ++ drop (i + 1) es) put
-    ∙ ap (λ l. l ++ drop (i + 1) es) (sym (map_last (λ (e : ℕ × Expected). (notes + e.0, e.1)) (take i es) (get_or es i d)) ∙ ap (numbered notes) (sym (take_more es i d h)))
+    ∙ ap (λ l. l ++ drop (i + 1) es) (sym (map_last (λ (e : ℕ × Expected). (notes + e.0, e.1)) (take i es) (get_or es i d))
+    ∙ ap (numbered notes) (sym (take_more es i d h)))
 
 pub all_numbered : (notes : ℕ) (es all : List (ℕ × Expected)) (i : ℕ) → all ≡ numbered notes (take i es) ++ drop i es → length es ≤ i → all ≡ numbered notes es
 all_numbered notes es all i is h =
@@ -100,11 +107,13 @@ all_numbered notes es all i is h =
 -- ---- what is read
 
 -- what bytes say by the numbers of the face is what they say by the places among the names
-pub face_read : (notes : ℕ) (stated : Result Cases CasesFault) (cases : Cases) → if_read (λ c. Ok (numbered_cases notes c)) stated ≡ Ok cases → (c : Cases) × (stated ≡ Ok c) × (numbered_cases notes c ≡ cases)
+pub face_read : (notes : ℕ) (stated : Result Cases CasesFault) (cases : Cases) → if_read (λ c. Ok (numbered_cases notes c)) stated ≡ Ok cases
+    → (c : Cases) × (stated ≡ Ok c) × (numbered_cases notes c ≡ cases)
 face_read notes (Ok c) cases h = (c, refl, cc h)
 face_read notes (Err fault) cases h = absurd (cc h)
 
-pub face_fault : (notes : ℕ) (stated : Result Cases CasesFault) (fault : CasesFault) → if_read (λ c. Ok (numbered_cases notes c)) stated ≡ Err fault → stated ≡ Err fault
+pub face_fault : (notes : ℕ) (stated : Result Cases CasesFault) (fault : CasesFault) → if_read (λ c. Ok (numbered_cases notes c)) stated ≡ Err fault
+    → stated ≡ Err fault
 face_fault notes (Ok c) fault h = absurd (cc h)
 face_fault notes (Err other) fault h = cc h
 
@@ -116,32 +125,42 @@ names_all (Named name ∷ outputs) h = ap (λ l. name ∷ l) (names_all outputs 
 names_all (Noted number ∷ outputs) h = absurd (false≢true h)
 
 -- the names stand after the notes
-names_behind : (labels : List FaceLabel) (outputs : List FaceOutput) → notes_stand_first labels outputs ≡ true → drop (length (notes_of outputs)) (output_names outputs) ≡ names_of outputs
+names_behind : (labels : List FaceLabel) (outputs : List FaceOutput) → notes_stand_first labels outputs ≡ true
+    → drop (length (notes_of outputs)) (output_names outputs) ≡ names_of outputs
 names_behind labels [] h = refl
 names_behind labels (Named name ∷ outputs) h = ap (λ n. drop n (name ∷ output_names outputs)) (no_notes outputs h) ∙ ap (λ l. name ∷ l) (names_all outputs h)
 names_behind labels (Noted number ∷ outputs) h = names_behind labels outputs (and_parts _ _ h).1
 
-name_behind : (labels : List FaceLabel) (outputs : List FaceOutput) (k : ℕ) → notes_stand_first labels outputs ≡ true → get_or (output_names outputs) (length (notes_of outputs) + k) [] ≡ get_or (names_of outputs) k []
-name_behind labels outputs k h = sym (get_or-drop (length (notes_of outputs)) (output_names outputs) k []) ∙ ap (λ l. get_or l k []) (names_behind labels outputs h)
+name_behind : (labels : List FaceLabel) (outputs : List FaceOutput) (k : ℕ) → notes_stand_first labels outputs ≡ true
+    → get_or (output_names outputs) (length (notes_of outputs) + k) [] ≡ get_or (names_of outputs) k []
+name_behind labels outputs k h = sym (get_or-drop (length (notes_of outputs)) (output_names outputs) k [])
+    ∙ ap (λ l. get_or l k []) (names_behind labels outputs h)
 
 got_behind : (notes : ℕ) (vs : Option (List Value)) (k : ℕ) → got_of vs (notes + k) ≡ got_of (named_values notes vs) k
 got_behind notes None k = refl
 got_behind notes (Some vs) k = ap Is (sym (get_or-drop notes vs k _))
 
-one_numbered : (labels : List FaceLabel) (outputs : List FaceOutput) (label : List ℕ) (vs : Option (List Value)) (e : ℕ × Expected) → notes_stand_first labels outputs ≡ true
-    → one_line (output_names outputs) label vs (length (notes_of outputs) + e.0, e.1) ≡ one_line (names_of outputs) label (named_values (length (notes_of outputs)) vs) e
+one_numbered : (labels : List FaceLabel) (outputs : List FaceOutput) (label : List ℕ) (vs : Option (List Value)) (e : ℕ × Expected)
+    → notes_stand_first labels outputs ≡ true
+    → one_line (output_names outputs) label vs (length (notes_of outputs) + e.0, e.1) ≡ one_line (names_of outputs) label
+    (named_values (length (notes_of outputs)) vs) e
 one_numbered labels outputs label vs e h =
-    ap (λ got. cond (is_met e.1 got) [] (mismatch_line label (get_or (output_names outputs) (length (notes_of outputs) + e.0) []) e.1 got)) (got_behind (length (notes_of outputs)) vs e.0)
-    ∙ ap (λ name. cond (is_met e.1 (got_of (named_values (length (notes_of outputs)) vs) e.0)) [] (mismatch_line label name e.1 (got_of (named_values (length (notes_of outputs)) vs) e.0))) (name_behind labels outputs e.0 h)
+    ap (λ got. cond (is_met e.1 got) [] (mismatch_line label (get_or (output_names outputs) (length (notes_of outputs) + e.0) []) e.1 got))
+    (got_behind (length (notes_of outputs)) vs e.0)
+    ∙ ap (λ name. cond (is_met e.1 (got_of (named_values (length (notes_of outputs)) vs) e.0)) []
+    (mismatch_line label name e.1 (got_of (named_values (length (notes_of outputs)) vs) e.0))) (name_behind labels outputs e.0 h)
 
 -- the lines by the numbers of the face are those by the places among the names
-pub lines_numbered : (labels : List FaceLabel) (outputs : List FaceOutput) (label : List ℕ) (vs : Option (List Value)) (es : List (ℕ × Expected)) → notes_stand_first labels outputs ≡ true
-    → mismatch_lines (output_names outputs) label vs (numbered (length (notes_of outputs)) es) ≡ mismatch_lines (names_of outputs) label (named_values (length (notes_of outputs)) vs) es
+pub lines_numbered : (labels : List FaceLabel) (outputs : List FaceOutput) (label : List ℕ) (vs : Option (List Value)) (es : List (ℕ × Expected))
+    → notes_stand_first labels outputs ≡ true
+    → mismatch_lines (output_names outputs) label vs (numbered (length (notes_of outputs)) es) ≡ mismatch_lines (names_of outputs) label
+    (named_values (length (notes_of outputs)) vs) es
 lines_numbered labels outputs label vs [] h = refl
 lines_numbered labels outputs label vs (e ∷ es) h = λ i. one_numbered labels outputs label vs e h i ++ lines_numbered labels outputs label vs es h i
 
 -- and so is their count
-pub count_numbered : (notes : ℕ) (vs : Option (List Value)) (es : List (ℕ × Expected)) → mismatch_count vs (numbered notes es) ≡ mismatch_count (named_values notes vs) es
+pub count_numbered : (notes : ℕ) (vs : Option (List Value)) (es : List (ℕ × Expected))
+    → mismatch_count vs (numbered notes es) ≡ mismatch_count (named_values notes vs) es
 count_numbered notes vs [] = refl
 count_numbered notes vs (e ∷ es) = λ i. cond (is_met e.1 (got_behind notes vs e.0 i)) 0 1 + count_numbered notes vs es i
 
@@ -151,14 +170,16 @@ pub has_output : (face : Face) (answer : Answer) (output : ℕ) → HasValueEach
 has_output face (Values vs) output h l = omega (arith, h, l)
 has_output face (Stopped stop) output h l = tt
 
-pub named_there : (outputs : List FaceOutput) (k : ℕ) (found : FaceOutput) (name : List ℕ) → k < length outputs → found ≡ get_or outputs k found → found ≡ Named name → name ≡ get_or (output_names outputs) k []
+pub named_there : (outputs : List FaceOutput) (k : ℕ) (found : FaceOutput) (name : List ℕ) → k < length outputs → found ≡ get_or outputs k found
+    → found ≡ Named name → name ≡ get_or (output_names outputs) k []
 named_there [] k found name l is named = absurd (omega (arith, l))
 named_there (Named other ∷ outputs) zero found name l is named = let same : Named name ≡ Named other = sym named ∙ is in cc same
 named_there (Noted number ∷ outputs) zero found name l is named = let same : Named name ≡ Noted number = sym named ∙ is in absurd (cc same)
 named_there (Named other ∷ outputs) (suc k) found name l is named = named_there outputs k found name (omega (arith, l)) is named
 named_there (Noted number ∷ outputs) (suc k) found name l is named = named_there outputs k found name (omega (arith, l)) is named
 
-pub noted_there : (outputs : List FaceOutput) (k : ℕ) (found : FaceOutput) (number : ℕ) → k < length outputs → found ≡ get_or outputs k found → found ≡ Noted number → [] ≡ get_or (output_names outputs) k []
+pub noted_there : (outputs : List FaceOutput) (k : ℕ) (found : FaceOutput) (number : ℕ) → k < length outputs → found ≡ get_or outputs k found
+    → found ≡ Noted number → [] ≡ get_or (output_names outputs) k []
 noted_there [] k found number l is noted = refl
 noted_there (Named other ∷ outputs) zero found number l is noted = let same : Noted number ≡ Named other = sym noted ∙ is in absurd (cc same)
 noted_there (Noted n ∷ outputs) zero found number l is noted = refl

@@ -43,18 +43,22 @@ below_more inputs outputs m n (Input a) b h k = omega (arith, b, h)
 below_more inputs outputs m n (Output a) b h k = omega (arith, b, k)
 
 -- one more column is seen
-pub sees_input : (seen new : Seen) (columns : List Column) (column : Column) (a : ℕ) → column ≡ Input a → Marks new.inputs.items (column_inputs columns ++ a ∷ []) → new.outputs.items ≡ seen.outputs.items → AreSeen seen columns
+pub sees_input : (seen new : Seen) (columns : List Column) (column : Column) (a : ℕ) → column ≡ Input a
+    → Marks new.inputs.items (column_inputs columns ++ a ∷ []) → new.outputs.items ≡ seen.outputs.items → AreSeen seen columns
     → AreSeen new (columns ++ column ∷ [])
 sees_input seen new columns column a is marks same s =
     subst (λ x. AreSeen new (columns ++ x ∷ [])) (sym is) (record {
       inputs = subst (Marks new.inputs.items) (inputs-push columns (Input a)) marks;
-      outputs = subst (λ (m : List Bool). Marks m (column_outputs (columns ++ Input a ∷ []))) (sym same) (subst (Marks seen.outputs.items) (outputs-skip columns a) s.outputs);
+      outputs = subst (λ (m : List Bool). Marks m (column_outputs (columns ++ Input a ∷ []))) (sym same)
+          (subst (Marks seen.outputs.items) (outputs-skip columns a) s.outputs);
     })
 
-pub sees_output : (seen new : Seen) (columns : List Column) (column : Column) (a : ℕ) → column ≡ Output a → Marks new.outputs.items (column_outputs columns ++ a ∷ []) → new.inputs.items ≡ seen.inputs.items → AreSeen seen columns
+pub sees_output : (seen new : Seen) (columns : List Column) (column : Column) (a : ℕ) → column ≡ Output a
+    → Marks new.outputs.items (column_outputs columns ++ a ∷ []) → new.inputs.items ≡ seen.inputs.items → AreSeen seen columns
     → AreSeen new (columns ++ column ∷ [])
 sees_output seen new columns column a is marks same s =
     subst (λ x. AreSeen new (columns ++ x ∷ [])) (sym is) (record {
-      inputs = subst (λ (m : List Bool). Marks m (column_inputs (columns ++ Output a ∷ []))) (sym same) (subst (Marks seen.inputs.items) (inputs-skip columns a) s.inputs);
+      inputs = subst (λ (m : List Bool). Marks m (column_inputs (columns ++ Output a ∷ []))) (sym same)
+          (subst (Marks seen.inputs.items) (inputs-skip columns a) s.inputs);
       outputs = subst (Marks new.outputs.items) (outputs-push columns (Output a)) marks;
     })

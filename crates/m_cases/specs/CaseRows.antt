@@ -23,7 +23,8 @@ abbrev pub AreExpectations : List Column → List (List ℕ) → List (ℕ × Ex
 AreExpectations [] [] [] = Unit {0}
 AreExpectations (Input input ∷ columns) (cell ∷ cells) expected = AreExpectations columns cells expected
 AreExpectations (Output output ∷ columns) ([] ∷ cells) expected = AreExpectations columns cells expected
-AreExpectations (Output output ∷ columns) ((byte ∷ bytes) ∷ cells) (one ∷ expected) = (one.0 ≡ output) × Expects (byte ∷ bytes) one.1 × AreExpectations columns cells expected
+AreExpectations (Output output ∷ columns) ((byte ∷ bytes) ∷ cells) (one ∷ expected) = (one.0 ≡ output) × Expects (byte ∷ bytes) one.1
+    × AreExpectations columns cells expected
 AreExpectations _ _ _ = ⊥
 
 -- no column stands twice

@@ -18,7 +18,8 @@ use Rattle.household.specs.Table.{is_label, is_table_header, pairs_read}
 use Rattle.m_cases.specs.declared.columns.Column.{Column}
 use Rattle.m_cases.specs.declared.columns.Column.TheVariants.{Input, Output}
 use Rattle.m_cases.specs.declared.fault.CasesFault.{CasesFault}
-use Rattle.m_cases.specs.declared.fault.CasesFault.TheVariants.{BadHeader, TooManyRows, BadRow, UnknownCode, CodeTwice, BadAmount, NotOfType, BadExpected, Memory}
+use Rattle.m_cases.specs.declared.fault.CasesFault.TheVariants.{BadHeader, TooManyRows, BadRow, UnknownCode, CodeTwice, BadAmount, NotOfType, BadExpected}
+use Rattle.m_cases.specs.declared.fault.CasesFault.TheVariants.{Memory}
 use Rattle.m_cases.specs.declared.cases.Case.{Case}
 use Rattle.m_cases.specs.declared.cases.Cases.{Cases}
 use Rattle.m_cases.specs.declared.expected.Expected.{Expected}

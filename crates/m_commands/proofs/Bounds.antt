@@ -19,7 +19,13 @@ nothing (Some bytes) = refl
 
 -- nothing was taken
 untouched : (heard reported : InputView) (status : Status) → reported ≡ heard → KeepsInputLimit heard reported status
-untouched heard reported status same = ([], ap (λ (v : InputView). v.left) (sym same) ∙ sym (nothing reported.left), omega arith, λ full. absurd (omega (arith, full)))
+untouched heard reported status same = (
+  [],
+  ap (λ (v : InputView). v.left) (sym same)
+      ∙ sym (nothing reported.left),
+  omega arith,
+  λ full. absurd (omega (arith, full)),
+)
 
 -- less was taken than may be
 less : (heard reported : InputView) (status : Status) (taken : List ℕ) → heard.left ≡ prepend_known taken reported.left → length taken < INPUT_BYTES
@@ -35,7 +41,13 @@ session_bounded : (whole each : List ℕ → List ℕ) (heard reported : InputVi
     → Served whole each heard reported old new status → KeepsInputLimit heard reported status
 session_bounded whole each heard reported old new status (to_its_end taken moved few none calm appends is) = less heard reported status taken moved few
 session_bounded whole each heard reported old new status (unread taken moved few rose p) = less heard reported status taken moved few
-session_bounded whole each heard reported old new status (too_long taken moved full calm p) = (taken, moved, omega (arith, full), λ e. stated _ old new status p)
+session_bounded whole each heard reported old new status (too_long taken moved full calm p) = (
+  taken,
+  moved,
+  omega (arith, full),
+  λ e. stated _ old new status
+      p,
+)
 session_bounded whole each heard reported old new status (unwritten taken moved within calm breaks is) = (taken, moved, within, λ full. inr is)
 session_bounded whole each heard reported old new status (unwritten_at_end taken moved few none calm breaks is) = less heard reported status taken moved few
 
@@ -44,7 +56,8 @@ work_bounded : (work : Work) (heard reported : InputView) (old new : OutputView)
 work_bounded (Run source rows) heard reported old new status a = untouched heard reported status a.0
 work_bounded (Serve source rows) heard reported old new status (serve.refused line r same p) = untouched heard reported status same
 work_bounded (Serve source rows) heard reported old new status (serve.no_memory same n m) = untouched heard reported status same
-work_bounded (Serve source rows) heard reported old new status (serve.served scheme explains pairs s done) = session_bounded _ _ heard reported old new status done
+work_bounded (Serve source rows) heard reported old new status (serve.served scheme explains pairs s done) = session_bounded _ _ heard reported old new status
+    done
 work_bounded (Batch source table) heard reported old new status a = untouched heard reported status a.0
 work_bounded (Large n) heard reported old new status a = untouched heard reported status a.0
 work_bounded (Compile source) heard reported old new status a = untouched heard reported status a.0

@@ -26,7 +26,8 @@ same_fault_line fault other t u e a b =
     cc (c, b)
 
 -- a scheme answers in one way
-one_compared : (scheme : Scheme) (table t u : List ℕ) (s r : Status) → ComparedReplies scheme table t s → ComparedReplies scheme table u r → AreOneOutput t s u r
+one_compared : (scheme : Scheme) (table t u : List ℕ) (s r : Status) → ComparedReplies scheme table t s → ComparedReplies scheme table u r
+    → AreOneOutput t s u r
 one_compared scheme table t u s r (table_is_refused fault g k) (table_is_refused other h l) = the_same (same_fault_line fault other t u (cc (g, h)) k l) refl
 one_compared scheme table t u s r (table_is_refused fault g k) (is_compared cases h) = cc (g, h)
 one_compared scheme table t u s r (is_compared cases g) (table_is_refused other h l) = cc (g, h)
@@ -36,7 +37,8 @@ one_compared scheme table t u s r (is_compared one g) (is_compared other h) =
 
 -- `cases` answers in one way
 pub one_cases : (source : Source) (table t u : List ℕ) (s r : Status) → CasesReplies source table t s → CasesReplies source table u r → AreOneOutput t s u r
-one_cases source table t u s r (source_is_refused fault f k) (source_is_refused other g l) = one_line source.texts fault other t u (one_fault source fault other f g) k l
+one_cases source table t u s r (source_is_refused fault f k) (source_is_refused other g l) = one_line source.texts fault other t u
+    (one_fault source fault other f g) k l
 one_cases source table t u s r (source_is_refused fault f k) (is_answered scheme v b) = absurd (no_scheme_and_fault source scheme fault v f)
 one_cases source table t u s r (is_answered scheme v a) (source_is_refused fault f k) = absurd (no_scheme_and_fault source scheme fault v f)
 one_cases source table t u s r (is_answered one v a) (is_answered other w b) =
@@ -46,12 +48,15 @@ count_complete : (count : ℕ) → IsComplete (count_status count)
 count_complete zero = tt
 count_complete (suc count) = tt
 
-given_complete : (scheme : Scheme) (table text : List ℕ) (status : Status) (cases : Cases) → cases_of scheme.inputs scheme.names table ≡ Ok cases → ComparedReplies scheme table text status → IsComplete status
+given_complete : (scheme : Scheme) (table text : List ℕ) (status : Status) (cases : Cases) → cases_of scheme.inputs scheme.names table ≡ Ok cases
+    → ComparedReplies scheme table text status → IsComplete status
 given_complete scheme table text status cases g (table_is_refused fault h k) = cc (g, h)
 given_complete scheme table text status cases g (is_compared other h) = count_complete (cases_count scheme other.rows other.expected)
 
 -- what has an answer isn't refused
-pub compared_complete : (source : Source) (table text : List ℕ) (status : Status) → CasesHasAnswer source table → CasesReplies source table text status → IsComplete status
+pub compared_complete : (source : Source) (table text : List ℕ) (status : Status) → CasesHasAnswer source table → CasesReplies source table text status
+    → IsComplete status
 compared_complete source table text status h (source_is_refused fault f k) = absurd (no_scheme_and_fault source h.scheme fault h.valid f)
 compared_complete source table text status h (is_answered scheme v a) =
-    given_complete h.scheme table text status h.cases h.given (subst (λ (x : Scheme). ComparedReplies x table text status) (one_scheme source scheme h.scheme v h.valid) a)
+    given_complete h.scheme table text status h.cases h.given
+    (subst (λ (x : Scheme). ComparedReplies x table text status) (one_scheme source scheme h.scheme v h.valid) a)

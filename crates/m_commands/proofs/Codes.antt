@@ -47,11 +47,13 @@ pub one_loaded : (code : List ℕ) (one other : Loaded) → IsFormOf code one �
 one_loaded code one other a b = let same = one-form code one other a b in record { code = same.0; inputs = same.1; labels = same.2; outputs = same.3 }
 
 -- the form of loaded code has no fault
-pub no_form_and_fault : (code line : List ℕ) (loaded : Loaded) (fault : CodeFault) → IsFormOf code loaded → IsCodeFault code fault → code_fault_line fault ≡ Some line → ⊥
+pub no_form_and_fault : (code line : List ℕ) (loaded : Loaded) (fault : CodeFault) → IsFormOf code loaded → IsCodeFault code fault
+    → code_fault_line fault ≡ Some line → ⊥
 no_form_and_fault code line loaded fault form f k = no-fault-of-form code loaded fault form f
 
 -- a code file has one fault
-one_code_fault : (code line other_line : List ℕ) (fault other : CodeFault) → IsCodeFault code fault → IsCodeFault code other → code_fault_line fault ≡ Some line → code_fault_line other ≡ Some other_line → fault ≡ other
+one_code_fault : (code line other_line : List ℕ) (fault other : CodeFault) → IsCodeFault code fault → IsCodeFault code other → code_fault_line fault ≡ Some line
+    → code_fault_line other ≡ Some other_line → fault ≡ other
 one_code_fault code line other_line fault other f g k l = one-fault code fault other f g
 
 -- ---- what code is to households
@@ -61,7 +63,8 @@ pub one_inputs : (face : Face) (runs : List Value → Answer) (one other : Schem
 one_inputs face runs one other a b = sym a.inputs ∙ b.inputs
 
 -- and so is what is told to a household
-pub one_reported : (face : Face) (runs : List Value → Answer) (one other : Scheme) (rows : List ℕ) (pairs : List (ℕ × ℤ)) → Shows one face runs → Shows other face runs
+pub one_reported : (face : Face) (runs : List Value → Answer) (one other : Scheme) (rows : List ℕ) (pairs : List (ℕ × ℤ)) → Shows one face runs
+    → Shows other face runs
     → household_of one.inputs rows ≡ Ok pairs → household_of other.inputs rows ≡ Ok pairs → observation_for one pairs ≡ observation_for other pairs
 one_reported face runs one other rows pairs a b g h =
     let n : length one.inputs ≡ length other.inputs = ap length (one_inputs face runs one other a b) in
@@ -70,11 +73,13 @@ one_reported face runs one other rows pairs a b g h =
     cc (n, x, y)
 
 -- what code is to households, the same code is too
-pub shown_other : (scheme : Scheme) (one other : Loaded) → IsSameCode one other → Shows scheme one.face (machine_run one.code) → Shows scheme other.face (machine_run other.code)
+pub shown_other : (scheme : Scheme) (one other : Loaded) → IsSameCode one other → Shows scheme one.face (machine_run one.code)
+    → Shows scheme other.face (machine_run other.code)
 shown_other scheme one other same s = record {
   inputs = sym same.inputs ∙ s.inputs;
   names = ap names_of (sym same.outputs) ∙ s.names;
-  answers = λ values given. (λ i. observation (sym same.labels i) (notes_of (sym same.outputs i)) (machine_run (sym same.code i) values)) ∙ s.answers values given;
+  answers = λ values given. (λ i. observation (sym same.labels i) (notes_of (sym same.outputs i)) (machine_run (sym same.code i) values))
+      ∙ s.answers values given;
 }
 
 -- a household is answered in one way by what the code is to it
@@ -105,9 +110,12 @@ one_code_line fault other t u e a b =
 
 -- `exec` answers in one way
 pub one_exec : (code rows t u : List ℕ) (s r : Status) → ExecReplies code rows t s → ExecReplies code rows u r → AreOneOutput t s u r
-one_exec code rows t u s r (exec.code_is_refused fault f k) (exec.code_is_refused other g l) = the_same (one_code_line fault other t u (one_code_fault code t u fault other f g k l) k l) refl
-one_exec code rows t u s r (exec.code_is_refused fault f k) (exec.is_answered loaded scheme form shown h) = absurd (no_form_and_fault code t loaded fault form f k)
-one_exec code rows t u s r (exec.is_answered loaded scheme form shown h) (exec.code_is_refused fault f k) = absurd (no_form_and_fault code u loaded fault form f k)
+one_exec code rows t u s r (exec.code_is_refused fault f k) (exec.code_is_refused other g l) = the_same
+    (one_code_line fault other t u (one_code_fault code t u fault other f g k l) k l) refl
+one_exec code rows t u s r (exec.code_is_refused fault f k) (exec.is_answered loaded scheme form shown h) = absurd
+    (no_form_and_fault code t loaded fault form f k)
+one_exec code rows t u s r (exec.is_answered loaded scheme form shown h) (exec.code_is_refused fault f k) = absurd
+    (no_form_and_fault code u loaded fault form f k)
 one_exec code rows t u s r (exec.is_answered one scheme form shown h) (exec.is_answered other also part seen i) =
     let e = one_loaded code one other form part in
     let a = shown_other scheme one other e shown in
@@ -138,7 +146,8 @@ compiled_not_refused source fault h is = no_scheme_and_fault source h.scheme fau
 
 -- `compile` answers in one way, but for the code
 pub one_compile : (source : Source) (t u : List ℕ) (s r : Status) → CompileReplies source t s → CompileReplies source u r → AreOneOutput t s u r
-one_compile source t u s r (compiles.is_refused fault f k) (compiles.is_refused other g l) = one_line source.texts fault other t u (one_fault source fault other f g) k l
+one_compile source t u s r (compiles.is_refused fault f k) (compiles.is_refused other g l) = one_line source.texts fault other t u
+    (one_fault source fault other f g) k l
 one_compile source t u s r (compiles.is_refused fault f k) (compiles.is_compiled other w part) = absurd (no_scheme_and_fault source w.scheme fault w.valid f)
 one_compile source t u s r (compiles.is_compiled one v form) (compiles.is_refused fault f k) = absurd (no_scheme_and_fault source v.scheme fault v.valid f)
 one_compile source t u s r (compiles.is_compiled one v form) (compiles.is_compiled other w part) = both_compiled source one other v form w part

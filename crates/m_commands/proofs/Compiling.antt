@@ -26,7 +26,8 @@ use Rattle.m_commands.proofs.Clauses.{text_of}
 
 -- ---- a plan, and what is made of what it gathers
 
-of_test : {A B : Type 0} (name : List ℕ) (f : A → B) (w : B) (one : End B) (other : End A) (test : Bool) → (one ≡ gathered w → (a : A) × (w ≡ f a) × (other ≡ gathered a))
+of_test : {A B : Type 0} (name : List ℕ) (f : A → B) (w : B) (one : End B) (other : End A) (test : Bool)
+    → (one ≡ gathered w → (a : A) × (w ≡ f a) × (other ≡ gathered a))
     → cond test one (refused (too_long_line name)) ≡ gathered w → (a : A) × (w ≡ f a) × (cond test other (refused (too_long_line name)) ≡ gathered a)
 of_test name f w one other true h e = h e
 of_test name f w one other false h e = absurd (cc e)
@@ -38,20 +39,24 @@ of_file name limit f w one other None h e = absurd (cc e)
 of_file name limit f w one other (Some bytes) h e = of_test name f w (one bytes) (other bytes) (nat_le (length bytes) limit) (h bytes) e
 
 -- a plan whose end makes something of what it gathered has gathered that
-gathers_made : {A B : Type 0} (disk : Disk) (plan : Plan A) (f : A → B) (w : B) → end_of disk (and_then plan (λ a. done (f a))) ≡ gathered w → (a : A) × (w ≡ f a) × (end_of disk plan ≡ gathered a)
+gathers_made : {A B : Type 0} (disk : Disk) (plan : Plan A) (f : A → B) (w : B) → end_of disk (and_then plan (λ a. done (f a))) ≡ gathered w
+    → (a : A) × (w ≡ f a) × (end_of disk plan ≡ gathered a)
 gathers_made disk (done all) f w e = let s : f all ≡ w = cc e in (all, sym s, refl)
 gathers_made disk (refuses line) f w e = absurd (cc e)
 gathers_made disk (fetches name limit behind) f w e =
-    of_file name limit f w (λ bytes. end_of disk (and_then (behind bytes) (λ a. done (f a)))) (λ bytes. end_of disk (behind bytes)) (disk name) (λ bytes i. gathers_made disk (behind bytes) f w i) e
+    of_file name limit f w (λ bytes. end_of disk (and_then (behind bytes) (λ a. done (f a)))) (λ bytes. end_of disk (behind bytes)) (disk name)
+    (λ bytes i. gathers_made disk (behind bytes) f w i) e
 
 -- ---- `compile`
 
 -- what a compilation that did its work has written
-pub written : (source : Source) (text : List ℕ) (status : Status) → status ≡ Done → CompileReplies source text status → (loaded : Loaded) × IsPreparedCode source loaded × IsFormOf text loaded
+pub written : (source : Source) (text : List ℕ) (status : Status) → status ≡ Done → CompileReplies source text status
+    → (loaded : Loaded) × IsPreparedCode source loaded × IsFormOf text loaded
 written source text status d (is_refused fault f reported) = absurd (cc d)
 written source text status d (is_compiled loaded is form) = (loaded, is, form)
 
-code_output : (words : List (List ℕ)) (disk : Disk) (names : SourceNames) (text : List ℕ) (status : Status) → command_of words ≡ Some (Compile names) → status ≡ Done → Output words disk [] text status
+code_output : (words : List (List ℕ)) (disk : Disk) (names : SourceNames) (text : List ℕ) (status : Status) → command_of words ≡ Some (Compile names)
+    → status ≡ Done → Output words disk [] text status
     → (source : Source) × (loaded : Loaded) × (end_of disk (source_plan names) ≡ gathered source) × IsPreparedCode source loaded × IsFormOf text loaded
 code_output words disk names text status c d (usage e) = cc (c, e)
 code_output words disk names text status c d (refuses command e g) = absurd (cc d)
@@ -63,7 +68,8 @@ code_output words disk names text status c d (answers command gathers e g r) =
     let w = written m.0 text status d q in
     (m.0, w.0, m.2, w.1, w.2)
 
-pub writes_of : (words : List (List ℕ)) (before after : FilesView) (heard reported : InputView) (old new : OutputView) (status : Status) → Course words before after heard reported old new status → WritesCode words before old new status
+pub writes_of : (words : List (List ℕ)) (before after : FilesView) (heard reported : InputView) (old new : OutputView) (status : Status)
+    → Course words before after heard reported old new status → WritesCode words before old new status
 writes_of words before after heard reported old new status course disk names t c d =
     let r : reads_input words ≡ false = ap (λ o. option_map_or takes_input o false) c in
     let o = text_of words before after heard reported old new status course disk [] (λ _. t) (λ s. cc (r, s)) (rw d tt) in

@@ -23,18 +23,21 @@ not_done : (text : List ℕ) (own : Status) (old new : OutputView) (status : Sta
 not_done text own old new status (inl p) unlike e = unlike (sym p.1 ∙ e)
 not_done text own old new status (inr p) unlike e = cc (p.1, e)
 
-session_ends : (whole each : List ℕ → List ℕ) (heard reported : InputView) (old new : OutputView) (status : Status) → Served whole each heard reported old new status → status ≡ Done → IsAtEnd reported.left
+session_ends : (whole each : List ℕ → List ℕ) (heard reported : InputView) (old new : OutputView) (status : Status)
+    → Served whole each heard reported old new status → status ≡ Done → IsAtEnd reported.left
 session_ends whole each heard reported old new status (to_its_end taken moved few none calm appends is) e = none
 session_ends whole each heard reported old new status (unread taken moved few rose p) e = absurd (not_done _ ReadFault old new status p (λ x. cc) e)
 session_ends whole each heard reported old new status (too_long taken moved full calm p) e = absurd (not_done _ Refused old new status p (λ x. cc) e)
 session_ends whole each heard reported old new status (unwritten taken moved within calm breaks is) e = absurd (cc (is, e))
 session_ends whole each heard reported old new status (unwritten_at_end taken moved few none calm breaks is) e = none
 
-work_ends : (work : Work) (heard reported : InputView) (old new : OutputView) (status : Status) → WorkIsAnswered work heard reported old new status → work_form work ≡ Some form.Serve → status ≡ Done → IsAtEnd reported.left
+work_ends : (work : Work) (heard reported : InputView) (old new : OutputView) (status : Status) → WorkIsAnswered work heard reported old new status
+    → work_form work ≡ Some form.Serve → status ≡ Done → IsAtEnd reported.left
 work_ends (Run source rows) heard reported old new status a k e = absurd (cc k)
 work_ends (Serve source rows) heard reported old new status (serve.refused line r same p) k e = absurd (not_done line Refused old new status p (λ x. cc) e)
 work_ends (Serve source rows) heard reported old new status (serve.no_memory same n m) k e = absurd (cc (m, e))
-work_ends (Serve source rows) heard reported old new status (serve.served scheme explains pairs s done) k e = session_ends _ _ heard reported old new status done e
+work_ends (Serve source rows) heard reported old new status (serve.served scheme explains pairs s done) k e = session_ends _ _ heard reported old new status
+    done e
 work_ends (Batch source table) heard reported old new status a k e = absurd (cc k)
 work_ends (Large n) heard reported old new status a k e = absurd (cc k)
 work_ends (Compile source) heard reported old new status a k e = absurd (cc k)
@@ -47,8 +50,10 @@ pub ends_of : (words : List (List ℕ)) (before after : FilesView) (heard report
     → Course words before after heard reported old new status → reads_input words ≡ true → status ≡ Done → IsAtEnd reported.left
 ends_of words before after heard reported old new status (is_no_command n s h p) r e = absurd (not_done usage_line Usage old new status p (λ x. cc) e)
 ends_of words before after heard reported old new status (has_no_memory s h o m) r e = absurd (cc (m, e))
-ends_of words before after heard reported old new status (ended wanted (ending.Refused refusal) c g h p) r e = absurd (not_done (refusal_line refusal) Refused old new status p (λ x. cc) e)
-ends_of words before after heard reported old new status (ended wanted (ending.Unreadable name) c g h p) r e = absurd (not_done (unreadable_line name) ReadFault old new status p (λ x. cc) e)
+ends_of words before after heard reported old new status (ended wanted (ending.Refused refusal) c g h p) r e = absurd
+    (not_done (refusal_line refusal) Refused old new status p (λ x. cc) e)
+ends_of words before after heard reported old new status (ended wanted (ending.Unreadable name) c g h p) r e = absurd
+    (not_done (unreadable_line name) ReadFault old new status p (λ x. cc) e)
 ends_of words before after heard reported old new status (ended wanted ending.Memory c g h p) r e = absurd (cc (p.1, e))
 ends_of words before after heard reported old new status (answered wanted work c g k a) r e =
     work_ends work heard reported old new status a (k ∙ session_requested wanted (sym (ap (λ o. option_map_or takes_input o false) c) ∙ r)) e

@@ -28,7 +28,8 @@ use Rattle.m_commands.proofs.Compiling.{written}
 use Rattle.m_commands.proofs.Schemes.{one_scheme}
 
 -- what is answered to a household by one scheme is answered to it by the other
-same_replies : (face : Face) (runs : List Value → Answer) (one other : Scheme) (rows text : List ℕ) (status : Status) → Shows one face runs → Shows other face runs
+same_replies : (face : Face) (runs : List Value → Answer) (one other : Scheme) (rows text : List ℕ) (status : Status) → Shows one face runs
+    → Shows other face runs
     → HouseholdReplies [] one rows text status → HouseholdReplies [] other rows text status
 same_replies face runs one other rows text status a b (prepared.is_refused fault g k) =
     prepared.is_refused fault (subst (λ inputs. household_of inputs rows ≡ Err fault) (one_inputs face runs one other a b) g) k
@@ -36,18 +37,22 @@ same_replies face runs one other rows text status a b (prepared.is_reported pair
     let f : household_of other.inputs rows ≡ Ok pairs = subst (λ inputs. household_of inputs rows ≡ Ok pairs) (one_inputs face runs one other a b) g in
     let e : observation_for other pairs ≡ observation_for one pairs = sym (one_reported face runs one other rows pairs a b g f) in
     let n : other.names ≡ one.names = sym b.names ∙ a.names in
-    let t : observation_lines other.names (observation_for other pairs) ≡ observation_lines one.names (observation_for one pairs) = λ i. observation_lines (n i) (e i) in
-    let r : HouseholdReplies [] other rows (observation_lines other.names (observation_for other pairs)) (observation_status (observation_for other pairs)) = prepared.is_reported pairs f in
+    let t : observation_lines other.names (observation_for other pairs) ≡ observation_lines one.names (observation_for one pairs) = λ i. observation_lines (n i)
+    (e i) in
+    let r : HouseholdReplies [] other rows (observation_lines other.names (observation_for other pairs))
+    (observation_status (observation_for other pairs)) = prepared.is_reported pairs f in
     subst (λ (s : Status). HouseholdReplies [] other rows (observation_lines one.names (observation_for one pairs)) s) (ap observation_status e)
     (subst (λ (x : List ℕ). HouseholdReplies [] other rows x (observation_status (observation_for other pairs))) t r)
 
 -- what is answered to a household by the scheme of a source is what `run` answers
-run_of : (source : Source) (scheme : Scheme) (rows text : List ℕ) (status : Status) → IsScheme source scheme → HouseholdReplies [] scheme rows text status → RunReplies source rows text status
+run_of : (source : Source) (scheme : Scheme) (rows text : List ℕ) (status : Status) → IsScheme source scheme → HouseholdReplies [] scheme rows text status
+    → RunReplies source rows text status
 run_of source scheme rows text status v (prepared.is_refused fault g k) = run.is_refused (households_are_refused scheme fault v g k)
 run_of source scheme rows text status v (prepared.is_reported pairs g) = run.is_reported scheme pairs v g
 
 -- what `exec` answers by a code file of what a source is compiled to, `run` answers by the source
-executed : (source : Source) (loaded : Loaded) (code rows text : List ℕ) (status : Status) → IsPreparedCode source loaded → IsFormOf code loaded → ExecReplies code rows text status
+executed : (source : Source) (loaded : Loaded) (code rows text : List ℕ) (status : Status) → IsPreparedCode source loaded → IsFormOf code loaded
+    → ExecReplies code rows text status
     → RunReplies source rows text status
 executed source loaded code rows text status p form (exec.code_is_refused fault f k) = absurd (no_form_and_fault code text loaded fault form f k)
 executed source loaded code rows text status p form (exec.is_answered other scheme part shown replies) =
@@ -56,17 +61,20 @@ executed source loaded code rows text status p form (exec.is_answered other sche
     run_of source p.scheme rows text status p.valid (same_replies loaded.face (machine_run loaded.code) scheme p.scheme rows text status a p.shows replies)
 
 -- the code is to households what each scheme of the source is
-shown_by : (source : Source) (loaded : Loaded) (scheme : Scheme) → IsPreparedCode source loaded → IsScheme source scheme → Shows scheme loaded.face (machine_run loaded.code)
+shown_by : (source : Source) (loaded : Loaded) (scheme : Scheme) → IsPreparedCode source loaded → IsScheme source scheme
+    → Shows scheme loaded.face (machine_run loaded.code)
 shown_by source loaded scheme p v = subst (λ (s : Scheme). Shows s loaded.face (machine_run loaded.code)) (one_scheme source p.scheme scheme p.valid v) p.shows
 
 -- and what `run` answers by the source, `exec` answers by the code file
-ran : (source : Source) (loaded : Loaded) (code rows text : List ℕ) (status : Status) → IsPreparedCode source loaded → IsFormOf code loaded → RunReplies source rows text status
+ran : (source : Source) (loaded : Loaded) (code rows text : List ℕ) (status : Status) → IsPreparedCode source loaded → IsFormOf code loaded
+    → RunReplies source rows text status
     → ExecReplies code rows text status
 ran source loaded code rows text status p form (run.is_refused (source_is_refused fault is reported)) =
     absurd (no_valid_and_fault source p.valid.declared p.valid.base p.valid.written p.valid.requests fault p.valid.valid is)
 ran source loaded code rows text status p form (run.is_refused (households_are_refused scheme fault v g k)) =
     exec.is_answered loaded scheme form (shown_by source loaded scheme p v) (prepared.is_refused fault g k)
-ran source loaded code rows text status p form (run.is_reported scheme pairs v g) = exec.is_answered loaded scheme form (shown_by source loaded scheme p v) (prepared.is_reported pairs g)
+ran source loaded code rows text status p form (run.is_reported scheme pairs v g) = exec.is_answered loaded scheme form (shown_by source loaded scheme p v)
+    (prepared.is_reported pairs g)
 
 -- ---- what `compile` has written
 
@@ -81,4 +89,10 @@ executed_as source code rows text status compiled =
 pub answered_as : (source : Source) (code rows : List ℕ) → CompileReplies source code Done → RunHasAnswer source rows → ExecHasAnswer code rows
 answered_as source code rows compiled h =
     let w = written source code Done refl compiled in
-    record { loaded = w.0; pairs = h.pairs; form = w.2; given = ap (λ inputs. household_of inputs rows) (shown_by source w.0 h.scheme w.1 h.valid).inputs ∙ h.given }
+    record {
+      loaded = w.0;
+      pairs = h.pairs;
+      form = w.2;
+      given = ap (λ inputs. household_of inputs rows) (shown_by source w.0 h.scheme w.1 h.valid).inputs
+          ∙ h.given;
+    }

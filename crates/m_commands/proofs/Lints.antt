@@ -47,23 +47,35 @@ linted_complete source text status h (is_refused fault f k) = absurd (compiled_n
 linted_complete source text status h (is_linted declared base compiled rules is) = tt
 
 -- what is found is true of what the source answers
-found_true : (source : Source) (declared : Declared) (base : Base) (compiled : Compiled) (others : Declared) (other : Base) (written : Option Core) (requests : List ℕ) → HasRules source declared base
+found_true : (source : Source) (declared : Declared) (base : Base) (compiled : Compiled) (others : Declared) (other : Base) (written : Option Core)
+    (requests : List ℕ) → HasRules source declared base
     → (is : IsCompiled source compiled) → IsValid source others other written requests
-    → (findings : List Finding) × (lint_text declared base compiled ≡ findings_text others other findings) × AllByRecursion (IsTrueFinding others other (inputs_declared others) (answer_to others other written requests)) findings
+    → (findings : List Finding) × (lint_text declared base compiled ≡ findings_text others other findings)
+    × AllByRecursion (IsTrueFinding others other (inputs_declared others) (answer_to others other written requests)) findings
 found_true source declared base compiled others other written requests rules is valid =
     let same = one_validity source is.declared others is.base other is.written written is.requests requests is.valid valid in
     let also = one_rules source declared others base other rules valid.rules in
-    let found = all_true is.declared is.base compiled.tidy compiled.face (answer_to is.declared is.base is.written is.requests) is.runnable.valid is.runnable.shown is.answers in (
+    let found = all_true is.declared is.base compiled.tidy compiled.face (answer_to is.declared is.base is.written is.requests) is.runnable.valid
+    is.runnable.shown is.answers in (
       findings_of others other compiled.tidy compiled.face,
       (λ i. lint_text (also.0 i) (also.1 i) compiled),
-      subst (λ (d : Declared). AllByRecursion (IsTrueFinding d other (inputs_declared d) (answer_to d other written requests)) (findings_of d other compiled.tidy compiled.face)) same.0
-          (subst (λ (b : Base). AllByRecursion (IsTrueFinding is.declared b (inputs_declared is.declared) (answer_to is.declared b written requests)) (findings_of is.declared b compiled.tidy compiled.face)) same.1
-          (subst (λ (w : Option Core). AllByRecursion (IsTrueFinding is.declared is.base (inputs_declared is.declared) (answer_to is.declared is.base w requests)) (findings_of is.declared is.base compiled.tidy compiled.face)) same.2
-          (subst (λ (rs : List ℕ). AllByRecursion (IsTrueFinding is.declared is.base (inputs_declared is.declared) (answer_to is.declared is.base is.written rs)) (findings_of is.declared is.base compiled.tidy compiled.face)) same.3
+      subst (λ (d : Declared). AllByRecursion (IsTrueFinding d other (inputs_declared d) (answer_to d other written requests))
+          (findings_of d other compiled.tidy compiled.face)) same.0
+          (subst (λ (b : Base). AllByRecursion (IsTrueFinding is.declared b (inputs_declared is.declared) (answer_to is.declared b written requests))
+          (findings_of is.declared b compiled.tidy compiled.face)) same.1
+          (subst (λ (w : Option Core). AllByRecursion
+          (IsTrueFinding is.declared is.base (inputs_declared is.declared) (answer_to is.declared is.base w requests))
+          (findings_of is.declared is.base compiled.tidy compiled.face)) same.2
+          (subst (λ (rs : List ℕ). AllByRecursion (IsTrueFinding is.declared is.base (inputs_declared is.declared)
+          (answer_to is.declared is.base is.written rs)) (findings_of is.declared is.base compiled.tidy compiled.face)) same.3
           (rw is.inputs at found)))),
     )
 
-pub lint_true : (source : Source) (text : List ℕ) (status : Status) (declared : Declared) (base : Base) (written : Option Core) (requests : List ℕ) → IsValid source declared base written requests
-    → LintReplies source text status → (findings : List Finding) × (text ≡ findings_text declared base findings) × AllByRecursion (IsTrueFinding declared base (inputs_declared declared) (answer_to declared base written requests)) findings
-lint_true source text status declared base written requests valid (is_refused fault f k) = absurd (no_valid_and_fault source declared base written requests fault valid f)
-lint_true source text status declared base written requests valid (is_linted others other compiled rules is) = found_true source others other compiled declared base written requests rules is valid
+pub lint_true : (source : Source) (text : List ℕ) (status : Status) (declared : Declared) (base : Base) (written : Option Core) (requests : List ℕ)
+    → IsValid source declared base written requests
+    → LintReplies source text status → (findings : List Finding) × (text ≡ findings_text declared base findings)
+    × AllByRecursion (IsTrueFinding declared base (inputs_declared declared) (answer_to declared base written requests)) findings
+lint_true source text status declared base written requests valid (is_refused fault f k) = absurd
+    (no_valid_and_fault source declared base written requests fault valid f)
+lint_true source text status declared base written requests valid (is_linted others other compiled rules is) = found_true source others other compiled declared
+    base written requests rules is valid

@@ -52,8 +52,10 @@ one_rows source table one other rows given a b p q = let c = stated_other source
 
 one_run : (source : Source) (rows t u : List ℕ) (s r : Status) → run.RunReplies source rows t s → run.RunReplies source rows u r → AreOneOutput t s u r
 one_run source rows t u s r (run.is_refused a) (run.is_refused b) = one_refusal source (λ inputs. household_of inputs rows) t u a b
-one_run source rows t u s r (run.is_refused a) (run.is_reported scheme pairs v g) = absurd (not_refused source (λ inputs. household_of inputs rows) t scheme pairs v g a)
-one_run source rows t u s r (run.is_reported scheme pairs v g) (run.is_refused b) = absurd (not_refused source (λ inputs. household_of inputs rows) u scheme pairs v g b)
+one_run source rows t u s r (run.is_refused a) (run.is_reported scheme pairs v g) = absurd
+    (not_refused source (λ inputs. household_of inputs rows) t scheme pairs v g a)
+one_run source rows t u s r (run.is_reported scheme pairs v g) (run.is_refused b) = absurd
+    (not_refused source (λ inputs. household_of inputs rows) u scheme pairs v g b)
 one_run source rows t u s r (run.is_reported one pairs v g) (run.is_reported other given w h) =
     let e = one_scheme source one other v w in
     let p = one_pairs source rows one other pairs given v w g h in
@@ -67,10 +69,13 @@ one_large n t u s r (large.is_reported one pairs v g) (large.is_reported other g
 
 -- ---- batches
 
-one_batch : (source : Source) (table t u : List ℕ) (s r : Status) → batch.BatchReplies source table t s → batch.BatchReplies source table u r → AreOneOutput t s u r
+one_batch : (source : Source) (table t u : List ℕ) (s r : Status) → batch.BatchReplies source table t s → batch.BatchReplies source table u r
+    → AreOneOutput t s u r
 one_batch source table t u s r (batch.is_refused a) (batch.is_refused b) = one_refusal source (λ inputs. table_of inputs table) t u a b
-one_batch source table t u s r (batch.is_refused a) (batch.is_reported scheme rows v g) = absurd (not_refused source (λ inputs. table_of inputs table) t scheme rows v g a)
-one_batch source table t u s r (batch.is_reported scheme rows v g) (batch.is_refused b) = absurd (not_refused source (λ inputs. table_of inputs table) u scheme rows v g b)
+one_batch source table t u s r (batch.is_refused a) (batch.is_reported scheme rows v g) = absurd
+    (not_refused source (λ inputs. table_of inputs table) t scheme rows v g a)
+one_batch source table t u s r (batch.is_reported scheme rows v g) (batch.is_refused b) = absurd
+    (not_refused source (λ inputs. table_of inputs table) u scheme rows v g b)
 one_batch source table t u s r (batch.is_reported one rows v g) (batch.is_reported other given w h) =
     let e = one_scheme source one other v w in
     let p = one_rows source table one other rows given v w g h in
@@ -84,26 +89,38 @@ not_both_lengths typed taken rest few e full = omega (arith, few, ap length e, l
 
 -- two prefixes of one length
 one_front : (one other rest left : List ℕ) → one ++ rest ≡ other ++ left → length one ≡ length other → one ≡ other
-one_front one other rest left e same = sym (take-append-le (length one) one rest (omega arith) ∙ take_all (length one) one (omega arith)) ∙ ap (take (length one)) e ∙ ap (λ n. take n (other ++ left)) same ∙ take-append-le (length other) other left (omega arith) ∙ take_all (length other) other (omega arith)
+one_front one other rest left e same = sym (take-append-le (length one) one rest (omega arith) ∙ take_all (length one) one (omega arith))
+    ∙ ap (take (length one)) e ∙ ap (λ n. take n (other ++ left)) same ∙ take-append-le (length other) other left (omega arith)
+    ∙ take_all (length other) other (omega arith)
 
 -- the same session, which may tell other reasons
-same_session : (source : Source) (rows : List ℕ) (one other : Scheme) (explains reasons : Explaining) (pairs given : List (ℕ × ℤ)) → IsSession source rows one explains pairs → IsSession source rows other reasons given
+same_session : (source : Source) (rows : List ℕ) (one other : Scheme) (explains reasons : Explaining) (pairs given : List (ℕ × ℤ))
+    → IsSession source rows one explains pairs → IsSession source rows other reasons given
     → (one ≡ other) × (pairs ≡ given)
 same_session source rows one other explains reasons pairs given v w =
     (one_scheme source one other v.valid w.valid, one_pairs source rows one other pairs given v.valid w.valid v.given w.given)
 
-one_serve : (source : Source) (rows typed t u : List ℕ) (s r : Status) → serve.ServeReplies source rows typed t s → serve.ServeReplies source rows typed u r → AreOneOutput t s u r
+one_serve : (source : Source) (rows typed t u : List ℕ) (s r : Status) → serve.ServeReplies source rows typed t s → serve.ServeReplies source rows typed u r
+    → AreOneOutput t s u r
 one_serve source rows typed t u s r (serve.is_refused a) (serve.is_refused b) = one_refusal source (λ inputs. household_of inputs rows) t u a b
-one_serve source rows typed t u s r (serve.is_refused a) (serve.is_served scheme explains pairs v few) = absurd (not_refused source (λ inputs. household_of inputs rows) t scheme pairs v.valid v.given a)
-one_serve source rows typed t u s r (serve.is_refused a) (serve.is_too_long scheme explains pairs taken rest v e full) = absurd (not_refused source (λ inputs. household_of inputs rows) t scheme pairs v.valid v.given a)
-one_serve source rows typed t u s r (serve.is_served scheme explains pairs v few) (serve.is_refused b) = absurd (not_refused source (λ inputs. household_of inputs rows) u scheme pairs v.valid v.given b)
+one_serve source rows typed t u s r (serve.is_refused a) (serve.is_served scheme explains pairs v few) = absurd
+    (not_refused source (λ inputs. household_of inputs rows) t scheme pairs v.valid v.given a)
+one_serve source rows typed t u s r (serve.is_refused a) (serve.is_too_long scheme explains pairs taken rest v e full) = absurd
+    (not_refused source (λ inputs. household_of inputs rows) t scheme pairs v.valid v.given a)
+one_serve source rows typed t u s r (serve.is_served scheme explains pairs v few) (serve.is_refused b) = absurd
+    (not_refused source (λ inputs. household_of inputs rows) u scheme pairs v.valid v.given b)
 one_serve source rows typed t u s r (serve.is_served one explains pairs v few) (serve.is_served other reasons given w also) =
     let same = same_session source rows one other explains reasons pairs given v w in
-    let text : session_replies other reasons given typed ≡ session_replies one reasons pairs typed = sym (λ i. session_replies (same.0 i) reasons (same.1 i) typed) in
-    subst (λ (x : List ℕ). AreOneOutput (session_replies one explains pairs typed) Done x Done) (sym text) (both_served source one explains reasons pairs typed v.valid v.explained w.explained)
-one_serve source rows typed t u s r (serve.is_served one explains pairs v few) (serve.is_too_long other reasons given taken rest w e full) = absurd (not_both_lengths typed taken rest few e full)
-one_serve source rows typed t u s r (serve.is_too_long scheme explains pairs taken rest v e full) (serve.is_refused b) = absurd (not_refused source (λ inputs. household_of inputs rows) u scheme pairs v.valid v.given b)
-one_serve source rows typed t u s r (serve.is_too_long one explains pairs taken rest v e full) (serve.is_served other reasons given w few) = absurd (not_both_lengths typed taken rest few e full)
+    let text : session_replies other reasons given typed ≡ session_replies one reasons pairs typed = sym
+    (λ i. session_replies (same.0 i) reasons (same.1 i) typed) in
+    subst (λ (x : List ℕ). AreOneOutput (session_replies one explains pairs typed) Done x Done) (sym text)
+    (both_served source one explains reasons pairs typed v.valid v.explained w.explained)
+one_serve source rows typed t u s r (serve.is_served one explains pairs v few) (serve.is_too_long other reasons given taken rest w e full) = absurd
+    (not_both_lengths typed taken rest few e full)
+one_serve source rows typed t u s r (serve.is_too_long scheme explains pairs taken rest v e full) (serve.is_refused b) = absurd
+    (not_refused source (λ inputs. household_of inputs rows) u scheme pairs v.valid v.given b)
+one_serve source rows typed t u s r (serve.is_too_long one explains pairs taken rest v e full) (serve.is_served other reasons given w few) = absurd
+    (not_both_lengths typed taken rest few e full)
 one_serve source rows typed t u s r (serve.is_too_long one explains pairs taken rest v e full) (serve.is_too_long other reasons given also left w f most) =
     let same = same_session source rows one other explains reasons pairs given v w in
     let q = one_front taken also rest left (sym e ∙ f) (full ∙ sym most) in
@@ -125,7 +142,8 @@ one_reply (Lint source) typed t u s r a b = one_lint source t u s r a b
 one_reply (Cases source table) typed t u s r a b = one_cases source table t u s r a b
 
 -- The same words, files and input have one output.
-pub one_output : (words : List (List ℕ)) (disk : Disk) (typed t u : List ℕ) (s r : Status) → Output words disk typed t s → Output words disk typed u r → AreOneOutput t s u r
+pub one_output : (words : List (List ℕ)) (disk : Disk) (typed t u : List ℕ) (s r : Status) → Output words disk typed t s → Output words disk typed u r
+    → AreOneOutput t s u r
 one_output words disk typed t u s r (usage e) (usage f) = the_same refl refl
 one_output words disk typed t u s r (usage e) (refuses b f h) = cc (e, f)
 one_output words disk typed t u s r (usage e) (answers b w f h y) = cc (e, f)

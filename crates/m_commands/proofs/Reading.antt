@@ -43,7 +43,8 @@ none_last (m ∷ made) [] name h e =
 none_last (m ∷ made) (b ∷ before) name h e = none_last made before name h.1 (cc)
 
 -- the names that a command tried, in order
-in_order_of : (words : List (List ℕ)) (before after : FilesView) (command : Command) (result : Result Work Ending) (disk : Disk) → command_of words ≡ Some command
+in_order_of : (words : List (List ℕ)) (before after : FilesView) (command : Command) (result : Result Work Ending) (disk : Disk)
+    → command_of words ≡ Some command
     → (g : GoesAlong (plan_of command) before after result) → before.known_files ≡ Some disk → BeginsWith (fetches_of words disk) (names_tried g.made)
 in_order_of words before after command result disk c g t =
     let r = walks_in_order before.known_files disk (plan_of command) g.made g.spent result g.walk t in
@@ -51,11 +52,14 @@ in_order_of words before after command result disk c g t =
 
 -- a read fault, if there is one, is of the input
 abbrev OfInput : List (List ℕ) → FilesView → InputView → InputView → OutputView → OutputView → Status → Type 0
-OfInput words before heard reported old new status = status ≡ ReadFault → (reads_input words ≡ true) × Rose heard.faults reported.faults × ReportsInput words before heard reported old new
+OfInput words before heard reported old new status = status ≡ ReadFault → (reads_input words ≡ true) × Rose heard.faults reported.faults
+    × ReportsInput words before heard reported old new
 
 -- no attempt failed
-reading_none : (words : List (List ℕ)) (before after : FilesView) (heard reported : InputView) (old new : OutputView) (status : Status) (made : List Attempt) → after.attempts ≡ before.attempts ++ made
-    → ((disk : Disk) → before.known_files ≡ Some disk → BeginsWith (fetches_of words disk) (names_tried made)) → NoneFailed made → OfInput words before heard reported old new status
+reading_none : (words : List (List ℕ)) (before after : FilesView) (heard reported : InputView) (old new : OutputView) (status : Status) (made : List Attempt)
+    → after.attempts ≡ before.attempts ++ made
+    → ((disk : Disk) → before.known_files ≡ Some disk → BeginsWith (fetches_of words disk) (names_tried made)) → NoneFailed made
+    → OfInput words before heard reported old new status
     → ReadsInOrder words before after heard reported old new status
 reading_none words before after heard reported old new status made a i n r = record {
   made = made;
@@ -67,19 +71,24 @@ reading_none words before after heard reported old new status made a i n r = rec
 }
 
 -- the status of a text that isn't a read fault's
-not_read : (text : List ℕ) (own : Status) (old new : OutputView) (status : Status) → (own ≡ ReadFault → ⊥) → Prints text own old new status → status ≡ ReadFault → ⊥
+not_read : (text : List ℕ) (own : Status) (old new : OutputView) (status : Status) → (own ≡ ReadFault → ⊥) → Prints text own old new status → status ≡ ReadFault
+    → ⊥
 not_read text own old new status unlike (inl p) e = unlike (sym p.1 ∙ e)
 not_read text own old new status unlike (inr p) e = cc (p.1, e)
 
 -- nothing was fetched
-still : (words : List (List ℕ)) (before after : FilesView) (heard reported : InputView) (old new : OutputView) (status : Status) → after ≡ before → (status ≡ ReadFault → ⊥) → ReadsInOrder words before after heard reported old new status
+still : (words : List (List ℕ)) (before after : FilesView) (heard reported : InputView) (old new : OutputView) (status : Status) → after ≡ before
+    → (status ≡ ReadFault → ⊥) → ReadsInOrder words before after heard reported old new status
 still words before after heard reported old new status s r =
-    reading_none words before after heard reported old new status [] (ap (λ (v : FilesView). v.attempts) s ∙ sym (append-nil before.attempts)) (λ disk t. (fetches_of words disk, refl)) tt
+    reading_none words before after heard reported old new status [] (ap (λ (v : FilesView). v.attempts) s ∙ sym (append-nil before.attempts))
+    (λ disk t. (fetches_of words disk, refl)) tt
     (λ e. absurd (r e))
 
 -- the last attempt failed, and was told
-last_reported : (words : List (List ℕ)) (before after : FilesView) (heard reported : InputView) (old new : OutputView) (status : Status) (command : Command) (name : List ℕ) → command_of words ≡ Some command
-    → GoesAlong (plan_of command) before after (Err (ending.Unreadable name)) → Prints (unreadable_line name) ReadFault old new status → ReadsInOrder words before after heard reported old new status
+last_reported : (words : List (List ℕ)) (before after : FilesView) (heard reported : InputView) (old new : OutputView) (status : Status) (command : Command)
+    (name : List ℕ) → command_of words ≡ Some command
+    → GoesAlong (plan_of command) before after (Err (ending.Unreadable name)) → Prints (unreadable_line name) ReadFault old new status
+    → ReadsInOrder words before after heard reported old new status
 last_reported words before after heard reported old new status command name c g p = record {
   made = g.made;
   appended = g.attempts;
@@ -98,32 +107,48 @@ last_reported words before after heard reported old new status command name c g 
     whole (inr q) e = cc (q.1, e)
 
 -- what was printed tells of a read of the input that failed
-whole : (text : List ℕ) (old new : OutputView) (status : Status) → Prints text ReadFault old new status → status ≡ ReadFault → new.written ≡ append_known old.written text
+whole : (text : List ℕ) (old new : OutputView) (status : Status) → Prints text ReadFault old new status → status ≡ ReadFault
+    → new.written ≡ append_known old.written text
 whole text old new status (inl q) e = q.0.0
 whole text old new status (inr q) e = cc (q.1, e)
 
-reading_way : (words : List (List ℕ)) (before after : FilesView) (heard reported : InputView) (old new : OutputView) (status : Status) (command : Command) (work : Work) → command_of words ≡ Some command
-    → GoesAlong (plan_of command) before after (Ok work) → IsWorkOf command work → Way work heard reported old new status → OfInput words before heard reported old new status
-reading_way words before after heard reported old new status command work c g k (observe text own r o same p) = λ e. absurd (not_read text own old new status (λ x. subst IsOfEnd x o) p e)
+reading_way : (words : List (List ℕ)) (before after : FilesView) (heard reported : InputView) (old new : OutputView) (status : Status) (command : Command)
+    (work : Work) → command_of words ≡ Some command
+    → GoesAlong (plan_of command) before after (Ok work) → IsWorkOf command work → Way work heard reported old new status
+    → OfInput words before heard reported old new status
+reading_way words before after heard reported old new status command work c g k (observe text own r o same p) = λ e. absurd
+    (not_read text own old new status (λ x. subst IsOfEnd x o) p e)
 reading_way words before after heard reported old new status command work c g k (lacks_memory same n m) = λ e. cc (m, e)
 reading_way words before after heard reported old new status command work c g k (breaks_off text own r b same a n m) = λ e. cc (m, e)
 reading_way words before after heard reported old new status command work c g k (serves_all taken text s moved none calm r a is) = λ e. cc (is, e)
 reading_way words before after heard reported old new status command work c g k (serves_part taken text s moved rose cut p) = λ e. (
   serve_reads words command work c k s,
   rose,
-  λ disk typed t h. (taken, text, moved, whole text old new status p e, cuts_off command work c (gathers words disk before after command work (λ _. t) c g) cut),
+  λ disk typed t h. (
+    taken,
+    text,
+    moved,
+    whole text old new status p e,
+    cuts_off command work c (gathers words disk before after command work (λ _. t) c g)
+        cut,
+  ),
 )
-reading_way words before after heard reported old new status command work c g k (serves_most taken text s moved full calm r p) = λ e. absurd (not_read text Refused old new status (λ x. cc) p e)
+reading_way words before after heard reported old new status command work c g k (serves_most taken text s moved full calm r p) = λ e. absurd
+    (not_read text Refused old new status (λ x. cc) p e)
 reading_way words before after heard reported old new status command work c g k (serves_front s calm fronts rose is) = λ e. cc (is, e)
 
-pub reading_of : (words : List (List ℕ)) (before after : FilesView) (heard reported : InputView) (old new : OutputView) (status : Status) → Course words before after heard reported old new status
+pub reading_of : (words : List (List ℕ)) (before after : FilesView) (heard reported : InputView) (old new : OutputView) (status : Status)
+    → Course words before after heard reported old new status
     → ReadsInOrder words before after heard reported old new status
-reading_of words before after heard reported old new status (is_no_command n s h p) = still words before after heard reported old new status s (not_read usage_line Usage old new status (λ x. cc) p)
+reading_of words before after heard reported old new status (is_no_command n s h p) = still words before after heard reported old new status s
+    (not_read usage_line Usage old new status (λ x. cc) p)
 reading_of words before after heard reported old new status (has_no_memory s h o m) = still words before after heard reported old new status s (λ e. cc (m, e))
 reading_of words before after heard reported old new status (ended command (ending.Refused refusal) c g h p) =
     reading_none words before after heard reported old new status g.made g.attempts (λ disk t. in_order_of words before after command _ disk c g t)
-    (walks_fit before.known_files (plan_of command) g.made g.spent (Err (ending.Refused refusal)) g.walk) (λ e. absurd (not_read (refusal_line refusal) Refused old new status (λ x. cc) p e))
-reading_of words before after heard reported old new status (ended command (ending.Unreadable name) c g h p) = last_reported words before after heard reported old new status command name c g p
+    (walks_fit before.known_files (plan_of command) g.made g.spent (Err (ending.Refused refusal)) g.walk)
+    (λ e. absurd (not_read (refusal_line refusal) Refused old new status (λ x. cc) p e))
+reading_of words before after heard reported old new status (ended command (ending.Unreadable name) c g h p) = last_reported words before after heard reported
+    old new status command name c g p
 reading_of words before after heard reported old new status (ended command ending.Memory c g h p) =
     reading_none words before after heard reported old new status g.made g.attempts (λ disk t. in_order_of words before after command _ disk c g t)
     (walks_fit before.known_files (plan_of command) g.made g.spent (Err ending.Memory) g.walk) (λ e. cc (p.1, e))

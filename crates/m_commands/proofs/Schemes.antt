@@ -23,21 +23,25 @@ one_scheme source one other a b =
     a.stated ∙ (λ i. source_scheme (same.0 i) (same.1 i) (same.2 i) (same.3 i)) ∙ sym b.stated
 
 -- what a file says is the same by one scheme and by the other
-pub stated_other : (source : Source) {Given : Type 0} (stated : List Coded → Result Given HouseholdFault) (result : Result Given HouseholdFault) (one other : Scheme) → IsScheme source one → IsScheme source other
+pub stated_other : (source : Source) {Given : Type 0} (stated : List Coded → Result Given HouseholdFault) (result : Result Given HouseholdFault)
+    (one other : Scheme) → IsScheme source one → IsScheme source other
     → stated one.inputs ≡ result → stated other.inputs ≡ result
 stated_other source stated result one other a b e = subst (λ (s : Scheme). stated s.inputs ≡ result) (one_scheme source one other a b) e
 
 -- a valid source and a file without a fault aren't refused
-pub not_refused : (source : Source) {Given : Type 0} (stated : List Coded → Result Given HouseholdFault) (line : List ℕ) (scheme : Scheme) (given : Given) → IsScheme source scheme → stated scheme.inputs ≡ Ok given
+pub not_refused : (source : Source) {Given : Type 0} (stated : List Coded → Result Given HouseholdFault) (line : List ℕ) (scheme : Scheme) (given : Given)
+    → IsScheme source scheme → stated scheme.inputs ≡ Ok given
     → Refuses source stated line → ⊥
-not_refused source stated line scheme given valid e (source_is_refused fault is reported) = no_valid_and_fault source valid.declared valid.base valid.written valid.requests fault valid.valid is
+not_refused source stated line scheme given valid e (source_is_refused fault is reported) = no_valid_and_fault source valid.declared valid.base valid.written
+    valid.requests fault valid.valid is
 not_refused source stated line scheme given valid e (households_are_refused other fault is faulty reported) =
     let c = stated_other source stated (Err fault) other scheme is valid faulty in
     cc (c, e)
 
 -- ---- two errors of a source
 
-pub one_line : (texts : List Text) (fault other : SourceFault) (t u : List ℕ) → AreOneSourceFault fault other → source_line texts fault ≡ Some t → source_line texts other ≡ Some u → AreOneOutput t Refused u Refused
+pub one_line : (texts : List Text) (fault other : SourceFault) (t u : List ℕ) → AreOneSourceFault fault other → source_line texts fault ≡ Some t
+    → source_line texts other ≡ Some u → AreOneOutput t Refused u Refused
 one_line texts fault other t u (laws.the_same e) a b =
     let c : source_line texts other ≡ Some t = subst (λ (f : SourceFault). source_line texts f ≡ Some t) e a in
     the_same (cc (c, b)) refl
@@ -48,17 +52,23 @@ one_line texts fault other t u (laws.both_cycles {names = ns} {others = os}) a b
 one_line texts fault other t u (laws.both_rings {names = ns} {others = os}) a b =
     let c : recursion_line ns ≡ t = cc a in
     let d : recursion_line os ≡ u = cc b in
-    subst (λ (x : List ℕ). AreOneOutput x Refused u Refused) c (subst (λ (x : List ℕ). AreOneOutput (recursion_line ns) Refused x Refused) d (both_recursions ns os))
+    subst (λ (x : List ℕ). AreOneOutput x Refused u Refused) c (subst (λ (x : List ℕ). AreOneOutput (recursion_line ns) Refused x Refused) d
+    (both_recursions ns os))
 
-pub same_line : (fault other : HouseholdFault) (t u : List ℕ) → fault ≡ other → household_fault_line fault ≡ Some t → household_fault_line other ≡ Some u → t ≡ u
+pub same_line : (fault other : HouseholdFault) (t u : List ℕ) → fault ≡ other → household_fault_line fault ≡ Some t → household_fault_line other ≡ Some u
+    → t ≡ u
 same_line fault other t u e a b =
     let c : household_fault_line other ≡ Some t = subst (λ (f : HouseholdFault). household_fault_line f ≡ Some t) e a in
     cc (c, b)
 
-pub one_refusal : (source : Source) {Given : Type 0} (stated : List Coded → Result Given HouseholdFault) (t u : List ℕ) → Refuses source stated t → Refuses source stated u → AreOneOutput t Refused u Refused
-one_refusal source stated t u (source_is_refused fault f k) (source_is_refused other g l) = one_line source.texts fault other t u (one_fault source fault other f g) k l
-one_refusal source stated t u (source_is_refused fault f k) (households_are_refused scheme other v g l) = absurd (no_valid_and_fault source v.declared v.base v.written v.requests fault v.valid f)
-one_refusal source stated t u (households_are_refused scheme fault v g k) (source_is_refused other f l) = absurd (no_valid_and_fault source v.declared v.base v.written v.requests other v.valid f)
+pub one_refusal : (source : Source) {Given : Type 0} (stated : List Coded → Result Given HouseholdFault) (t u : List ℕ) → Refuses source stated t
+    → Refuses source stated u → AreOneOutput t Refused u Refused
+one_refusal source stated t u (source_is_refused fault f k) (source_is_refused other g l) = one_line source.texts fault other t u
+    (one_fault source fault other f g) k l
+one_refusal source stated t u (source_is_refused fault f k) (households_are_refused scheme other v g l) = absurd
+    (no_valid_and_fault source v.declared v.base v.written v.requests fault v.valid f)
+one_refusal source stated t u (households_are_refused scheme fault v g k) (source_is_refused other f l) = absurd
+    (no_valid_and_fault source v.declared v.base v.written v.requests other v.valid f)
 one_refusal source stated t u (households_are_refused scheme fault v g k) (households_are_refused also other w h l) =
     let c = stated_other source stated (Err fault) scheme also v w g in
     let f : fault ≡ other = cc (c, h) in

@@ -35,11 +35,13 @@ keeps_limit (Compile names) = within_then FILE_BYTES (source_plan names) _ (sour
 keeps_limit (Exec code household) = (omega arith, λ bytes. (file_fits, λ rows. tt))
 keeps_limit (Lint names) = within_then FILE_BYTES (source_plan names) _ (source_within names) (λ source. tt)
 keeps_limit (Check list household report) =
-    within_then CODE_FILE_BYTES (source_plan (rules_only list)) _ (within_more FILE_BYTES CODE_FILE_BYTES (source_plan (rules_only list)) file_fits (source_within (rules_only list)))
+    within_then CODE_FILE_BYTES (source_plan (rules_only list)) _ (within_more FILE_BYTES CODE_FILE_BYTES (source_plan (rules_only list)) file_fits
+    (source_within (rules_only list)))
     (λ source. (file_fits, λ rows. (omega arith, λ bytes. tt)))
 
 -- what is taken without a slack for lack of memory
-no_slack : (most : ℕ) (before after : FilesView) (status : Status) → after.taken + allowance most before.attempts ≤ before.taken + allowance most after.attempts → TakesWithin most before after status
+no_slack : (most : ℕ) (before after : FilesView) (status : Status) → after.taken + allowance most before.attempts ≤ before.taken + allowance most after.attempts
+    → TakesWithin most before after status
 no_slack most before after Done h = h
 no_slack most before after Refused h = h
 no_slack most before after Usage h = h
@@ -49,16 +51,19 @@ no_slack most before after Memory h = omega (arith, h)
 no_slack most before after Stopped h = h
 
 -- the allowance of attempts and of those that were made
-allowed : (most : ℕ) (before after : FilesView) (made : List Attempt) → after.attempts ≡ before.attempts ++ made → allowance most after.attempts ≡ allowance most before.attempts + allowance most made
+allowed : (most : ℕ) (before after : FilesView) (made : List Attempt) → after.attempts ≡ before.attempts ++ made
+    → allowance most after.attempts ≡ allowance most before.attempts + allowance most made
 allowed most before after made e =
     let a = ap (λ (l : List Attempt). length l * (most + 1)) e in
     let b = ap (λ n. n * (most + 1)) (length-append before.attempts made) in
     let d : (length before.attempts + length made) * (most + 1) ≡ length before.attempts * (most + 1) + length made * (most + 1) = omega arith in
     a ∙ b ∙ d
 
-within : (most : ℕ) (before after : FilesView) (made : List Attempt) (spent slack : ℕ) → after.attempts ≡ before.attempts ++ made → after.taken ≤ before.taken + spent → spent ≤ allowance most made + slack
+within : (most : ℕ) (before after : FilesView) (made : List Attempt) (spent slack : ℕ) → after.attempts ≡ before.attempts ++ made
+    → after.taken ≤ before.taken + spent → spent ≤ allowance most made + slack
     → after.taken + allowance most before.attempts ≤ before.taken + allowance most after.attempts + slack
-within most before after made spent slack e t s = rw (allowed most before after made e) (sums after.taken before.taken (allowance most before.attempts) (allowance most made) spent slack t s)
+within most before after made spent slack e t s = rw (allowed most before after made e)
+    (sums after.taken before.taken (allowance most before.attempts) (allowance most made) spent slack t s)
   where
     sums : (a b x y s k : ℕ) → a ≤ b + s → s ≤ y + k → a + x ≤ b + (x + y) + k
     sums a b x y s k h i = omega (arith, h, i)
@@ -72,12 +77,14 @@ of_command : (words : List (List ℕ)) (command : Command) (before after : Files
     → TakesWithin (file_limit command) before after status → TakesWithin (limit_of words) before after status
 of_command words command before after status c h = subst (λ (most : ℕ). TakesWithin most before after status) (sym (ap (λ o. option_map_or file_limit o 0) c)) h
 
-without : (most : ℕ) (before after : FilesView) (made : List Attempt) (spent : ℕ) (status : Status) → after.attempts ≡ before.attempts ++ made → after.taken ≤ before.taken + spent → spent ≤ allowance most made
+without : (most : ℕ) (before after : FilesView) (made : List Attempt) (spent : ℕ) (status : Status) → after.attempts ≡ before.attempts ++ made
+    → after.taken ≤ before.taken + spent → spent ≤ allowance most made
     → TakesWithin most before after status
 without most before after made spent status e t s =
     no_slack most before after status (let h = within most before after made spent 0 e t (omega (arith, s)) in omega (arith, h))
 
-pub taken_of : (words : List (List ℕ)) (before after : FilesView) (heard reported : InputView) (old new : OutputView) (status : Status) → Course words before after heard reported old new status → TakesWithin (limit_of words) before after status
+pub taken_of : (words : List (List ℕ)) (before after : FilesView) (heard reported : InputView) (old new : OutputView) (status : Status)
+    → Course words before after heard reported old new status → TakesWithin (limit_of words) before after status
 taken_of words before after heard reported old new status (is_no_command n s h p) = still (limit_of words) before after status s
 taken_of words before after heard reported old new status (has_no_memory s h o m) = still (limit_of words) before after status s
 taken_of words before after heard reported old new status (ended command (ending.Refused refusal) c g h p) =

@@ -55,32 +55,39 @@ nothing_full (byte ∷ taken) rest e full = absurd (cc e)
 
 -- what has an answer is answered, and not refused, where nothing is typed
 replies_complete : (work : Work) (text : List ℕ) (status : Status) → HasAnswer work → Replies work [] text status → IsComplete status
-replies_complete (Run source rows) text status h (run.is_refused {line = line} r) = absurd (refusal_none source (λ inputs. household_of inputs rows) line h.scheme h.pairs h.valid h.given r)
+replies_complete (Run source rows) text status h (run.is_refused {line = line} r) = absurd
+    (refusal_none source (λ inputs. household_of inputs rows) line h.scheme h.pairs h.valid h.given r)
 replies_complete (Run source rows) text status h (run.is_reported scheme pairs v g) = reported_complete (observation_for scheme pairs)
-replies_complete (Serve source rows) text status h (serve.is_refused {line = line} r) = absurd (refusal_none source (λ inputs. household_of inputs rows) line h.scheme h.pairs h.valid h.given r)
+replies_complete (Serve source rows) text status h (serve.is_refused {line = line} r) = absurd
+    (refusal_none source (λ inputs. household_of inputs rows) line h.scheme h.pairs h.valid h.given r)
 replies_complete (Serve source rows) text status h (serve.is_served scheme explains pairs s few) = tt
 replies_complete (Serve source rows) text status h (serve.is_too_long scheme explains pairs taken rest s e full) = absurd (nothing_full taken rest e full)
-replies_complete (Batch source table) text status h (batch.is_refused {line = line} r) = absurd (refusal_none source (λ inputs. table_of inputs table) line h.scheme h.rows h.valid h.given r)
+replies_complete (Batch source table) text status h (batch.is_refused {line = line} r) = absurd
+    (refusal_none source (λ inputs. table_of inputs table) line h.scheme h.rows h.valid h.given r)
 replies_complete (Batch source table) text status h (batch.is_reported scheme rows v g) = tt
 replies_complete (Large n) text status h (large.is_reported scheme pairs v g) = reported_complete (observation_for scheme pairs)
 replies_complete (Compile source) text status h (compiles.is_refused fault is reported) = absurd (compiled_not_refused source fault h is)
 replies_complete (Compile source) text status h (compiles.is_compiled compiled is form) = tt
 replies_complete (Exec code rows) text status h (exec.code_is_refused fault is reported) = absurd (code_not_refused code rows text fault h is reported)
-replies_complete (Exec code rows) text status h (exec.is_answered loaded scheme form shown (prepared.is_refused fault given reported)) = absurd (rows_not_refused code rows loaded scheme fault h form shown given)
-replies_complete (Exec code rows) text status h (exec.is_answered loaded scheme form shown (prepared.is_reported pairs given)) = reported_complete (observation_for scheme pairs)
+replies_complete (Exec code rows) text status h (exec.is_answered loaded scheme form shown (prepared.is_refused fault given reported)) = absurd
+    (rows_not_refused code rows loaded scheme fault h form shown given)
+replies_complete (Exec code rows) text status h (exec.is_answered loaded scheme form shown (prepared.is_reported pairs given)) = reported_complete
+    (observation_for scheme pairs)
 replies_complete (Check source rows report) text status h replies = checked_complete source rows report text status h replies
 replies_complete (Lint source) text status h replies = linted_complete source text status h replies
 replies_complete (Cases source table) text status h replies = compared_complete source table text status h replies
 
 -- valid words and files aren't refused
-not_refused : (words : List (List ℕ)) (disk : Disk) (command : Command) (line : List ℕ) → IsValidCommand words disk → command_of words ≡ Some command → end_of disk (plan_of command) ≡ refused line → ⊥
+not_refused : (words : List (List ℕ)) (disk : Disk) (command : Command) (line : List ℕ) → IsValidCommand words disk → command_of words ≡ Some command
+    → end_of disk (plan_of command) ≡ refused line → ⊥
 not_refused words disk command line valid c e =
     let s : command ≡ valid.command = cc (c, valid.is_command) in
     let q : end_of disk (plan_of valid.command) ≡ refused line = subst (λ (x : Command). end_of disk (plan_of x) ≡ refused line) s e in
     cc (q, valid.gathers)
 
 -- what valid words and files gather has an answer
-has_answer : (words : List (List ℕ)) (disk : Disk) (command : Command) (work : Work) → IsValidCommand words disk → command_of words ≡ Some command → end_of disk (plan_of command) ≡ gathered work → HasAnswer work
+has_answer : (words : List (List ℕ)) (disk : Disk) (command : Command) (work : Work) → IsValidCommand words disk → command_of words ≡ Some command
+    → end_of disk (plan_of command) ≡ gathered work → HasAnswer work
 has_answer words disk command work valid c e =
     let s : command ≡ valid.command = cc (c, valid.is_command) in
     let q : end_of disk (plan_of valid.command) ≡ gathered work = subst (λ (x : Command). end_of disk (plan_of x) ≡ gathered work) s e in
@@ -89,39 +96,58 @@ has_answer words disk command work valid c e =
 
 none_counted : (made : List Attempt) → NoneFailed made → failed_count made ≡ 0
 none_counted [] h = refl
-none_counted (attempt ∷ made) h = ap (λ (failed : Bool). (if failed then 1 else 0) + failed_count made) h.0 ∙ zero-add (failed_count made) ∙ none_counted made h.1
+none_counted (attempt ∷ made) h = ap (λ (failed : Bool). (if failed then 1 else 0) + failed_count made) h.0 ∙ zero-add (failed_count made)
+    ∙ none_counted made h.1
 
 -- the count of failed attempts rose by one where the last one failed
-rose : (before after : FilesView) (made : List Attempt) (name : List ℕ) → after.attempts ≡ before.attempts ++ made → LastFailed made name → failed_count after.attempts ≡ failed_count before.attempts + 1
+rose : (before after : FilesView) (made : List Attempt) (name : List ℕ) → after.attempts ≡ before.attempts ++ made → LastFailed made name
+    → failed_count after.attempts ≡ failed_count before.attempts + 1
 rose before after made name a l =
-    omega (arith, ap failed_count a, failed_count-append before.attempts made, ap failed_count l.last, failed_count-append l.before (record { name = name; failed = true } ∷ []), none_counted l.before l.others)
+    omega (
+      arith,
+      ap failed_count a,
+      failed_count-append before.attempts made,
+      ap failed_count l.last,
+      failed_count-append l.before
+          (record { name = name; failed = true } ∷ []),
+      none_counted l.before l.others,
+    )
 
 -- an answer that was printed is complete
-complete : (text : List ℕ) (own : Status) (old new : OutputView) (status : Status) → Prints text own old new status → IsComplete own → (Rose old.faults new.faults → ⊥) → IsComplete status
+complete : (text : List ℕ) (own : Status) (old new : OutputView) (status : Status) → Prints text own old new status → IsComplete own
+    → (Rose old.faults new.faults → ⊥) → IsComplete status
 complete text own old new status (inl p) d q = subst IsComplete (sym p.1) d
 complete text own old new status (inr p) d q = absurd (q p.0.1)
 
 -- a text that was cut short for a failed read of the input
-complete_way : (words : List (List ℕ)) (command : Command) (work : Work) (heard reported : InputView) (old new : OutputView) (status : Status) → command_of words ≡ Some command → IsWorkOf command work
-    → HasAnswer work → (Rose heard.faults reported.faults → ⊥) → (Rose old.faults new.faults → ⊥) → TakesFew words heard reported → Way work heard reported old new status → IsComplete status
-complete_way words command work heard reported old new status c k h input out few (observe text own r o same p) = complete text own old new status p (replies_complete work text own h (r [])) out
+complete_way : (words : List (List ℕ)) (command : Command) (work : Work) (heard reported : InputView) (old new : OutputView) (status : Status)
+    → command_of words ≡ Some command → IsWorkOf command work
+    → HasAnswer work → (Rose heard.faults reported.faults → ⊥) → (Rose old.faults new.faults → ⊥) → TakesFew words heard reported
+    → Way work heard reported old new status → IsComplete status
+complete_way words command work heard reported old new status c k h input out few (observe text own r o same p) = complete text own old new status p
+    (replies_complete work text own h (r [])) out
 complete_way words command work heard reported old new status c k h input out few (lacks_memory same n m) = subst IsComplete (sym m) tt
 complete_way words command work heard reported old new status c k h input out few (breaks_off text own r b same a n m) = subst IsComplete (sym m) tt
-complete_way words command work heard reported old new status c k h input out few (serves_all taken text s moved none calm r a is) = subst IsComplete (sym is) tt
+complete_way words command work heard reported old new status c k h input out few (serves_all taken text s moved none calm r a is) = subst IsComplete (sym is)
+    tt
 complete_way words command work heard reported old new status c k h input out few (serves_part taken text s moved rose cut p) = absurd (input rose)
 complete_way words command work heard reported old new status c k h input out few (serves_most taken text s moved full calm r p) =
     absurd (omega (arith, full, few (serve_reads words command work c k s) taken moved))
 complete_way words command work heard reported old new status c k h input out few (serves_front s calm fronts rose is) = absurd (out rose)
 
-pub complete_of : (words : List (List ℕ)) (before after : FilesView) (heard reported : InputView) (old new : OutputView) (status : Status) → Course words before after heard reported old new status
+pub complete_of : (words : List (List ℕ)) (before after : FilesView) (heard reported : InputView) (old new : OutputView) (status : Status)
+    → Course words before after heard reported old new status
     → AnswersValid words before after heard reported old new status
 complete_of words before after heard reported old new status (is_no_command n s h p) disk t valid quiet few = let i = valid.is_command in cc (n, i)
 complete_of words before after heard reported old new status (has_no_memory s h o m) disk t valid quiet few = subst IsComplete (sym m) tt
 complete_of words before after heard reported old new status (ended command (ending.Refused refusal) c g h p) disk t valid quiet few =
-    absurd (not_refused words disk command (refusal_line refusal) valid c (walks_to_end before.known_files disk (plan_of command) g.made g.spent (Err (ending.Refused refusal)) g.walk (asking words disk before command t c)))
+    absurd (not_refused words disk command (refusal_line refusal) valid c
+    (walks_to_end before.known_files disk (plan_of command) g.made g.spent (Err (ending.Refused refusal)) g.walk (asking words disk before command t c)))
 complete_of words before after heard reported old new status (ended command (ending.Unreadable name) c g h p) disk t valid quiet few =
-    absurd (quiet.0 (inl (rose before after g.made name g.attempts (walks_fit before.known_files (plan_of command) g.made g.spent (Err (ending.Unreadable name)) g.walk))))
+    absurd (quiet.0 (inl (rose before after g.made name g.attempts (walks_fit before.known_files (plan_of command) g.made g.spent (Err (ending.Unreadable name))
+    g.walk))))
 complete_of words before after heard reported old new status (ended command ending.Memory c g h p) disk t valid quiet few = subst IsComplete (sym p.1) tt
 complete_of words before after heard reported old new status (answered command work c g k a) disk t valid quiet few =
-    complete_way words command work heard reported old new status c k (has_answer words disk command work valid c (gathers words disk before after command work t c g)) quiet.1 quiet.2 few
+    complete_way words command work heard reported old new status c k
+    (has_answer words disk command work valid c (gathers words disk before after command work t c g)) quiet.1 quiet.2 few
     (way_of work heard reported old new status a)

@@ -1,5 +1,6 @@
 -- How what was gathered was answered, in one form for all commands.
-use Rattle.std.proofs.Common.{◌≡◌, ℕ, ℤ, ◌-◌, ◌≤◌, Bool, true, false, List, ◌++◌, length, length-append, length-take, take, drop, Option, None, Some, refl, sym, ap, ◌∙◌, subst, append_assoc, inl, inr, arith}
+use Rattle.std.proofs.Common.{◌≡◌, ℕ, ℤ, ◌-◌, ◌≤◌, Bool, true, false, List, ◌++◌, length, length-append, length-take, take, drop, Option, None, Some, refl, sym}
+use Rattle.std.proofs.Common.{ap, ◌∙◌, subst, append_assoc, inl, inr, arith}
 use Rattle.std.proofs.lemmas.Bool.{cases_lt}
 use Rattle.std.proofs.lemmas.List.{append-nil, take-append-drop}
 use Rattle.std.specs.Option.{option_map_or}
@@ -59,17 +60,21 @@ pub record IsFront (work : Work) (typed : List ℕ) (old new : OutputView) : Typ
 -- A text was printed, whatever is typed; or there was no memory, before anything was written or, where an answer is written in parts, on the way; or a session
 -- had its input.
 pub data Way (work : Work) (heard reported : InputView) (old new : OutputView) (status : Status) : Type 0 where
-  observe : (text : List ℕ) (own : Status) → ((typed : List ℕ) → Replies work typed text own) → IsOfEnd own → reported ≡ heard → Prints text own old new status → Way work heard reported old new status
+  observe : (text : List ℕ) (own : Status) → ((typed : List ℕ) → Replies work typed text own) → IsOfEnd own → reported ≡ heard → Prints text own old new status
+      → Way work heard reported old new status
   lacks_memory : reported ≡ heard → new ≡ old → status ≡ Memory → Way work heard reported old new status
   breaks_off : (text : List ℕ) (own : Status) → ((typed : List ℕ) → Replies work typed text own) → form_in_parts (work_form work) ≡ true → reported ≡ heard
       → AppendsPrefix old.written new.written text → new.faults ≡ old.faults → status ≡ Memory → Way work heard reported old new status
-  serves_all : (taken text : List ℕ) → work_form work ≡ Some form.Serve → heard.left ≡ prepend_known taken reported.left → IsAtEnd reported.left → reported.faults ≡ heard.faults
+  serves_all : (taken text : List ℕ) → work_form work ≡ Some form.Serve → heard.left ≡ prepend_known taken reported.left → IsAtEnd reported.left
+      → reported.faults ≡ heard.faults
       → Replies work taken text Done → Appends text old new → status ≡ Done → Way work heard reported old new status
   serves_part : (taken text : List ℕ) → work_form work ≡ Some form.Serve → heard.left ≡ prepend_known taken reported.left → Rose heard.faults reported.faults
       → CutOff work taken text → Prints text ReadFault old new status → Way work heard reported old new status
-  serves_most : (taken text : List ℕ) → work_form work ≡ Some form.Serve → heard.left ≡ prepend_known taken reported.left → length taken ≡ INPUT_BYTES → reported.faults ≡ heard.faults
+  serves_most : (taken text : List ℕ) → work_form work ≡ Some form.Serve → heard.left ≡ prepend_known taken reported.left → length taken ≡ INPUT_BYTES
+      → reported.faults ≡ heard.faults
       → ((rest : List ℕ) → Replies work (taken ++ rest) text Refused) → Prints text Refused old new status → Way work heard reported old new status
-  serves_front : work_form work ≡ Some form.Serve → reported.faults ≡ heard.faults → ((typed : List ℕ) → Some typed ≡ heard.left → IsFront work typed old new) → Rose old.faults new.faults
+  serves_front : work_form work ≡ Some form.Serve → reported.faults ≡ heard.faults → ((typed : List ℕ) → Some typed ≡ heard.left → IsFront work typed old new)
+      → Rose old.faults new.faults
       → status ≡ WriteFault → Way work heard reported old new status
 
 -- ---- what was typed and what was taken of it
@@ -87,31 +92,44 @@ typed_rest (Some bytes) typed taken e = (bytes, cc e)
 -- ---- a session
 
 -- what is written of the replies to lines of an input is the prefix of what is answered to all of it
-session_front : (source : Source) (rows : List ℕ) (scheme : Scheme) (explains : Explaining) (pairs : List (ℕ × ℤ)) (taken rest : List ℕ) (old new : OutputView) → IsSession source rows scheme explains pairs
-    → length taken ≤ INPUT_BYTES → AppendsPrefix old.written new.written (ended_replies scheme explains pairs taken) → IsFront (Serve source rows) (taken ++ rest) old new
+session_front : (source : Source) (rows : List ℕ) (scheme : Scheme) (explains : Explaining) (pairs : List (ℕ × ℤ)) (taken rest : List ℕ) (old new : OutputView)
+    → IsSession source rows scheme explains pairs
+    → length taken ≤ INPUT_BYTES → AppendsPrefix old.written new.written (ended_replies scheme explains pairs taken)
+    → IsFront (Serve source rows) (taken ++ rest) old new
 session_front source rows scheme explains pairs taken rest old new s within prefix = elim (cases_lt (length (taken ++ rest)) INPUT_BYTES) [
   | inl few ↦
       let more = whole_begins scheme explains pairs taken rest in record {
         text = session_replies scheme explains pairs (taken ++ rest);
         own = Done;
         replies = serve.is_served scheme explains pairs s few;
-        prefix = subst (λ (t : List ℕ). AppendsPrefix old.written new.written t) (sym more.1) (AppendsPrefix-before old.written new.written (ended_replies scheme explains pairs taken) more.0 prefix);
+        prefix = subst (λ (t : List ℕ). AppendsPrefix old.written new.written t) (sym more.1)
+            (AppendsPrefix-before old.written new.written (ended_replies scheme explains pairs taken) more.0 prefix);
       }
   | inr many ↦
       let count = INPUT_BYTES - length taken in
       let part = take count rest in
       let more = ended_begins scheme explains pairs taken part in
-      let full : length (taken ++ part) ≡ INPUT_BYTES = omega (arith, length-append taken part, length-append taken rest, length-take count rest, within, many) in
-      let all : taken ++ rest ≡ (taken ++ part) ++ drop count rest = ap (λ l. taken ++ l) (sym (take-append-drop count rest)) ∙ sym (append_assoc taken part (drop count rest)) in record {
+      let full : length (taken ++ part) ≡ INPUT_BYTES = omega (
+        arith,
+        length-append taken part,
+        length-append taken rest,
+        length-take count rest,
+        within,
+        many,
+      ) in
+      let all : taken ++ rest ≡ (taken ++ part) ++ drop count rest = ap (λ l. taken ++ l) (sym (take-append-drop count rest))
+      ∙ sym (append_assoc taken part (drop count rest)) in record {
         text = ended_replies scheme explains pairs (taken ++ part) ++ input_too_long_line;
         own = Refused;
         replies = serve.is_too_long scheme explains pairs (taken ++ part) (drop count rest) s all full;
         prefix = AppendsPrefix-before old.written new.written (ended_replies scheme explains pairs (taken ++ part)) input_too_long_line
-            (subst (λ (t : List ℕ). AppendsPrefix old.written new.written t) (sym more.1) (AppendsPrefix-before old.written new.written (ended_replies scheme explains pairs taken) more.0 prefix));
+            (subst (λ (t : List ℕ). AppendsPrefix old.written new.written t) (sym more.1)
+            (AppendsPrefix-before old.written new.written (ended_replies scheme explains pairs taken) more.0 prefix));
       }
 ]
 
-pub way_of : (work : Work) (heard reported : InputView) (old new : OutputView) (status : Status) → WorkIsAnswered work heard reported old new status → Way work heard reported old new status
+pub way_of : (work : Work) (heard reported : InputView) (old new : OutputView) (status : Status) → WorkIsAnswered work heard reported old new status
+    → Way work heard reported old new status
 way_of (Run source rows) heard reported old new status (same, printed text own r o p) = observe text own (λ typed. r) o same p
 way_of (Run source rows) heard reported old new status (same, no_memory n m) = lacks_memory same n m
 way_of (Serve source rows) heard reported old new status (serve.refused line r same p) = observe line Refused (λ typed. serve.is_refused r) tt same p
@@ -121,13 +139,17 @@ way_of (Serve source rows) heard reported old new status (serve.served scheme ex
 way_of (Serve source rows) heard reported old new status (serve.served scheme explains pairs s (unread taken moved few rose p)) =
     serves_part taken (ended_replies scheme explains pairs taken ++ unreadable_input_line) refl moved rose (serve.is_cut_off scheme explains pairs s few) p
 way_of (Serve source rows) heard reported old new status (serve.served scheme explains pairs s (too_long taken moved full calm p)) =
-    serves_most taken (ended_replies scheme explains pairs taken ++ input_too_long_line) refl moved full calm (λ rest. serve.is_too_long scheme explains pairs taken rest s refl full) p
+    serves_most taken (ended_replies scheme explains pairs taken ++ input_too_long_line) refl moved full calm
+    (λ rest. serve.is_too_long scheme explains pairs taken rest s refl full) p
 way_of (Serve source rows) heard reported old new status (serve.served scheme explains pairs s (unwritten taken moved within calm breaks is)) =
-    serves_front refl calm (λ typed e. let t = typed_rest reported.left typed taken (e ∙ moved) in subst (λ (b : List ℕ). IsFront (Serve source rows) b old new) (sym t.1)
+    serves_front refl calm (λ typed e. let t = typed_rest reported.left typed taken (e ∙ moved) in subst (λ (b : List ℕ). IsFront (Serve source rows) b old new)
+    (sym t.1)
     (session_front source rows scheme explains pairs taken t.0 old new s within breaks.0)) breaks.1 is
 way_of (Serve source rows) heard reported old new status (serve.served scheme explains pairs s (unwritten_at_end taken moved few none calm breaks is)) =
-    serves_front refl calm (λ typed e. subst (λ (b : List ℕ). IsFront (Serve source rows) b old new) (sym (typed_all reported.left typed taken (e ∙ moved) none))
-    (record { text = session_replies scheme explains pairs taken; own = Done; replies = serve.is_served scheme explains pairs s few; prefix = breaks.0 })) breaks.1 is
+    serves_front refl calm (λ typed e. subst (λ (b : List ℕ). IsFront (Serve source rows) b old new)
+    (sym (typed_all reported.left typed taken (e ∙ moved) none))
+    (record { text = session_replies scheme explains pairs taken; own = Done; replies = serve.is_served scheme explains pairs s few; prefix = breaks.0 }))
+    breaks.1 is
 way_of (Batch source table) heard reported old new status (same, parts.printed text own r o p) = observe text own (λ typed. r) o same p
 way_of (Batch source table) heard reported old new status (same, parts.no_memory n m) = lacks_memory same n m
 way_of (Batch source table) heard reported old new status (same, parts.broke_off text own r a f m) = breaks_off text own (λ typed. r) refl same a f m
@@ -172,9 +194,11 @@ pub session_requested : (wanted : Command) → takes_input wanted ≡ true → c
 session_requested wanted e = one_takes (command_form wanted) (sym (form_does wanted).0 ∙ e)
 
 -- a session was asked for
-pub serve_reads : (words : List (List ℕ)) (wanted : Command) (work : Work) → command_of words ≡ Some wanted → IsWorkOf wanted work → work_form work ≡ Some form.Serve → reads_input words ≡ true
+pub serve_reads : (words : List (List ℕ)) (wanted : Command) (work : Work) → command_of words ≡ Some wanted → IsWorkOf wanted work
+    → work_form work ≡ Some form.Serve → reads_input words ≡ true
 serve_reads words wanted work c k e = ap (λ o. option_map_or takes_input o false) c ∙ (form_does wanted).0 ∙ ap form_takes (sym k ∙ e)
 
 -- what writes in parts was asked for
-pub batch_writes : (words : List (List ℕ)) (wanted : Command) (work : Work) → command_of words ≡ Some wanted → IsWorkOf wanted work → form_in_parts (work_form work) ≡ true → writes_early words ≡ true
+pub batch_writes : (words : List (List ℕ)) (wanted : Command) (work : Work) → command_of words ≡ Some wanted → IsWorkOf wanted work
+    → form_in_parts (work_form work) ≡ true → writes_early words ≡ true
 batch_writes words wanted work c k e = ap (λ o. option_map_or writes_in_parts o false) c ∙ (form_does wanted).1 ∙ ap form_in_parts (sym k) ∙ e

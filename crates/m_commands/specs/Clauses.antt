@@ -43,7 +43,8 @@ PrintsOutput words files input old new status =
 
 -- the text of a command whose read of the input fails after these bytes
 pub data IsCutOff (words : List (List ℕ)) (disk : Disk) (taken text : List ℕ) : Type 0 where
-  cuts_off : (command : Command) (work : Work) → command_of words ≡ Some command → end_of disk (plan_of command) ≡ gathered work → CutOff work taken text → IsCutOff words disk taken text
+  cuts_off : (command : Command) (work : Work) → command_of words ≡ Some command → end_of disk (plan_of command) ≡ gathered work → CutOff work taken text
+      → IsCutOff words disk taken text
 
 -- Where the files and the input are told, what is appended is the text of a read that failed after what was taken.
 abbrev pub ReportsInput : List (List ℕ) → FilesView → InputView → InputView → OutputView → OutputView → Type 0
@@ -73,11 +74,13 @@ pub record ReadsInOrder (words : List (List ℕ)) (before after : FilesView) (he
 
 -- A text that a call writes if no write fails: an output, the line of the file that can't be read, or the text of a read of the input that
 -- failed.
-pub data IsWholeText (words : List (List ℕ)) (disk : Disk) (typed : List ℕ) (before after : FilesView) (heard reported : InputView) (text : List ℕ) : Type 0 where
-  output : {status : Status} → Output words disk typed text status → IsWholeText words disk typed before after heard reported text
-  unreadable : {made : List Attempt} {name : List ℕ} → after.attempts ≡ before.attempts ++ made → LastFailed made name → text ≡ unreadable_line name
-      → IsWholeText words disk typed before after heard reported text
-  cut_off : (taken : List ℕ) → heard.left ≡ prepend_known taken reported.left → Rose heard.faults reported.faults → IsCutOff words disk taken text → IsWholeText words disk typed before after heard reported text
+pub data IsWholeText (words : List (List ℕ)) (disk : Disk) (typed : List ℕ) (before after : FilesView) (heard reported : InputView) (text : List ℕ) : Type 0
+  where
+    output : {status : Status} → Output words disk typed text status → IsWholeText words disk typed before after heard reported text
+    unreadable : {made : List Attempt} {name : List ℕ} → after.attempts ≡ before.attempts ++ made → LastFailed made name → text ≡ unreadable_line name
+        → IsWholeText words disk typed before after heard reported text
+    cut_off : (taken : List ℕ) → heard.left ≡ prepend_known taken reported.left → Rose heard.faults reported.faults → IsCutOff words disk taken text
+        → IsWholeText words disk typed before after heard reported text
 
 -- Where the files and the input are told, as far as the command reads them, and a write failed, what is appended is the prefix of a whole text.
 abbrev pub WritesFront : List (List ℕ) → FilesView → FilesView → InputView → InputView → OutputView → OutputView → Status → Type 0
@@ -96,7 +99,8 @@ StopsInFront words before old new status =
 abbrev pub WritesCode : List (List ℕ) → FilesView → OutputView → OutputView → Status → Type 0
 WritesCode words before old new status =
     (disk : Disk) (names : SourceNames) → before.known_files ≡ Some disk → command_of words ≡ Some (Compile names) → status ≡ Done
-    → (source : Source) × (loaded : Loaded) × (text : List ℕ) × (end_of disk (source_plan names) ≡ gathered source) × IsPreparedCode source loaded × IsFormOf text loaded
+    → (source : Source) × (loaded : Loaded) × (text : List ℕ) × (end_of disk (source_plan names) ≡ gathered source) × IsPreparedCode source loaded
+    × IsFormOf text loaded
     × (new.written ≡ append_known old.written text)
 
 -- no read and no write failed
@@ -111,7 +115,8 @@ TakesFew words heard reported = reads_input words ≡ true → (taken : List ℕ
 -- What is valid is answered, unless a read, a write or memory failed. Over files that the command doesn't fetch nothing has to be told.
 abbrev pub AnswersValid : List (List ℕ) → FilesView → FilesView → InputView → InputView → OutputView → OutputView → Status → Type 0
 AnswersValid words before after heard reported old new status =
-    (disk : Disk) → KnowsDisk words before disk → IsValidCommand words disk → NothingFailed before after heard reported old new → TakesFew words heard reported → IsComplete status
+    (disk : Disk) → KnowsDisk words before disk → IsValidCommand words disk → NothingFailed before after heard reported old new → TakesFew words heard reported
+    → IsComplete status
 
 -- The usage line is printed only for words that are no command, and for these always but where a write
 -- or memory failed.

@@ -55,7 +55,8 @@ source_command _ = None
 abbrev pub compile_command : List (List ℕ) → Option Command
 compile_command (word ∷ list ∷ driver ∷ requests ∷ []) =
     if bytes_eq word (codes "compile")
-    then (if list_all is_utf8 (list ∷ driver ∷ requests ∷ []) then Some (Compile (record { list = list; driver = driver; requests = requests })) else None) else None
+    then (if list_all is_utf8 (list ∷ driver ∷ requests ∷ []) then Some (Compile (record { list = list; driver = driver; requests = requests })) else None) else
+    None
 compile_command _ = None
 
 -- the command `exec` that the words are, if they are one: its word, and the names of a code file and a household, in UTF-8
@@ -74,13 +75,16 @@ check_command _ = None
 abbrev pub lint_command : List (List ℕ) → Option Command
 lint_command (word ∷ list ∷ driver ∷ requests ∷ []) =
     if bytes_eq word (codes "lint")
-    then (if list_all is_utf8 (list ∷ driver ∷ requests ∷ []) then Some (Lint (record { list = list; driver = driver; requests = requests })) else None) else None
+    then (if list_all is_utf8 (list ∷ driver ∷ requests ∷ []) then Some (Lint (record { list = list; driver = driver; requests = requests })) else None) else
+    None
 lint_command _ = None
 
 -- The command that the words are, if they are the form of one: `large N`; `exec` over a code file and a household; `compile` or `lint` over
 -- a source; `check` over a list, a household and a report; or `run`, `serve`, `batch` or `cases` over a source and one more file.
 abbrev pub command_of : List (List ℕ) → Option Command
-command_of words = option_or (large_command words) (option_or (exec_command words) (option_or (compile_command words) (option_or (check_command words) (option_or (lint_command words) (source_command words)))))
+command_of words = option_or (large_command words)
+    (option_or (exec_command words) (option_or (compile_command words)
+    (option_or (check_command words) (option_or (lint_command words) (source_command words)))))
 
 -- the number of `large N` is one of those that there are
 abbrev pub IsInReach : Command → Type 0

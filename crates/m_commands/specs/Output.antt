@@ -34,8 +34,10 @@ fetches_of words disk = option_map_or (λ command. names_fetched disk (plan_of c
 -- the line by which the command's plan is refused, or what the command answers with what it gathered.
 pub data Output (words : List (List ℕ)) (disk : Disk) (typed : List ℕ) : List ℕ → Status → Type 0 where
   usage : command_of words ≡ None → Output words disk typed usage_line Usage
-  refuses : {line : List ℕ} (command : Command) → command_of words ≡ Some command → end_of disk (plan_of command) ≡ refused line → Output words disk typed line Refused
-  answers : {text : List ℕ} {status : Status} (command : Command) (work : Work) → command_of words ≡ Some command → end_of disk (plan_of command) ≡ gathered work
+  refuses : {line : List ℕ} (command : Command) → command_of words ≡ Some command → end_of disk (plan_of command) ≡ refused line
+      → Output words disk typed line Refused
+  answers : {text : List ℕ} {status : Status} (command : Command) (work : Work) → command_of words ≡ Some command
+      → end_of disk (plan_of command) ≡ gathered work
       → Replies work typed text status → Output words disk typed text status
 
 -- Words and files for which a command has all that it wants: its files are there and keep their limits, its plan isn't
@@ -54,11 +56,16 @@ pub data AreOneOutput : List ℕ → Status → List ℕ → Status → Type 0 w
   the_same : {text other : List ℕ} {status outcome : Status} → text ≡ other → status ≡ outcome → AreOneOutput text status other outcome
   both_cycles : (names others : List (List ℕ)) → AreOneOutput (cycle_line names) Refused (cycle_line others) Refused
   both_recursions : (names others : List (List ℕ)) → AreOneOutput (recursion_line names) Refused (recursion_line others) Refused
-  both_compiled : {text other_text : List ℕ} (source : Source) (one other : Loaded) → IsPreparedCode source one → IsFormOf text one → IsPreparedCode source other → IsFormOf other_text other
+  both_compiled : {text other_text : List ℕ} (source : Source) (one other : Loaded) → IsPreparedCode source one → IsFormOf text one
+      → IsPreparedCode source other → IsFormOf other_text other
       → AreOneOutput text Done other_text Done
-  both_linted : (source : Source) (declared : Declared) (base : Base) (one other : Compiled) → HasRules source declared base → IsCompiled source one → IsCompiled source other
+  both_linted : (source : Source) (declared : Declared) (base : Base) (one other : Compiled) → HasRules source declared base → IsCompiled source one
+      → IsCompiled source other
       → AreOneOutput (lint_text declared base one) Done (lint_text declared base other) Done
-  both_served : (source : Source) (scheme : Scheme) (one other : Explaining) (pairs : List (ℕ × ℤ)) (typed : List ℕ) → IsScheme source scheme → IsExplained source one → IsExplained source other
+  both_served : (source : Source) (scheme : Scheme) (one other : Explaining) (pairs : List (ℕ × ℤ)) (typed : List ℕ) → IsScheme source scheme
+      → IsExplained source one → IsExplained source other
       → AreOneOutput (session_replies scheme one pairs typed) Done (session_replies scheme other pairs typed) Done
-  both_too_long : (source : Source) (scheme : Scheme) (one other : Explaining) (pairs : List (ℕ × ℤ)) (taken : List ℕ) → IsScheme source scheme → IsExplained source one → IsExplained source other
-      → AreOneOutput (ended_replies scheme one pairs taken ++ input_too_long_line) Refused (ended_replies scheme other pairs taken ++ input_too_long_line) Refused
+  both_too_long : (source : Source) (scheme : Scheme) (one other : Explaining) (pairs : List (ℕ × ℤ)) (taken : List ℕ) → IsScheme source scheme
+      → IsExplained source one → IsExplained source other
+      → AreOneOutput (ended_replies scheme one pairs taken ++ input_too_long_line) Refused (ended_replies scheme other pairs taken ++ input_too_long_line)
+      Refused

@@ -1,5 +1,6 @@
 -- Code of a program has its counts.
-use Rattle.std.proofs.Common.{◌≡◌, ℕ, zero, suc, Bool, true, false, List, [], ◌∷◌, length, replicate, Option, None, Some, Result, Ok, Err, refl, sym, ap, ◌∙◌, subst, eqb}
+use Rattle.std.proofs.Common.{◌≡◌, ℕ, zero, suc, Bool, true, false, List, [], ◌∷◌, length, replicate, Option, None, Some, Result, Ok, Err, refl, sym, ap, ◌∙◌}
+use Rattle.std.proofs.Common.{subst, eqb}
 use Rattle.std.specs.Prelude.{IfOk, IsTrue, fold, if◌then◌else◌}
 use Rattle.std.specs.Option.{option_and_then, option_map}
 use Rattle.std.proofs.lemmas.List.{length-set}
@@ -26,7 +27,8 @@ by-three n s (Some x) None z f h = tt
 by-three n s (Some x) (Some y) None f h = tt
 by-three n s (Some x) (Some y) (Some z) f h = h x y z
 
-by-two : (n : ℕ) (x y : Option ℕ) (f : ℕ → ℕ → State) → ((x y : ℕ) → length (f x y).outputs ≡ n) → HasOutputs n (option_and_then (λ a. option_map (λ b. f a b) y) x)
+by-two : (n : ℕ) (x y : Option ℕ) (f : ℕ → ℕ → State) → ((x y : ℕ) → length (f x y).outputs ≡ n)
+    → HasOutputs n (option_and_then (λ a. option_map (λ b. f a b) y) x)
 by-two n None y f h = tt
 by-two n (Some x) None f h = tt
 by-two n (Some x) (Some y) f h = h x y
@@ -53,7 +55,8 @@ step-outputs n counts instr None h = tt
 step-outputs n counts instr (Some s) h = when-right n (has_numbers counts s instr) (moved instr s) (moved-outputs n instr s h)
 
 -- all instructions
-fold-outputs : (n : ℕ) (counts : Counts) (s : Option State) (instrs : List Instr) → HasOutputs n s → HasOutputs n (fold (λ s instr. option_and_then (step counts instr) s) s instrs)
+fold-outputs : (n : ℕ) (counts : Counts) (s : Option State) (instrs : List Instr) → HasOutputs n s
+    → HasOutputs n (fold (λ s instr. option_and_then (step counts instr) s) s instrs)
 fold-outputs n counts s [] h = h
 fold-outputs n counts s (instr ∷ instrs) h = fold-outputs n counts (option_and_then (step counts instr) s) instrs (step-outputs n counts instr s h)
 
@@ -82,7 +85,8 @@ record HasCounts (inputs outputs : ℕ) (flat : Flat) : Type 0 where
   outputs_are : length flat.outputs ≡ outputs
 
 ends : (inputs : ℕ) (s : State) (given : Option (List ℕ)) (flat : Flat) → all_given s.outputs ≡ given
-    → option_map (λ outputs. record { inputs = inputs; nodes = s.nodes; checks = s.checks; outputs = outputs }) given ≡ Some flat → HasCounts inputs (length s.outputs) flat
+    → option_map (λ outputs. record { inputs = inputs; nodes = s.nodes; checks = s.checks; outputs = outputs }) given ≡ Some flat
+    → HasCounts inputs (length s.outputs) flat
 ends inputs s None flat g e = cc
 ends inputs s (Some xs) flat g e =
     let is : record { inputs = inputs; nodes = s.nodes; checks = s.checks; outputs = xs } ≡ flat = cc in
@@ -110,7 +114,8 @@ agrees face flat code f a =
     (and_from (eqb (length face.labels) code.counts.labels) (eqb (length face.outputs) code.counts.outputs) (eq-eqb _ _ labels) (eq-eqb _ _ outputs))
 
 -- the same of a call that may want memory
-pub agrees_ok : {E : Type 0} (face : Face) (flat : Flat) (labels : ℕ) (result : Result Listing E) → labels ≡ length face.labels → IsFaceOf face flat → IfOk result (IsAllocation flat labels)
+pub agrees_ok : {E : Type 0} (face : Face) (flat : Flat) (labels : ℕ) (result : Result Listing E) → labels ≡ length face.labels → IsFaceOf face flat
+    → IfOk result (IsAllocation flat labels)
     → IfOk result (λ code. IsTrue (counts_agree code face.inputs face.labels face.outputs))
 agrees_ok face flat labels (Ok code) e f a = agrees face flat code f (subst (λ n. IsAllocation flat n code) e a)
 agrees_ok face flat labels (Err fault) e f a = tt

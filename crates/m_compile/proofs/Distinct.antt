@@ -31,30 +31,35 @@ parts None b e = (refl, e)
 parts (Some f) b e = (cc, cc)
 
 -- a code more, which is new
-more : (code : Option (List ℕ)) (codes : List (List ℕ)) → AreDistinct codes → IfSome code (λ c. has c codes ≡ false) → AreDistinct (codes ++ cons_option code [])
+more : (code : Option (List ℕ)) (codes : List (List ℕ)) → AreDistinct codes → IfSome code (λ c. has c codes ≡ false)
+    → AreDistinct (codes ++ cons_option code [])
 more None codes d h = subst AreDistinct (sym (append-nil codes)) d
 more (Some code) codes d h = AreDistinct-push code codes d h
 
 -- a variable without a fault leaves what its declarations are called distinct
 abbrev Stays : (List Declaration → List (List ℕ)) → Type 0
-Stays called = (d : Declared) (v : VariableItem) → variable_fault d v ≡ None → AreDistinct (called d.variables) → AreDistinct (called (with_variable d v).variables)
+Stays called = (d : Declared) (v : VariableItem) → variable_fault d v ≡ None → AreDistinct (called d.variables)
+    → AreDistinct (called (with_variable d v).variables)
 
 -- an item more
-item_more : (called : List Declaration → List (List ℕ)) → Stays called → (d : Declared) (item : Item) → AreDistinct (called d.variables) → fault_at d item ≡ None → AreDistinct (called (with_item d item).variables)
+item_more : (called : List Declaration → List (List ℕ)) → Stays called → (d : Declared) (item : Item) → AreDistinct (called d.variables)
+    → fault_at d item ≡ None → AreDistinct (called (with_item d item).variables)
 item_more called stays d (Variable v) distinct e = stays d v e distinct
 item_more called stays d (Error v) distinct e = distinct
 item_more called stays d (Rule r) distinct e = distinct
 item_more called stays d (Verif v) distinct e = distinct
 item_more called stays d (Silent p) distinct e = distinct
 
-items_more : (called : List Declaration → List (List ℕ)) → Stays called → (earlier later : List Item) → AreDistinct (called (declared_by earlier).variables) → fault_behind earlier later ≡ None
+items_more : (called : List Declaration → List (List ℕ)) → Stays called → (earlier later : List Item) → AreDistinct (called (declared_by earlier).variables)
+    → fault_behind earlier later ≡ None
     → AreDistinct (called (declared_by (earlier ++ later)).variables)
 items_more called stays earlier [] d e = subst (λ (items : List Item). AreDistinct (called (declared_by items).variables)) (sym (append-nil earlier)) d
 items_more called stays earlier (item ∷ later) d e =
     let p = parts (fault_at (declared_by earlier) item) (fault_behind (earlier ++ item ∷ []) later) e in
     subst (λ (items : List Item). AreDistinct (called (declared_by items).variables)) (append_assoc earlier (item ∷ []) later)
     (items_more called stays (earlier ++ item ∷ []) later
-    (subst (λ (declared : Declared). AreDistinct (called declared.variables)) (sym (declared-push earlier item)) (item_more called stays (declared_by earlier) item d p.0)) p.1)
+    (subst (λ (declared : Declared). AreDistinct (called declared.variables)) (sym (declared-push earlier item))
+    (item_more called stays (declared_by earlier) item d p.0)) p.1)
 
 name_stays : Stays names_of
 name_stays d v e distinct = subst AreDistinct (sym (map-push name_of d.variables _)) (AreDistinct-push v.name (names_of d.variables) distinct (new_name d v e))
@@ -65,7 +70,8 @@ distinct_names items e = items_more names_of name_stays [] items tt e
 code_stays : Stays codes_of
 code_stays d v e distinct = subst AreDistinct (sym (codes-push d.variables _)) (more (code_in v.role) (codes_of d.variables) distinct (new_code d v e))
 
-pub distinct_codes : (texts : List Text) (application : List ℕ) (declared : Declared) (base : Base) → IsBaseOf texts application declared base → AreDistinct (codes_of declared.variables)
+pub distinct_codes : (texts : List Text) (application : List ℕ) (declared : Declared) (base : Base) → IsBaseOf texts application declared base
+    → AreDistinct (codes_of declared.variables)
 distinct_codes texts application declared base b =
     subst (λ (d : Declared). AreDistinct (codes_of d.variables)) (sym b.symbols) (items_more codes_of code_stays [] b.items tt b.declares.faultless)
 
@@ -77,15 +83,18 @@ one_code (Some code) kind inputs codes e = ap (λ rest. code ∷ rest) e
 
 stated_codes : (variables : List Declaration) → codes_shown (filter_map input_declared variables) ≡ codes_of variables
 stated_codes [] = refl
-stated_codes (v ∷ variables) = one_code (code_of v) (type_declared v.item.value_word) (filter_map input_declared variables) (codes_of variables) (stated_codes variables)
+stated_codes (v ∷ variables) = one_code (code_of v) (type_declared v.item.value_word) (filter_map input_declared variables) (codes_of variables)
+    (stated_codes variables)
 
 pub parsed_codes : (declared : Declared) → codes_shown (inputs_declared declared) ≡ codes_of declared.variables
 parsed_codes declared = stated_codes declared.variables
 
 -- and as many as the inputs that are declared
 pub many_inputs : (declared : Declared) → length (inputs_declared declared) ≡ length (inputs_from 0 declared.variables)
-many_inputs declared = sym (length-map (inputs_declared declared) (λ (input : Coded). input.code)) ∙ ap length (parsed_codes declared) ∙ as_many_codes 0 declared.variables
+many_inputs declared = sym (length-map (inputs_declared declared) (λ (input : Coded). input.code)) ∙ ap length (parsed_codes declared)
+    ∙ as_many_codes 0 declared.variables
 
 -- so they are different
-pub distinct_inputs : (texts : List Text) (application : List ℕ) (declared : Declared) (base : Base) → IsBaseOf texts application declared base → AreDistinct (codes_shown (inputs_declared declared))
+pub distinct_inputs : (texts : List Text) (application : List ℕ) (declared : Declared) (base : Base) → IsBaseOf texts application declared base
+    → AreDistinct (codes_shown (inputs_declared declared))
 distinct_inputs texts application declared base b = subst AreDistinct (sym (parsed_codes declared)) (distinct_codes texts application declared base b)

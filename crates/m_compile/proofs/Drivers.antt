@@ -33,7 +33,8 @@ texts_few [] = omega arith
 texts_few (byte ∷ bytes) =
     let more = texts_few bytes in
     either (byte == line_feed) (suc (length bytes)) _ _ (omega (arith, more))
-    (either (byte == carriage_return && begins_with_feed bytes) (suc (length bytes)) _ _ (omega (arith, more)) (omega (arith, more, onto_few byte (lines_of bytes))))
+    (either (byte == carriage_return && begins_with_feed bytes) (suc (length bytes)) _ _ (omega (arith, more))
+    (omega (arith, more, onto_few byte (lines_of bytes))))
 
 -- a number counts the functions of a driver
 pub functions_counted : (bytes : List ℕ) (driver : Driver) → IsDriver bytes driver → length bytes ≤ FILE_BYTES → length driver.functions < 2 ^ 32

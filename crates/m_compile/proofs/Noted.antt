@@ -11,9 +11,11 @@ use Rattle.observables.specs.Outputs.{names_of, notes_of, notes_stand_first, ver
 use Rattle.observables.proofs.OutputLemmas.{named-first, names-named, notes-named}
 
 -- they stand in the order of a face
-pub noted_first : (labels : List FaceLabel) (notes : List ℕ) (names : List (List ℕ)) → AllByRecursion (λ n. IsTrue (is_some (verif_at labels n))) notes → notes_stand_first labels (map Noted notes ++ map Named names) ≡ true
+pub noted_first : (labels : List FaceLabel) (notes : List ℕ) (names : List (List ℕ)) → AllByRecursion (λ n. IsTrue (is_some (verif_at labels n))) notes
+    → notes_stand_first labels (map Noted notes ++ map Named names) ≡ true
 noted_first labels [] names h = named-first labels names
-noted_first labels (n ∷ notes) names h = and_from (is_some (verif_at labels n)) (notes_stand_first labels (map Noted notes ++ map Named names)) h.0 (noted_first labels notes names h.1)
+noted_first labels (n ∷ notes) names h = and_from (is_some (verif_at labels n)) (notes_stand_first labels (map Noted notes ++ map Named names)) h.0
+    (noted_first labels notes names h.1)
 
 -- the names among them
 pub names_noted : (notes : List ℕ) (names : List (List ℕ)) → names_of (map Noted notes ++ map Named names) ≡ names
@@ -26,12 +28,14 @@ notes_noted [] names = notes-named names
 notes_noted (n ∷ notes) names = ap (λ rest. n ∷ rest) (notes_noted notes names)
 
 -- a label of the base tells a verification
-verif_there : (labels : List FaceLabel) (first : List Label) (n : ℕ) → take (length first) labels ≡ map Verif first → n < length first → IsTrue (is_some (verif_at labels n))
+verif_there : (labels : List FaceLabel) (first : List Label) (n : ℕ) → take (length first) labels ≡ map Verif first → n < length first
+    → IsTrue (is_some (verif_at labels n))
 verif_there labels [] n e h = absurd (omega (arith, h))
 verif_there [] (l ∷ first) n e h = absurd (cc)
 verif_there (x ∷ labels) (l ∷ first) zero e h = let s : x ≡ Verif l = cc in subst (λ (y : FaceLabel). IsTrue (is_some (verif_at (y ∷ labels) 0))) (sym s) refl
 verif_there (x ∷ labels) (l ∷ first) (suc n) e h = let s : take (length first) labels ≡ map Verif first = cc in verif_there labels first n s (omega (arith, h))
 
-pub verifs_there : (labels : List FaceLabel) (first : List Label) (notes : List ℕ) → take (length first) labels ≡ map Verif first → AllByRecursion (λ n. n < length first) notes → AllByRecursion (λ n. IsTrue (is_some (verif_at labels n))) notes
+pub verifs_there : (labels : List FaceLabel) (first : List Label) (notes : List ℕ) → take (length first) labels ≡ map Verif first
+    → AllByRecursion (λ n. n < length first) notes → AllByRecursion (λ n. IsTrue (is_some (verif_at labels n))) notes
 verifs_there labels first [] e h = tt
 verifs_there labels first (n ∷ notes) e h = (verif_there labels first n e h.0, verifs_there labels first notes e h.1)

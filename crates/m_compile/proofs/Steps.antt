@@ -1,5 +1,6 @@
 -- What a step's fault says of the source, and what the program of its rules is.
-use Rattle.std.proofs.Common.{◌≡◌, ◌≢◌, ◌≤◌, ◌<◌, ◌^◌, ◌+◌, ◌++◌, ℕ, Bool, true, false, List, [], All, map, length, Option, None, Some, Result, Ok, Err, nat_lt, cond, refl, sym, ap, ◌∙◌, subst, arith}
+use Rattle.std.proofs.Common.{◌≡◌, ◌≢◌, ◌≤◌, ◌<◌, ◌^◌, ◌+◌, ◌++◌, ℕ, Bool, true, false, List, [], All, map, length, Option, None, Some, Result, Ok, Err, nat_lt}
+use Rattle.std.proofs.Common.{cond, refl, sym, ap, ◌∙◌, subst, arith}
 use Rattle.std.proofs.lemmas.Bool.{ltb-false}
 use Rattle.std.proofs.lemmas.List.{length-append, length-map}
 use Rattle.std.specs.Prelude.{take, drop}
@@ -52,7 +53,8 @@ use Rattle.m_compile.specs.declared.fault.SourceFault.TheVariants.{Memory}
 use Rattle.m_compile.specs.Sources.{HasRules, IsWritten, running}
 use Rattle.m_compile.specs.Faults.{IsBaseFault, of_files, IsSourceFault, of_rules, of_driver, of_core, of_requests, of_weight}
 use Rattle.m_compile.specs.Compiled.{IsCompiled, IsRunnable}
-use Rattle.m_compile.specs.inner.Parts.{AreRequests, IsRequestsFault, in_driver, in_requests, IsProgram, IsHeavy, heavy, of_lines, of_names, IsDriverFault, IsReady, compiled_of}
+use Rattle.m_compile.specs.inner.Parts.{AreRequests, IsRequestsFault, in_driver, in_requests, IsProgram, IsHeavy, heavy, of_lines, of_names, IsDriverFault}
+use Rattle.m_compile.specs.inner.Parts.{IsReady, compiled_of}
 use Rattle.m_compile.proofs.Distinct.{parsed_codes, distinct_codes, many_inputs}
 use Rattle.m_compile.proofs.Noted.{names_noted, notes_noted}
 use Rattle.m_compile.proofs.words.Faces.{printable_face}
@@ -60,7 +62,8 @@ use Rattle.m_compile.proofs.Tidied.{plain_values, labels_kept, labels_all}
 use Rattle.m_compile.specs.inner.Steps.{rule_step, driver_step, core_step, request_step, inline_step}
 
 -- the fault of the rule files
-pub rules_reported : (texts : List Text) (application : List ℕ) (fault : RuleFault) → (fault ≢ rules.Memory → IsRuleFault texts application fault) → rule_step fault ≢ Memory → IsBaseFault texts application (rule_step fault)
+pub rules_reported : (texts : List Text) (application : List ℕ) (fault : RuleFault) → (fault ≢ rules.Memory → IsRuleFault texts application fault)
+    → rule_step fault ≢ Memory → IsBaseFault texts application (rule_step fault)
 rules_reported texts application rules.Memory h k = absurd (k refl)
 rules_reported texts application (rules.Lex f) h k = of_files (h (λ e. cc))
 rules_reported texts application (rules.Parse f) h k = of_files (h (λ e. cc))
@@ -70,25 +73,32 @@ rules_reported texts application (rules.Resolve f) h k = of_files (h (λ e. cc))
 rules_reported texts application (rules.Cycle names) h k = of_files (h (λ e. cc))
 
 -- it is one of the source, where the texts and the application are lent
-pub base_reported : (source : Source) (texts : List Text) (application : List ℕ) (fault : SourceFault) → texts ≡ source.texts → application ≡ source.application → IsBaseFault texts application fault → IsSourceFault source fault
+pub base_reported : (source : Source) (texts : List Text) (application : List ℕ) (fault : SourceFault) → texts ≡ source.texts → application ≡ source.application
+    → IsBaseFault texts application fault → IsSourceFault source fault
 base_reported source texts application _ t a (of_files {fault = f} k) =
     of_rules (subst (λ (x : List Text). IsRuleFault x source.application f) t (subst (λ (x : List ℕ). IsRuleFault texts x f) a k))
 
 -- the rules, where the texts and the application are lent
-pub rules_made : (source : Source) (texts : List Text) (application : List ℕ) (declared : Declared) (base : Base) → texts ≡ source.texts → application ≡ source.application
+pub rules_made : (source : Source) (texts : List Text) (application : List ℕ) (declared : Declared) (base : Base) → texts ≡ source.texts
+    → application ≡ source.application
     → IsBaseOf texts application declared base → HasNoCycle base → HasRules source declared base
 rules_made source texts application declared base t a b n =
-    record { made = subst (λ (x : List Text). IsBaseOf x source.application declared base) t (subst (λ (x : List ℕ). IsBaseOf texts x declared base) a b); no_cycle = n }
+    record {
+      made = subst (λ (x : List Text). IsBaseOf x source.application declared base) t (subst (λ (x : List ℕ). IsBaseOf texts x declared base) a b);
+      no_cycle = n;
+    }
 
 -- the fault of the driver's lines
-pub lines_reported : (declared : Declared) (bytes : List ℕ) (fault : DriverFault) → (fault ≢ lines.Memory → IsFault bytes fault) → driver_step fault ≢ Memory → IsDriverFault declared (Some bytes) (driver_step fault)
+pub lines_reported : (declared : Declared) (bytes : List ℕ) (fault : DriverFault) → (fault ≢ lines.Memory → IsFault bytes fault) → driver_step fault ≢ Memory
+    → IsDriverFault declared (Some bytes) (driver_step fault)
 lines_reported declared bytes lines.Memory h k = absurd (k refl)
 lines_reported declared bytes (lines.DriverToken n) h k = of_lines (h (λ e. cc))
 lines_reported declared bytes (lines.DriverTooDeep n) h k = of_lines (h (λ e. cc))
 lines_reported declared bytes (lines.DriverSyntax n) h k = of_lines (h (λ e. cc))
 
 -- the fault of the driver's names
-pub names_reported : (declared : Declared) (bytes : List ℕ) (driver : Driver) (fault : CoreFault) → IsDriver bytes driver → (fault ≢ core.Memory → IsCoreFault driver declared fault) → core_step fault ≢ Memory
+pub names_reported : (declared : Declared) (bytes : List ℕ) (driver : Driver) (fault : CoreFault) → IsDriver bytes driver
+    → (fault ≢ core.Memory → IsCoreFault driver declared fault) → core_step fault ≢ Memory
     → IsDriverFault declared (Some bytes) (core_step fault)
 names_reported declared bytes driver core.Memory d h k = absurd (k refl)
 names_reported declared bytes driver (core.FunctionTwice name line) d h k = of_names driver d (h (λ e. cc))
@@ -98,24 +108,28 @@ names_reported declared bytes driver (core.BadTargetInDriver name line) d h k = 
 names_reported declared bytes driver (core.DriverRecursion names) d h k = of_names driver d (h (λ e. cc))
 
 -- the fault of a driver is one of the source
-driver_reported : (source : Source) (declared : Declared) (base : Base) (given : Option (List ℕ)) (fault : SourceFault) → HasRules source declared base → source.driver ≡ given → IsDriverFault declared given fault → IsSourceFault source fault
+driver_reported : (source : Source) (declared : Declared) (base : Base) (given : Option (List ℕ)) (fault : SourceFault) → HasRules source declared base
+    → source.driver ≡ given → IsDriverFault declared given fault → IsSourceFault source fault
 driver_reported source declared base _ fault r e (of_lines f) = of_driver r e f
 driver_reported source declared base _ fault r e (of_names driver d f) = of_core driver r e d f
 
 -- the fault of the requests
 pub requests_reported : (source : Source) (declared : Declared) (written : Option Core) (fault : RequestFault) → IsWritten declared source.driver written
-    → (fault ≢ requests.Memory → parsed_requests source.requests declared ≡ Err fault) → request_step fault ≢ Memory → IsRequestsFault declared source (request_step fault)
+    → (fault ≢ requests.Memory → parsed_requests source.requests declared ≡ Err fault) → request_step fault ≢ Memory
+    → IsRequestsFault declared source (request_step fault)
 requests_reported source declared written requests.Memory d h k = absurd (k refl)
 requests_reported source declared written (requests.BadRequest line) d h k = in_requests d (h (λ e. cc))
 requests_reported source declared written requests.TooManyRequests d h k = in_requests d (h (λ e. cc))
 
 -- both are faults of the source
-pub requested_reported : (source : Source) (declared : Declared) (base : Base) (fault : SourceFault) → HasRules source declared base → IsRequestsFault declared source fault → IsSourceFault source fault
+pub requested_reported : (source : Source) (declared : Declared) (base : Base) (fault : SourceFault) → HasRules source declared base
+    → IsRequestsFault declared source fault → IsSourceFault source fault
 requested_reported source declared base fault r (in_driver f) = driver_reported source declared base source.driver fault r refl f
 requested_reported source declared base _ r (in_requests d e) = of_requests r d e
 
 -- no more is asked for than there may be
-few_when : (all cells : List ℕ) (many : Bool) → nat_lt REQUESTS (length all) ≡ many → cond many (Err TooManyRequests) (Ok all) ≡ Ok cells → length cells ≤ REQUESTS
+few_when : (all cells : List ℕ) (many : Bool) → nat_lt REQUESTS (length all) ≡ many → cond many (Err TooManyRequests) (Ok all) ≡ Ok cells
+    → length cells ≤ REQUESTS
 few_when all cells true m e = cc
 few_when all cells false m e = let s : all ≡ cells = cc in subst (λ (l : List ℕ). length l ≤ REQUESTS) s (ltb-false REQUESTS (length all) m)
 
@@ -128,19 +142,23 @@ few_requested None declared cells e = few_parsed (Ok (returned_cells declared)) 
 few_requested (Some bytes) declared cells e = few_parsed (parsed_lines declared 1 [] (lines_of bytes)) cells e
 
 -- the weight
-pub weight_reported : (core : Core) (base : Base) (fault : InlineFault) → (fault ≢ inline.Memory → IsTooLarge core base fault) → inline_step fault ≢ Memory → IsHeavy core base (inline_step fault)
+pub weight_reported : (core : Core) (base : Base) (fault : InlineFault) → (fault ≢ inline.Memory → IsTooLarge core base fault) → inline_step fault ≢ Memory
+    → IsHeavy core base (inline_step fault)
 weight_reported core base inline.Memory h k = absurd (k refl)
 weight_reported core base (inline.DriverTooLarge weight) h k =
     let w = h (λ e. cc) in
     subst (λ n. IsHeavy core base (inline_step (inline.DriverTooLarge n))) (sym w.1) (heavy w.0)
 
-heavy_reported : (source : Source) (declared : Declared) (base : Base) (written : Option Core) (wanted : List ℕ) (fault : SourceFault) → HasRules source declared base → IsWritten declared source.driver written
+heavy_reported : (source : Source) (declared : Declared) (base : Base) (written : Option Core) (wanted : List ℕ) (fault : SourceFault)
+    → HasRules source declared base → IsWritten declared source.driver written
     → parsed_requests source.requests declared ≡ Ok wanted → IsHeavy (running written wanted declared) base fault → IsSourceFault source fault
 heavy_reported source declared base written wanted fault r d q (heavy w) = of_weight r d q w
 
 -- the whole
-compiled_when : (source : Source) (declared : Declared) (base : Base) (wanted : List ℕ) (core : Core) (flat : Flat) (face : Face) (runnable : IsRunnable face flat) → HasRules source declared base → AreRequests declared source core wanted
-    → IsProgram declared base core wanted flat face → (code : Listing) → IsAllocation flat (length face.labels) code → IsCompiled source (compiled_of flat face code)
+compiled_when : (source : Source) (declared : Declared) (base : Base) (wanted : List ℕ) (core : Core) (flat : Flat) (face : Face)
+    (runnable : IsRunnable face flat) → HasRules source declared base → AreRequests declared source core wanted
+    → IsProgram declared base core wanted flat face → (code : Listing) → IsAllocation flat (length face.labels) code
+    → IsCompiled source (compiled_of flat face code)
 compiled_when source declared base wanted core flat face runnable r a p code l =
     record {
       declared = declared;
@@ -156,20 +174,29 @@ compiled_when source declared base wanted core flat face runnable r a p code l =
       notes = p.notes;
       first_labels = p.first_labels;
       further_labels = p.further_labels;
-      printable = printable_face source.texts source.application source.requests declared base wanted face r.made a.requested (distinct_codes source.texts source.application declared base r.made)
+      printable = printable_face source.texts source.application source.requests declared base wanted face r.made a.requested
+          (distinct_codes source.texts source.application declared base r.made)
           (ap codes_of p.inputs ∙ parsed_codes declared) p.names p.first_labels p.further_labels;
       answers = λ inputs given. rw (sym a.runs) (p.answers inputs given);
     }
 
-runnable_when : (source : Source) (declared : Declared) (base : Base) (wanted : List ℕ) (core : Core) (flat : Flat) (face : Face) → HasRules source declared base → IsProgram declared base core wanted flat face → IsRunnable face flat
+runnable_when : (source : Source) (declared : Declared) (base : Base) (wanted : List ℕ) (core : Core) (flat : Flat) (face : Face)
+    → HasRules source declared base → IsProgram declared base core wanted flat face → IsRunnable face flat
 runnable_when source declared base wanted core flat face r p =
-    record { valid = p.valid; shown = p.shown; distinct = rw (ap codes_of p.inputs ∙ parsed_codes declared) (distinct_codes source.texts source.application declared base r.made); nodes_fit = p.nodes_fit }
+    record {
+      valid = p.valid;
+      shown = p.shown;
+      distinct = rw (ap codes_of p.inputs ∙ parsed_codes declared)
+          (distinct_codes source.texts source.application declared base r.made);
+      nodes_fit = p.nodes_fit;
+    }
 
 -- there may be code of a program as small as this
 few_when_fit : (labels base : ℕ) → base ≤ PARTS → labels ≤ base + most_nodes → labels < 2 ^ 32
 few_when_fit labels base b l = omega (arith, b, l)
 
-ready_when : (source : Source) (declared : Declared) (base : Base) (wanted : List ℕ) (core : Core) (flat : Flat) (face : Face) → length base.labels ≤ PARTS → HasRules source declared base → AreRequests declared source core wanted
+ready_when : (source : Source) (declared : Declared) (base : Base) (wanted : List ℕ) (core : Core) (flat : Flat) (face : Face) → length base.labels ≤ PARTS
+    → HasRules source declared base → AreRequests declared source core wanted
     → IsProgram declared base core wanted flat face → IsReady source flat face
 ready_when source declared base wanted core flat face few r a p =
     let runnable = runnable_when source declared base wanted core flat face r p in
@@ -185,22 +212,26 @@ ready_when source declared base wanted core flat face few r a p =
       compiled = compiled_when source declared base wanted core flat face runnable r a p;
     }
 
-pub finished : (source : Source) (declared : Declared) (base : Base) (wanted : List ℕ) (core : Core) (result : Result (Flat × Face) SourceFault) → length base.labels ≤ PARTS → HasRules source declared base
+pub finished : (source : Source) (declared : Declared) (base : Base) (wanted : List ℕ) (core : Core) (result : Result (Flat × Face) SourceFault)
+    → length base.labels ≤ PARTS → HasRules source declared base
     → AreRequests declared source core wanted → Outcome Memory result (λ given. IsProgram declared base core wanted given.0 given.1) (IsHeavy core base)
     → Outcome Memory result (λ given. IsReady source given.0 given.1) (IsSourceFault source)
 finished source declared base wanted core (Ok given) few r a p = ready_when source declared base wanted core given.0 given.1 few r a p
-finished source declared base wanted core (Err fault) few r a p = λ m. heavy_reported source declared base a.written wanted fault r a.driven a.requested (subst (λ c. IsHeavy c base fault) a.runs (p m))
+finished source declared base wanted core (Err fault) few r a p = λ m. heavy_reported source declared base a.written wanted fault r a.driven a.requested
+    (subst (λ c. IsHeavy c base fault) a.runs (p m))
 
 -- ---- the program of a driver
 
-as_many_inputs : (declared : Declared) (stated : List Coded) (inputs : ℕ) → stated ≡ inputs_declared declared → inputs ≡ length (inputs_from 0 declared.variables) → length stated ≡ inputs
+as_many_inputs : (declared : Declared) (stated : List Coded) (inputs : ℕ) → stated ≡ inputs_declared declared
+    → inputs ≡ length (inputs_from 0 declared.variables) → length stated ≡ inputs
 as_many_inputs declared stated inputs c i = ap length c ∙ many_inputs declared ∙ sym i
 
 -- the outputs: the notes, and then the names of the cells that are asked for
 abbrev outputs_made : Declared → List ℕ → List ℕ → List FaceOutput
 outputs_made declared notes wanted = map Noted notes ++ map Named (map (cell_name declared) wanted)
 
-as_many_outputs : (declared : Declared) (outputs : List FaceOutput) (notes wanted : List ℕ) → outputs ≡ outputs_made declared notes wanted → length outputs ≡ length notes + length wanted
+as_many_outputs : (declared : Declared) (outputs : List FaceOutput) (notes wanted : List ℕ) → outputs ≡ outputs_made declared notes wanted
+    → length outputs ≡ length notes + length wanted
 as_many_outputs declared outputs notes wanted e =
     ap length e
     ∙ length-append (map Noted notes) (map Named (map (cell_name declared) wanted))
@@ -210,8 +241,10 @@ few_outputs : (outputs notes wanted : ℕ) → outputs ≡ notes + wanted → no
 few_outputs outputs notes wanted e n h = omega (arith, e, n, h)
 
 -- the tidy program with its face
-pub program_made : (declared : Declared) (base : Base) (core : Core) (wanted : List ℕ) (flat tidy : Flat) (face : Face) (labels : List FaceLabel) (notes : List ℕ) → HasWeight core base
-    → IsInlined core base declared wanted flat labels notes → Becomes flat tidy → IsTidy tidy → face.labels ≡ labels → face.inputs ≡ inputs_declared declared → face.outputs ≡ outputs_made declared notes wanted
+pub program_made : (declared : Declared) (base : Base) (core : Core) (wanted : List ℕ) (flat tidy : Flat) (face : Face) (labels : List FaceLabel)
+    (notes : List ℕ) → HasWeight core base
+    → IsInlined core base declared wanted flat labels notes → Becomes flat tidy → IsTidy tidy → face.labels ≡ labels → face.inputs ≡ inputs_declared declared
+    → face.outputs ≡ outputs_made declared notes wanted
     → length wanted ≤ REQUESTS → IsProgram declared base core wanted tidy face
 program_made declared base core wanted flat tidy face labels notes w i b t l f o h =
     let many = as_many_outputs declared face.outputs notes wanted o in
@@ -222,7 +255,8 @@ program_made declared base core wanted flat tidy face labels notes w i b t l f o
       tidy = t;
       shown = record {
         inputs = as_many_inputs declared face.inputs tidy.inputs f (b.inputs ∙ i.inputs);
-        labels = labels_kept (length face.labels) flat.checks tidy.checks (subst (λ (ls : List FaceLabel). All (λ check. check.label < length ls) flat.checks) (sym l) i.labelled) b.labels;
+        labels = labels_kept (length face.labels) flat.checks tidy.checks (subst (λ (ls : List FaceLabel). All (λ check. check.label < length ls) flat.checks)
+            (sym l) i.labelled) b.labels;
         outputs = many ∙ sym (b.outputs ∙ i.outputs);
         few = few_outputs (length face.outputs) (length notes) (length wanted) many i.notes_fit h;
       };
@@ -235,5 +269,6 @@ program_made declared base core wanted flat tidy face labels notes w i b t l f o
       checks_fit = omega (arith, b.checks, i.checks_fit);
       labels_fit = subst (λ (ls : List FaceLabel). length ls ≤ length base.labels + most_nodes) (sym l) i.labels_fit;
       few_outputs = omega (arith, many, i.notes_fit, h);
-      answers = λ inputs given. rw (l, noted, b.answer inputs (plain_values face.inputs inputs given)) (i.answer inputs (subst (λ stated. AreValuesOf stated inputs) f given));
+      answers = λ inputs given. rw (l, noted, b.answer inputs (plain_values face.inputs inputs given))
+          (i.answer inputs (subst (λ stated. AreValuesOf stated inputs) f given));
     }

@@ -34,7 +34,8 @@ pub record IsRunnable (face : Face) (flat : Flat) : Type 0 where
 
 -- The source is valid, and it is compiled to this: for every list of values that the inputs may have, the answer of the tidy program, read
 -- through its face, is the answer of the source. The face has the inputs with their types, the labels of the base's checks and after them
--- those of lines of the driver alone, and the names of what is asked for, each in its order, and each note is that of a check of the base. A code file can spell all
+-- those of lines of the driver alone, and the names of what is asked for, each in its order, and each note is that of a check of the base.
+-- A code file can spell all
 -- words of the face. The code spells the tidy program, with a label for each of the face, in the registers and slots of its width.
 pub record IsCompiled (source : Source) (compiled : Compiled) : Type 0 where
   pub declared : Declared
@@ -52,4 +53,5 @@ pub record IsCompiled (source : Source) (compiled : Compiled) : Type 0 where
   pub further_labels : AllByRecursion IsDriverLine (drop (length base.labels) compiled.face.labels)
   pub printable : IsPrintable compiled.face
   pub answers : (inputs : List Value) → AreValuesOf compiled.face.inputs inputs
-      → observation compiled.face.labels (notes_of compiled.face.outputs) (flat_run compiled.tidy inputs) ≡ Some (answer_to declared base written requests inputs)
+      → observation compiled.face.labels (notes_of compiled.face.outputs) (flat_run compiled.tidy inputs) ≡ Some
+      (answer_to declared base written requests inputs)

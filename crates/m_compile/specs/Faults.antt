@@ -42,7 +42,8 @@ pub data IsSourceFault (source : Source) : SourceFault → Type 0 where
       → IsWritten declared source.driver written → parsed_requests source.requests declared ≡ Err fault → IsSourceFault source (Requests fault)
   of_weight : {declared : Declared} {base : Base} {written : Option Core} {requests : List ℕ} → HasRules source declared base
       → IsWritten declared source.driver written → parsed_requests source.requests declared ≡ Ok requests
-      → DRIVER_WEIGHT < weight_of (running written requests declared) base → IsSourceFault source (DriverTooLarge (observation_weight (running written requests declared) base))
+      → DRIVER_WEIGHT < weight_of (running written requests declared) base
+      → IsSourceFault source (DriverTooLarge (observation_weight (running written requests declared) base))
 
 -- The fault of rule files by themselves: that of the earliest step of theirs that has one.
 pub data IsBaseFault (texts : List Text) (application : List ℕ) : SourceFault → Type 0 where

@@ -20,7 +20,8 @@ use Rattle.mpp_lexer.specs.declared.fault.DriverFault.{DriverFault}
 use Rattle.mpp_lexer.specs.declared.fault.DriverFault.TheVariants as driver
 use Rattle.mpp_core.specs.declared.fault.CoreFault.{CoreFault}
 use Rattle.mpp_core.specs.declared.fault.CoreFault.TheVariants as core
-use Rattle.tax_print.specs.FaultLines.{place_line, name_line, cycle_line, driver_line, driver_name_line, no_main_line, recursion_line, too_large_line, request_line, too_many_requests_line}
+use Rattle.tax_print.specs.FaultLines.{place_line, name_line, cycle_line, driver_line, driver_name_line, no_main_line, recursion_line, too_large_line}
+use Rattle.tax_print.specs.FaultLines.{request_line, too_many_requests_line}
 use Rattle.tax_print.specs.declared.fault.DriverFault.TheVariants as in_line
 use Rattle.tax_print.specs.declared.fault.DriverNameFault.TheVariants as of_name
 use Rattle.tax_print.specs.declared.fault.PlaceFault.TheVariants as at_place

@@ -21,7 +21,8 @@ pub record HasRules (source : Source) (declared : Declared) (base : Base) : Type
 -- The driver that was written, over the cells of what is declared; none where none was.
 pub data IsWritten (declared : Declared) : Option (List ℕ) → Option Core → Type 0 where
   without : IsWritten declared None None
-  by_driver : {bytes : List ℕ} {core : Core} (driver : Driver) → IsDriver bytes driver → IsCore driver declared core → IsWritten declared (Some bytes) (Some core)
+  by_driver : {bytes : List ℕ} {core : Core} (driver : Driver) → IsDriver bytes driver → IsCore driver declared core
+      → IsWritten declared (Some bytes) (Some core)
 
 -- The driver that runs: the one that was written, or without one the function `main` with one call of the rules, which gives back what is asked for.
 abbrev pub running : Option Core → List ℕ → Declared → Core

@@ -163,7 +163,11 @@ fn program(alloc: Global, source: &Source, made: &RuleBase) -> Result<(Tidy, Fac
 }
 
 // What a source asks for, over what its rules declare: the driver that runs, and the cells of the requests.
-fn core_and_requests(alloc: Global, source: &Source, symbols: &Symbols) -> Result<(Core, Seq<u32>), SourceFault>
+fn core_and_requests(
+    alloc: Global,
+    source: &Source,
+    symbols: &Symbols,
+) -> Result<(Core, Seq<u32>), SourceFault>
     requires limits { SourceKeepsLimits source.now }
     requires placed { IsPlaced symbols.now }
     ensures outcome { Outcome Memory result (λ given. AreRequests symbols.now source.now given.0 given.1) (IsRequestsFault symbols.now source.now) }

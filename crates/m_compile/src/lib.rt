@@ -5,17 +5,17 @@
 
 mod base;
 mod compiling;
+mod entries;
 mod face;
 mod fault;
 mod laws;
-mod entries;
 
 pub use base::compile_base;
 pub use compiling::{Compiled, compile_with, compile_with_rules};
+pub use entries::fault_entry;
 pub use face::inputs_of;
 pub use fault::SourceFault;
 pub use laws::{
     base_fault_of_source, no_base_and_base_fault, no_valid_and_fault, one_base_fault, one_fault,
     one_rules, one_validity,
 };
-pub use entries::fault_entry;

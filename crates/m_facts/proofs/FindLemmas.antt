@@ -11,7 +11,8 @@ all-at count zero (p ∷ ps) h low = h.0
 all-at count (suc k) (p ∷ ps) h low = all-at count k ps h.1 (omega (arith, low))
 
 -- the nodes of outputs are below a count where all are
-pub nodes-low : (count : ℕ) (ps ks : List ℕ) → AllByRecursion (λ p. p < count) ps → AllByRecursion (λ k. k < length ps) ks → AllByRecursion (λ p. p < count) (map (node_of ps) ks)
+pub nodes-low : (count : ℕ) (ps ks : List ℕ) → AllByRecursion (λ p. p < count) ps → AllByRecursion (λ k. k < length ps) ks
+    → AllByRecursion (λ p. p < count) (map (node_of ps) ks)
 nodes-low count ps [] h low = tt
 nodes-low count ps (k ∷ ks) h low = (all-at count k ps h low.0, nodes-low count ps ks h low.1)
 

@@ -1,5 +1,6 @@
 -- Outputs that are the first with their names, one after another.
-use Rattle.std.proofs.Common.{◌≡◌, ℕ, ◌+◌, ◌<◌, Bool, true, false, cond, List, [], ◌∷◌, ◌++◌, length, get_or, take, Option, Some, None, slice_get, refl, ap, sym, ◌∙◌}
+use Rattle.std.proofs.Common.{◌≡◌, ℕ, ◌+◌, ◌<◌, Bool, true, false, cond, List, [], ◌∷◌, ◌++◌, length, get_or, take, Option, Some, None, slice_get, refl, ap}
+use Rattle.std.proofs.Common.{sym, ◌∙◌}
 use Rattle.std.specs.Prelude.{◌||◌, not}
 use Rattle.std.specs.Option.{option_map_or, option_and_then}
 use Rattle.std.specs.Str.{bytes_eq}
@@ -22,13 +23,15 @@ names-append (Named name ∷ xs) ys = ap (λ names. name ∷ names) (names-appen
 names-append (Noted number ∷ xs) ys = names-append xs ys
 
 -- one output more
-pub names-next : (outputs : List FaceOutput) (k : ℕ) (output : FaceOutput) (names : List (List ℕ)) → k < length outputs → output ≡ get_or outputs k output → SameNames names (names_of (take k outputs))
+pub names-next : (outputs : List FaceOutput) (k : ℕ) (output : FaceOutput) (names : List (List ℕ)) → k < length outputs → output ≡ get_or outputs k output
+    → SameNames names (names_of (take k outputs))
     → SameNames (with_output output names) (names_of (take (k + 1) outputs))
 names-next outputs k output names low is agreed = λ x.
     by output x
     ∙ ap (λ b. b || has x (names_of (output ∷ []))) (agreed x)
     ∙ sym (has-append x (names_of (take k outputs)) (names_of (output ∷ [])))
-    ∙ ap (has x) (sym (names-append (take k outputs) (output ∷ [])) ∙ ap (λ o. names_of (take k outputs ++ o ∷ [])) is ∙ ap names_of (sym (take_more outputs k output low)))
+    ∙ ap (has x) (sym (names-append (take k outputs) (output ∷ [])) ∙ ap (λ o. names_of (take k outputs ++ o ∷ [])) is
+    ∙ ap names_of (sym (take_more outputs k output low)))
   where
     none : (b : Bool) → b ≡ (b || false)
     none true = refl
@@ -47,11 +50,13 @@ names-next outputs k output names low is agreed = λ x.
     by (Noted number) x = none (has x names)
 
 -- an output's name is new where the names before it lack it
-pub first-is : (outputs : List FaceOutput) (k : ℕ) (output : FaceOutput) (names : List (List ℕ)) (fresh : Bool) → slice_get outputs k ≡ Some output → SameNames names (names_of (take k outputs))
+pub first-is : (outputs : List FaceOutput) (k : ℕ) (output : FaceOutput) (names : List (List ℕ)) (fresh : Bool) → slice_get outputs k ≡ Some output
+    → SameNames names (names_of (take k outputs))
     → fresh ≡ option_map_or (λ name. not (has name names)) (name_of output) false → fresh ≡ is_first outputs k
 first-is outputs k output names fresh is agreed e =
     e ∙ by (name_of output) ∙ ap (λ o. option_map_or (λ name. not (has name (names_of (take k outputs)))) (option_and_then name_of o) false) (sym is)
   where
-    by : (found : Option (List ℕ)) → option_map_or (λ name. not (has name names)) found false ≡ option_map_or (λ name. not (has name (names_of (take k outputs)))) found false
+    by : (found : Option (List ℕ)) → option_map_or (λ name. not (has name names)) found false ≡ option_map_or
+        (λ name. not (has name (names_of (take k outputs)))) found false
     by None = refl
     by (Some name) = ap not (agreed name)

@@ -31,22 +31,27 @@ alone-line name words fact none is =
 numbers-line : (name text words : List ℕ) (fact : Possible) (r : ℤ × ℤ) → fact.range ≡ Some r → text ≡ range_text r → words ≡ words_after fact.undef fact.over
     → name ++ (codes " " ++ (text ++ (words ++ (new_line ++ [])))) ≡ fact_line name fact
 numbers-line name text words fact r some has is =
-    ap (λ rest. name ++ (codes " " ++ rest)) (sym (append_assoc text words (new_line ++ [])) ∙ ap (λ t. t ++ (new_line ++ [])) (ap (λ w. text ++ w) is ∙ sym (after text fact.undef fact.over)))
+    ap (λ rest. name ++ (codes " " ++ rest)) (sym (append_assoc text words (new_line ++ []))
+    ∙ ap (λ t. t ++ (new_line ++ [])) (ap (λ w. text ++ w) is ∙ sym (after text fact.undef fact.over)))
     ∙ ap (λ t. joined (name ∷ codes " " ∷ joined_by_or (t ∷ words_text fact.undef fact.over) ∷ new_line ∷ [])) has
     ∙ ap (λ range. joined (name ∷ codes " " ∷ joined_by_or (numbers_text range ++ words_text fact.undef fact.over) ∷ new_line ∷ [])) (sym some)
 
 -- one number
 pub number-line : (name words : List ℕ) (fact : Possible) (r : ℤ × ℤ) → fact.range ≡ Some r → int_eq r.0 r.1 ≡ true → words ≡ words_after fact.undef fact.over
     → joined (name ∷ codes " " ∷ printed r.0 ∷ words ∷ new_line ∷ []) ≡ fact_line name fact
-number-line name words fact r some equal is = numbers-line name (printed r.0) words fact r some (sym (ap (λ b. cond b (printed r.0) (joined (printed r.0 ∷ codes " to " ∷ printed r.1 ∷ []))) equal)) is
+number-line name words fact r some equal is = numbers-line name (printed r.0) words fact r some
+    (sym (ap (λ b. cond b (printed r.0) (joined (printed r.0 ∷ codes " to " ∷ printed r.1 ∷ []))) equal)) is
 
 -- an interval of several
-pub interval-line : (name words : List ℕ) (fact : Possible) (r : ℤ × ℤ) → fact.range ≡ Some r → int_eq r.0 r.1 ≡ false → words ≡ words_after fact.undef fact.over
+pub interval-line : (name words : List ℕ) (fact : Possible) (r : ℤ × ℤ) → fact.range ≡ Some r → int_eq r.0 r.1 ≡ false
+    → words ≡ words_after fact.undef fact.over
     → joined (name ∷ codes " " ∷ printed r.0 ∷ codes " to " ∷ printed r.1 ∷ words ∷ new_line ∷ []) ≡ fact_line name fact
 interval-line name words fact r some apart is =
     ap (λ rest. name ++ (codes " " ++ rest))
-    (ap (λ rest. printed r.0 ++ (codes " to " ++ rest)) (ap (λ q. q ++ (words ++ (new_line ++ []))) (sym (append-nil (printed r.1)))) ∙ three (printed r.0) (codes " to ") (printed r.1 ++ []) (words ++ (new_line ++ [])))
-    ∙ numbers-line name (joined (printed r.0 ∷ codes " to " ∷ printed r.1 ∷ [])) words fact r some (sym (ap (λ b. cond b (printed r.0) (joined (printed r.0 ∷ codes " to " ∷ printed r.1 ∷ []))) apart)) is
+    (ap (λ rest. printed r.0 ++ (codes " to " ++ rest)) (ap (λ q. q ++ (words ++ (new_line ++ []))) (sym (append-nil (printed r.1))))
+    ∙ three (printed r.0) (codes " to ") (printed r.1 ++ []) (words ++ (new_line ++ [])))
+    ∙ numbers-line name (joined (printed r.0 ∷ codes " to " ∷ printed r.1 ∷ [])) words fact r some
+    (sym (ap (λ b. cond b (printed r.0) (joined (printed r.0 ∷ codes " to " ∷ printed r.1 ∷ []))) apart)) is
   where
     three : (a b c rest : List ℕ) → a ++ (b ++ (c ++ rest)) ≡ (a ++ (b ++ c)) ++ rest
     three a b c rest = ap (λ t. a ++ t) (sym (append_assoc b c rest)) ∙ sym (append_assoc a (b ++ c) rest)

@@ -30,10 +30,12 @@ outputs-are (Noted number ∷ outputs) [] = none (names_of outputs)
 outputs-are (Named name ∷ outputs) (fact ∷ facts) = ap (λ lines. fact_line name fact ++ lines) (outputs-are outputs facts)
 outputs-are (Noted number ∷ outputs) (fact ∷ facts) = outputs-are outputs facts
 
-pub outputs-at : (outputs : List FaceOutput) (facts : List Possible) (i : ℕ) (output d : FaceOutput) (fact e : Possible) → i < length outputs → i < length facts → output ≡ get_or outputs i d → fact ≡ get_or facts i e
+pub outputs-at : (outputs : List FaceOutput) (facts : List Possible) (i : ℕ) (output d : FaceOutput) (fact e : Possible) → i < length outputs → i < length facts
+    → output ≡ get_or outputs i d → fact ≡ get_or facts i e
     → outputs_lines (drop i outputs) (drop i facts) ≡ output_line output fact ++ outputs_lines (drop (i + 1) outputs) (drop (i + 1) facts)
 outputs-at outputs facts i output d fact e low below is has =
-    ap (λ os. outputs_lines os (drop i facts)) (drop_more outputs i d low) ∙ ap (outputs_lines (get_or outputs i d ∷ drop (i + 1) outputs)) (drop_more facts i e below)
+    ap (λ os. outputs_lines os (drop i facts)) (drop_more outputs i d low)
+    ∙ ap (outputs_lines (get_or outputs i d ∷ drop (i + 1) outputs)) (drop_more facts i e below)
     ∙ ap (λ o. output_line o (get_or facts i e) ++ outputs_lines (drop (i + 1) outputs) (drop (i + 1) facts)) (sym is)
     ∙ ap (λ f. output_line output f ++ outputs_lines (drop (i + 1) outputs) (drop (i + 1) facts)) (sym has)
 
@@ -41,27 +43,32 @@ no-outputs : (outputs : List FaceOutput) → outputs_lines outputs [] ≡ []
 no-outputs [] = refl
 no-outputs (output ∷ outputs) = refl
 
-pub outputs-end : (outputs : List FaceOutput) (facts : List Possible) (i : ℕ) → (length outputs ≤ i) ⊎ (length facts ≤ i) → outputs_lines (drop i outputs) (drop i facts) ≡ []
+pub outputs-end : (outputs : List FaceOutput) (facts : List Possible) (i : ℕ) → (length outputs ≤ i) ⊎ (length facts ≤ i)
+    → outputs_lines (drop i outputs) (drop i facts) ≡ []
 outputs-end outputs facts i (inl h) = ap (λ os. outputs_lines os (drop i facts)) (drop_all i outputs h)
 outputs-end outputs facts i (inr h) = ap (outputs_lines (drop i outputs)) (drop_all i facts h) ∙ no-outputs (drop i outputs)
 
 -- ---- checks
 
-pub silent-at : (base : Base) (ks : List ℕ) (i k d : ℕ) → i < length ks → k ≡ get_or ks i d → silent_lines base (drop i ks) ≡ stops_line base k ++ silent_lines base (drop (i + 1) ks)
+pub silent-at : (base : Base) (ks : List ℕ) (i k d : ℕ) → i < length ks → k ≡ get_or ks i d → silent_lines base (drop i ks) ≡ stops_line base k
+    ++ silent_lines base (drop (i + 1) ks)
 silent-at base ks i k d low is = ap (silent_lines base) (drop_more ks i d low) ∙ ap (λ j. stops_line base j ++ silent_lines base (drop (i + 1) ks)) (sym is)
 
 -- ---- dependences
 
 pub codes-at : (inputs : List Coded) (ns : List ℕ) (i n d : ℕ) → i < length ns → n ≡ get_or ns i d
     → codes_text inputs (drop i ns) ≡ joined (codes " " ∷ code_at inputs n ∷ []) ++ codes_text inputs (drop (i + 1) ns)
-codes-at inputs ns i n d low is = ap (codes_text inputs) (drop_more ns i d low) ∙ ap (λ m. joined (codes " " ∷ code_at inputs m ∷ []) ++ codes_text inputs (drop (i + 1) ns)) (sym is)
+codes-at inputs ns i n d low is = ap (codes_text inputs) (drop_more ns i d low)
+    ∙ ap (λ m. joined (codes " " ∷ code_at inputs m ∷ []) ++ codes_text inputs (drop (i + 1) ns)) (sym is)
 
 -- the line of a cell begins with its name
-pub read-first : (inputs : List Coded) (name : List ℕ) (ns : List ℕ) → reads_line inputs name ns ≡ joined (codes "depends " ∷ name ∷ []) ++ (codes_text inputs ns ++ new_line)
+pub read-first : (inputs : List Coded) (name : List ℕ) (ns : List ℕ) → reads_line inputs name ns ≡ joined (codes "depends " ∷ name ∷ [])
+    ++ (codes_text inputs ns ++ new_line)
 read-first inputs name ns =
     ap (λ n. codes "depends " ++ (n ++ (codes_text inputs ns ++ new_line))) (sym (append-nil name)) ∙ ap (λ rest. codes "depends " ++ rest) refl
 
-pub reads-at : (face : Face) (ks : List ℕ) (reads : List (List ℕ)) (i k d : ℕ) (name ns e : List ℕ) → i < length ks → i < length reads → k ≡ get_or ks i d → ns ≡ get_or reads i e → name ≡ printed_name face.outputs k
+pub reads-at : (face : Face) (ks : List ℕ) (reads : List (List ℕ)) (i k d : ℕ) (name ns e : List ℕ) → i < length ks → i < length reads → k ≡ get_or ks i d
+    → ns ≡ get_or reads i e → name ≡ printed_name face.outputs k
     → reads_lines face (drop i ks) (drop i reads) ≡ reads_line face.inputs name ns ++ reads_lines face (drop (i + 1) ks) (drop (i + 1) reads)
 reads-at face ks reads i k d name ns e low below is has named =
     ap (λ js. reads_lines face js (drop i reads)) (drop_more ks i d low) ∙ ap (reads_lines face (get_or ks i d ∷ drop (i + 1) ks)) (drop_more reads i e below)
@@ -73,7 +80,8 @@ no-reads : (face : Face) (ks : List ℕ) → reads_lines face ks [] ≡ []
 no-reads face [] = refl
 no-reads face (k ∷ ks) = refl
 
-pub reads-end : (face : Face) (ks : List ℕ) (reads : List (List ℕ)) (i : ℕ) → (length ks ≤ i) ⊎ (length reads ≤ i) → reads_lines face (drop i ks) (drop i reads) ≡ []
+pub reads-end : (face : Face) (ks : List ℕ) (reads : List (List ℕ)) (i : ℕ) → (length ks ≤ i) ⊎ (length reads ≤ i)
+    → reads_lines face (drop i ks) (drop i reads) ≡ []
 reads-end face ks reads i (inl h) = ap (λ js. reads_lines face js (drop i reads)) (drop_all i ks h)
 reads-end face ks reads i (inr h) = ap (reads_lines face (drop i ks)) (drop_all i reads h) ∙ no-reads face (drop i ks)
 
@@ -81,7 +89,8 @@ reads-end face ks reads i (inr h) = ap (reads_lines face (drop i ks)) (drop_all 
 
 pub found-first : (base : Base) (face : Face) (found : FactsFound)
     → found_text base face found ≡ outputs_lines face.outputs found.possible ++ (silent_lines base found.silent ++ reads_lines face found.firsts found.reads)
-found-first base face found = ap (λ lines. lines ++ (silent_lines base found.silent ++ reads_lines face found.firsts found.reads)) (sym (outputs-are face.outputs found.possible))
+found-first base face found = ap (λ lines. lines ++ (silent_lines base found.silent ++ reads_lines face found.firsts found.reads))
+    (sym (outputs-are face.outputs found.possible))
 
 -- ---- the lesser of two counts
 

@@ -88,7 +88,8 @@ reads_lines face _ _ = []
 -- requested cell once the inputs on which it may depend.
 abbrev pub found_text : Base → Face → FactsFound → List ℕ
 found_text base face found =
-    facts_lines (names_of face.outputs) (named_facts face.outputs found.possible) ++ (silent_lines base found.silent ++ reads_lines face found.firsts found.reads)
+    facts_lines (names_of face.outputs) (named_facts face.outputs found.possible)
+    ++ (silent_lines base found.silent ++ reads_lines face found.firsts found.reads)
 
 -- The lines of what is found where the inputs of the program have these facts.
 abbrev pub facts_text : Base → Flat → Face → List Possible → List ℕ

@@ -21,7 +21,8 @@ pub record AreAllowed (inputs : List Coded) (given : List Possible) (vs : List V
 -- Each value that a household is told is possible by the fact of its cell.
 abbrev pub ArePossible : List Coded → List Possible → (List Value → Observation) → List Possible → Type 0
 ArePossible inputs given observe facts =
-    (vs : List Value) → AreAllowed inputs given vs → (notes : List Label) (reported : List Value) → observe vs ≡ values notes reported → AllZip Holds facts reported
+    (vs : List Value) → AreAllowed inputs given vs → (notes : List Label) (reported : List Value) → observe vs ≡ values notes reported
+    → AllZip Holds facts reported
 
 -- The check's label is told to no household.
 abbrev pub IsSilent : Base → List Coded → List Possible → (List Value → Observation) → ℕ → Type 0
@@ -36,4 +37,5 @@ AgreeOn ns vs ws = (n : ℕ) → Contains ns n → value_at vs n ≡ value_at ws
 abbrev pub DependsOn : List Coded → List Possible → (List Value → Observation) → ℕ → List ℕ → Type 0
 DependsOn inputs given observe place ns =
     (vs ws : List Value) → AreAllowed inputs given vs → AreAllowed inputs given ws → AgreeOn ns vs ws
-    → (notes others : List Label) (reported stated : List Value) → observe vs ≡ values notes reported → observe ws ≡ values others stated → value_at reported place ≡ value_at stated place
+    → (notes others : List Label) (reported stated : List Value) → observe vs ≡ values notes reported → observe ws ≡ values others stated
+    → value_at reported place ≡ value_at stated place

@@ -1,5 +1,6 @@
 -- The number that digits write, and what is left of it from a place on.
-use Rattle.std.proofs.Common.{◌≡◌, ℕ, zero, suc, ◌+◌, ◌-◌, ◌*◌, ◌^◌, ◌<◌, ◌≤◌, List, [], ◌∷◌, ◌++◌, length, drop, get_or, Bool, true, false, ◌&&◌, arith, refl, ◌∙◌, rules}
+use Rattle.std.proofs.Common.{◌≡◌, ℕ, zero, suc, ◌+◌, ◌-◌, ◌*◌, ◌^◌, ◌<◌, ◌≤◌, List, [], ◌∷◌, ◌++◌, length, drop, get_or, Bool, true, false, ◌&&◌, arith, refl}
+use Rattle.std.proofs.Common.{◌∙◌, rules}
 use Rattle.std.proofs.Math.Nat.{pow-suc, le_refl}
 use Rattle.std.proofs.lemmas.Nat.{mul-le}
 use Rattle.std.specs.Int.{IsInRange}
@@ -50,7 +51,8 @@ rest_next a p q s t eq et h = omega (arith, times_ten a s t et)
 
 pub digits_after_is : (n : ℕ) (cs : List ℕ) → digits_value_after 10 n cs ≡ n * 10 ^ length cs + digits_value 10 cs
 digits_after_is n [] = omega arith
-digits_after_is n (c ∷ cs) = after_one n (digit_value c) (10 ^ length cs) _ _ _ _ (pow-suc 10 (length cs)) (digits_after_is (n * 10 + digit_value c) cs) (digits_after_is (0 * 10 + digit_value c) cs)
+digits_after_is n (c ∷ cs) = after_one n (digit_value c) (10 ^ length cs) _ _ _ _ (pow-suc 10 (length cs)) (digits_after_is (n * 10 + digit_value c) cs)
+    (digits_after_is (0 * 10 + digit_value c) cs)
 
 pub digits_cons : (c : ℕ) (cs : List ℕ) → digits_value 10 (c ∷ cs) ≡ digit_value c * 10 ^ length cs + digits_value 10 cs
 digits_cons c cs = first_one (digit_value c) (10 ^ length cs) _ _ (digits_after_is (0 * 10 + digit_value c) cs)
@@ -63,15 +65,18 @@ pub digits_append : (xs ys : List ℕ) → digits_value 10 (xs ++ ys) ≡ digits
 digits_append xs ys = digits_after_append 0 xs ys ∙ digits_after_is (digits_value 10 xs) ys
 
 -- the value that is left from a place on, and its first decimal
-pub decimals_step : (ds : List ℕ) (i : ℕ) → IsTrue (only_digits ds) → digits_value 10 (drop i ds) * 10 ^ suc i ≡ (get_or ds i 48 - 48) * 10 ^ length ds + digits_value 10 (drop (suc i) ds) * 10 ^ suc i
+pub decimals_step : (ds : List ℕ) (i : ℕ) → IsTrue (only_digits ds) → digits_value 10 (drop i ds) * 10 ^ suc i ≡ (get_or ds i 48 - 48) * 10 ^ length ds +
+    digits_value 10 (drop (suc i) ds) * 10 ^ suc i
 decimals_step [] zero h = omega arith
 decimals_step [] (suc i) h = omega arith
 decimals_step (c ∷ cs) zero h = step_first _ _ (10 ^ length cs) _ _ _ (digit_is c (both _ _ h).0) (pow-suc 10 (length cs)) (digits_cons c cs)
-decimals_step (c ∷ cs) (suc i) h = step_next _ _ _ (10 ^ length cs) _ (10 ^ suc i) _ (pow-suc 10 (length cs)) (pow-suc 10 (suc i)) (decimals_step cs i (both _ _ h).1)
+decimals_step (c ∷ cs) (suc i) h = step_next _ _ _ (10 ^ length cs) _ (10 ^ suc i) _ (pow-suc 10 (length cs)) (pow-suc 10 (suc i))
+    (decimals_step cs i (both _ _ h).1)
 
 pub digits_below : (ds : List ℕ) → IsTrue (only_digits ds) → digits_value 10 ds < 10 ^ length ds
 digits_below [] h = omega arith
-digits_below (c ∷ cs) h = below_next (digit_value c) (10 ^ length cs) _ _ _ (pow-suc 10 (length cs)) (digit_small c (both _ _ h).0) (digits_below cs (both _ _ h).1) (digits_cons c cs)
+digits_below (c ∷ cs) h = below_next (digit_value c) (10 ^ length cs) _ _ _ (pow-suc 10 (length cs)) (digit_small c (both _ _ h).0)
+    (digits_below cs (both _ _ h).1) (digits_cons c cs)
 
 -- what is left after i places of the decimals is less than one of the last place
 pub rest_below : (ds : List ℕ) (i : ℕ) → IsTrue (only_digits ds) → digits_value 10 (drop i ds) * 10 ^ i < 10 ^ length ds

@@ -30,7 +30,8 @@ both_true false b h = (cc, cc)
 
 spelled_parts : (text ds : List ℕ) (o : Option (List ℕ)) (n : ℕ) → text ≡ glued ds o → parts_value ds o ≡ Some n → SpellsNumber text n
 spelled_parts text ds None n et e = ⊎_elim
-    (λ (good : is_digits ds ≡ true). let value : Some (millionths_of ds []) ≡ Some n = rw good at e in let same : millionths_of ds [] ≡ n = cc in whole ds good et (sym same))
+    (λ (good : is_digits ds ≡ true). let value : Some (millionths_of ds []) ≡ Some n = rw good at e in let same : millionths_of ds [] ≡ n = cc in whole ds good
+    et (sym same))
     (λ (bad : is_digits ds ≡ false). let none : None ≡ Some n = rw bad at e in absurd (cc))
     (cases_Bool (is_digits ds))
 spelled_parts text ds (Some fs) n et e = ⊎_elim
@@ -55,7 +56,8 @@ minus_and_rest : (text : List ℕ) → starts_with_minus text ≡ true → text 
 minus_and_rest [] h = cc
 minus_and_rest (c ∷ cs) h = rw (eqb-true c minus h) refl
 
-spelled_signed : (text number : List ℕ) (b : Bool) (o : Option ℕ) (z : ℤ) → o ≡ number_value number → option_map (signed b) o ≡ Some z → (n : ℕ) × (number_value number ≡ Some n) × (z ≡ signed b n)
+spelled_signed : (text number : List ℕ) (b : Bool) (o : Option ℕ) (z : ℤ) → o ≡ number_value number → option_map (signed b) o ≡ Some z
+    → (n : ℕ) × (number_value number ≡ Some n) × (z ≡ signed b n)
 spelled_signed text number b None z eo e = absurd (cc)
 spelled_signed text number b (Some n) z eo e = let same : signed b n ≡ z = cc in (n, sym eo, sym same)
 

@@ -1,5 +1,6 @@
 -- The rounded quotient is the nearest whole number, halves away from zero.
-use Rattle.std.proofs.Common.{◌≡◌, ◌≢◌, ℕ, zero, suc, ◌+◌, ◌-◌, ◌*◌, ◌<◌, ◌≤◌, Bool, true, false, ℤ, pos, negsuc, ◌-ℤ◌, ◌*ℤ◌, neg_ℤ, unsigned_abs, refl, ap, ◌∙◌, subst, arith, ⊎_elim, ◌⊎◌, inl, inr}
+use Rattle.std.proofs.Common.{◌≡◌, ◌≢◌, ℕ, zero, suc, ◌+◌, ◌-◌, ◌*◌, ◌<◌, ◌≤◌, Bool, true, false, ℤ, pos, negsuc, ◌-ℤ◌, ◌*ℤ◌, neg_ℤ, unsigned_abs, refl, ap}
+use Rattle.std.proofs.Common.{◌∙◌, subst, arith, ⊎_elim, ◌⊎◌, inl, inr}
 use Rattle.std.proofs.Math.Nat.{mul-zero, zero-mul, div-mul-le_self, lt-div-mul-add, le_refl}
 use Rattle.std.proofs.lemmas.Bool.{cases_lt, lt-leb}
 use Rattle.std.proofs.lemmas.Int.{ints}
@@ -25,8 +26,10 @@ with_sign (pos n) = rw (lt-leb (suc n) 0 (omega arith)) refl
 with_sign (negsuc n) = refl
 
 apart_same : (b : Bool) (m n : ℕ) → unsigned_abs (signed b m -ℤ signed b n) ≡ apart m n
-apart_same false m n = ⊎_elim (λ (h : m < n). size_at true (pos m -ℤ pos n) (apart m n) (omega (arith, ints))) (λ (h : n ≤ m). size_at false (pos m -ℤ pos n) (apart m n) (omega (arith, ints))) (cases_lt m n)
-apart_same true m n = ⊎_elim (λ (h : m < n). size_at false (neg_ℤ (pos m) -ℤ neg_ℤ (pos n)) (apart m n) (omega (arith, ints))) (λ (h : n ≤ m). size_at true (neg_ℤ (pos m) -ℤ neg_ℤ (pos n)) (apart m n) (omega (arith, ints))) (cases_lt m n)
+apart_same false m n = ⊎_elim (λ (h : m < n). size_at true (pos m -ℤ pos n) (apart m n) (omega (arith, ints)))
+    (λ (h : n ≤ m). size_at false (pos m -ℤ pos n) (apart m n) (omega (arith, ints))) (cases_lt m n)
+apart_same true m n = ⊎_elim (λ (h : m < n). size_at false (neg_ℤ (pos m) -ℤ neg_ℤ (pos n)) (apart m n) (omega (arith, ints)))
+    (λ (h : n ≤ m). size_at true (neg_ℤ (pos m) -ℤ neg_ℤ (pos n)) (apart m n) (omega (arith, ints))) (cases_lt m n)
 
 apart_other : (b : Bool) (m n : ℕ) → unsigned_abs (signed b m -ℤ signed (not b) n) ≡ m + n
 apart_other false m n = size_at false (pos m -ℤ neg_ℤ (pos n)) (m + n) (omega (arith, ints))
@@ -122,7 +125,8 @@ signs_agree b c e n d m some near =
     rw none (signed_zero e (differ b c)))
     (same_or_other e (differ b c))
 
-with_signs : (n d q : ℤ) → unsigned_abs (n -ℤ q *ℤ d) ≡ unsigned_abs (signed (is_negative n) (unsigned_abs n) -ℤ signed (is_negative q) (unsigned_abs q) *ℤ signed (is_negative d) (unsigned_abs d))
+with_signs : (n d q : ℤ) → unsigned_abs (n -ℤ q *ℤ d) ≡ unsigned_abs (signed (is_negative n) (unsigned_abs n) -ℤ signed (is_negative q) (unsigned_abs q) *ℤ
+    signed (is_negative d) (unsigned_abs d))
 with_signs n d q =
     ap (λ x. unsigned_abs (x -ℤ q *ℤ d)) (with_sign n)
     ∙ ap (λ x. unsigned_abs (signed (is_negative n) (unsigned_abs n) -ℤ x *ℤ d)) (with_sign q)
@@ -141,7 +145,8 @@ rounded_is_near n d some =
     let b = is_negative n in
     let c = is_negative d in
     let m = nearest (unsigned_abs n) (unsigned_abs d) in
-    let here = ap (λ x. unsigned_abs (x -ℤ rounded n d *ℤ d)) (with_sign n) ∙ ap (λ x. unsigned_abs (signed b (unsigned_abs n) -ℤ rounded n d *ℤ x)) (with_sign d) ∙ multiple_same b c (unsigned_abs n) (unsigned_abs d) m in
+    let here = ap (λ x. unsigned_abs (x -ℤ rounded n d *ℤ d)) (with_sign n)
+    ∙ ap (λ x. unsigned_abs (signed b (unsigned_abs n) -ℤ rounded n d *ℤ x)) (with_sign d) ∙ multiple_same b c (unsigned_abs n) (unsigned_abs d) m in
     omega (arith, here, nearest_is_near (unsigned_abs n) (unsigned_abs d) (some_size d some))
 
 pub near_not_farther : (n d q : ℤ) → d ≢ pos 0 → IsNear n d q → unsigned_abs q ≤ unsigned_abs (rounded n d)
@@ -158,8 +163,15 @@ pub nearest_is_rounded : (n d q : ℤ) → d ≢ pos 0 → IsNearest n d q → q
 nearest_is_rounded n d q some is =
     let b = is_negative n in
     let c = is_negative d in
-    let size : unsigned_abs q ≡ nearest (unsigned_abs n) (unsigned_abs d) = omega (arith, near_not_farther n d q some is.near, is.farthest (rounded n d) (rounded_is_near n d some), size_of_signed (differ b c) (nearest (unsigned_abs n) (unsigned_abs d))) in
-    with_sign q ∙ signs_agree b c (is_negative q) (unsigned_abs n) (unsigned_abs d) (unsigned_abs q) (some_size d some) (near_signs n d q is.near) ∙ ap (λ m. signed (differ b c) m) size
+    let size : unsigned_abs q ≡ nearest (unsigned_abs n) (unsigned_abs d) = omega (
+      arith,
+      near_not_farther n d q some is.near,
+      is.farthest (rounded n d) (rounded_is_near n d some),
+      size_of_signed (differ b c)
+          (nearest (unsigned_abs n) (unsigned_abs d)),
+    ) in
+    with_sign q ∙ signs_agree b c (is_negative q) (unsigned_abs n) (unsigned_abs d) (unsigned_abs q) (some_size d some) (near_signs n d q is.near)
+    ∙ ap (λ m. signed (differ b c) m) size
 
 -- the same of sizes
 pub sizes_are_nearest : (n d : ℕ) → 0 < d → IsNearest (pos n) (pos d) (pos (nearest n d))

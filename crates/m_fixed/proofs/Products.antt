@@ -19,7 +19,8 @@ size_of_product x y p q = rw (unsigned_abs-mul x y) (mul-le _ _ most most (size_
 pub product_fits : (x y : ℤ) → IsAmount x → IsAmount y → FitsSigned w128 (x *ℤ y)
 product_fits x y p q = fits_signed_mul w128 x y most most (size_of_amount x p) (size_of_amount y q) (lit< tt)
 
-pub product_is : (x y : ℤ) → FitsSigned w128 x → FitsSigned w128 y → IsAmount x → IsAmount y → cast_signed w128 (cast_unsigned w128 (cast_signed w128 (cast_unsigned w128 x) *ℤ cast_signed w128 (cast_unsigned w128 y))) ≡ x *ℤ y
+pub product_is : (x y : ℤ) → FitsSigned w128 x → FitsSigned w128 y → IsAmount x → IsAmount y
+    → cast_signed w128 (cast_unsigned w128 (cast_signed w128 (cast_unsigned w128 x) *ℤ cast_signed w128 (cast_unsigned w128 y))) ≡ x *ℤ y
 product_is x y f g p q = rw (to_z-of_z w128 x f, to_z-of_z w128 y g, to_z-of_z w128 (x *ℤ y) (product_fits x y p q)) refl
 
 pub not_zero : (y : ℤ) → (cast_unsigned w128 y ≡ 0 → ⊥) → is_zero y ≡ false
@@ -27,7 +28,10 @@ not_zero (pos zero) h = absurd (h refl)
 not_zero (pos (suc n)) h = eqb-suc-zero n
 not_zero (negsuc n) h = refl
 
-pub quotient_is : (x y p r : ℤ) → FitsSigned w128 x → FitsSigned w128 y → FitsSigned w128 p → FitsSigned w128 r → p ≡ cast_signed w128 (cast_unsigned w128 x) *ℤ pos unit → r ≡ rounded (cast_signed w128 (cast_unsigned w128 p)) (cast_signed w128 (cast_unsigned w128 y)) → (cast_unsigned w128 y ≡ 0 → ⊥) → cast_signed w128 (cast_unsigned w128 r) ≡ quotient x y
+pub quotient_is : (x y p r : ℤ) → FitsSigned w128 x → FitsSigned w128 y → FitsSigned w128 p → FitsSigned w128 r
+    → p ≡ cast_signed w128 (cast_unsigned w128 x) *ℤ pos unit → r ≡ rounded (cast_signed w128 (cast_unsigned w128 p)) (cast_signed w128 (cast_unsigned w128 y))
+    → (cast_unsigned w128 y ≡ 0 → ⊥) → cast_signed w128 (cast_unsigned w128 r) ≡ quotient x y
 quotient_is x y p r fx fy fp fr ep er h =
-    to_z-of_z w128 r fr ∙ er ∙ ap (λ n. rounded n (cast_signed w128 (cast_unsigned w128 y))) (to_z-of_z w128 p fp ∙ ep ∙ ap (λ n. n *ℤ pos unit) (to_z-of_z w128 x fx))
+    to_z-of_z w128 r fr ∙ er ∙ ap (λ n. rounded n (cast_signed w128 (cast_unsigned w128 y))) (to_z-of_z w128 p fp ∙ ep
+    ∙ ap (λ n. n *ℤ pos unit) (to_z-of_z w128 x fx))
     ∙ ap (λ d. rounded (x *ℤ pos unit) d) (to_z-of_z w128 y fy) ∙ sym (ap (λ b. cond b (pos 0) (rounded (x *ℤ pos unit) y)) (not_zero y h))

@@ -1,5 +1,6 @@
 -- How a text is read: its parts, its units, and the bound.
-use Rattle.std.proofs.Common.{◌≡◌, ℕ, zero, suc, ◌+◌, ◌-◌, ◌*◌, ◌/◌, ◌^◌, ◌<◌, ◌≤◌, min, List, [], ◌∷◌, length, take, get_or, Bool, true, false, if◌then◌else◌, Option, Some, None, Result, Ok, Err, arith, refl, sym, ap, ◌∙◌}
+use Rattle.std.proofs.Common.{◌≡◌, ℕ, zero, suc, ◌+◌, ◌-◌, ◌*◌, ◌/◌, ◌^◌, ◌<◌, ◌≤◌, min, List, [], ◌∷◌, length, take, get_or, Bool, true, false, if◌then◌else◌}
+use Rattle.std.proofs.Common.{Option, Some, None, Result, Ok, Err, arith, refl, sym, ap, ◌∙◌}
 use Rattle.std.proofs.Math.Nat.{mul-add-div_right, pow-suc}
 use Rattle.std.proofs.lemmas.Bool.{le-leb, lt-leb}
 use Rattle.std.specs.Prelude.{IsTrue, nat_le, option_map, ℤ, unsigned_abs}
@@ -10,7 +11,8 @@ use Rattle.m_fixed.specs.declared.read.AmountFault.{AmountFault}
 use Rattle.m_fixed.specs.declared.read.AmountFault.TheVariants.{NotAnAmount, TooGreat}
 use Rattle.m_fixed.specs.Amounts.{unit, most}
 use Rattle.m_fixed.specs.Rounding.{nearest, signed}
-use Rattle.m_fixed.specs.Text.{only_digits, is_digits, before_point, behind_point, millionths_of, parts_value, number_value, number_read, amount_read, text_value, without_minus}
+use Rattle.m_fixed.specs.Text.{only_digits, is_digits, before_point, behind_point, millionths_of, parts_value, number_value, number_read, amount_read}
+use Rattle.m_fixed.specs.Text.{text_value, without_minus}
 use Rattle.m_fixed.proofs.Decimals.{both, digit_is, digits_append}
 
 digit_at : (ds : List ℕ) (i : ℕ) → IsTrue (only_digits ds) → i < length ds → IsTrue (is_ascii_digit (get_or ds i 0))
@@ -19,7 +21,8 @@ digit_at (c ∷ cs) zero h below = (both _ _ h).0
 digit_at (c ∷ cs) (suc i) h below = digit_at cs i (both _ _ h).1 (omega arith)
 
 -- one digit more of the whole units
-pub units_more : (ds : List ℕ) (i u v : ℕ) → IsTrue (only_digits ds) → i < length ds → u ≡ min (digits_value 10 (take i ds)) 10_000_000_000_001 → v ≡ min (u * 10 + (get_or ds i 0 - 48)) 10_000_000_000_001 → v ≡ min (digits_value 10 (take (i + 1) ds)) 10_000_000_000_001
+pub units_more : (ds : List ℕ) (i u v : ℕ) → IsTrue (only_digits ds) → i < length ds → u ≡ min (digits_value 10 (take i ds)) 10_000_000_000_001
+    → v ≡ min (u * 10 + (get_or ds i 0 - 48)) 10_000_000_000_001 → v ≡ min (digits_value 10 (take (i + 1) ds)) 10_000_000_000_001
 units_more ds i u v h below eu ev =
     let more = digits_value_more 10 ds i below in
     let digit = digit_is (get_or ds i 0) (digit_at ds i h below) in
@@ -39,7 +42,8 @@ scaled a k b u = omega arith
 pub nearest_whole : (m n k : ℕ) → 0 < k → nearest (m * k + n) k ≡ m + nearest n k
 nearest_whole m n k h = ap (λ x. x / (2 * k)) (regrouped m k n) ∙ mul-add-div_right {m = 2 * k} (omega arith) m (2 * n + k)
 
-pub millionths_split : (whole decimals : List ℕ) → millionths_of whole decimals ≡ digits_value 10 whole * unit + nearest (digits_value 10 decimals * unit) (10 ^ length decimals)
+pub millionths_split : (whole decimals : List ℕ) → millionths_of whole decimals ≡ digits_value 10 whole * unit + nearest (digits_value 10 decimals * unit)
+    (10 ^ length decimals)
 millionths_split whole decimals =
     let k = 10 ^ length decimals in
     ap (λ x. nearest (x * unit) k) (digits_append whole decimals)
@@ -57,30 +61,39 @@ read_too_great w r u n eu small en bound =
     let above : most < n = omega arith in
     rw (lt-leb n most above) refl
 
-size_is : (whole decimals : List ℕ) (r : ℕ) → r ≡ nearest (digits_value 10 decimals * unit) (10 ^ length decimals) → millionths_of whole decimals ≡ digits_value 10 whole * unit + r
+size_is : (whole decimals : List ℕ) (r : ℕ) → r ≡ nearest (digits_value 10 decimals * unit) (10 ^ length decimals)
+    → millionths_of whole decimals ≡ digits_value 10 whole * unit + r
 size_is whole decimals r e = millionths_split whole decimals ∙ ap (λ x. digits_value 10 whole * unit + x) (sym e)
 
-pub size_ok : (whole decimals : List ℕ) (u r : ℕ) → u ≡ min (digits_value 10 whole) 10_000_000_000_001 → r ≡ nearest (digits_value 10 decimals * unit) (10 ^ length decimals) → r ≤ unit → u * 1_000_000 + r ≤ most → Ok (u * 1_000_000 + r) ≡ number_read (Some (millionths_of whole decimals))
+pub size_ok : (whole decimals : List ℕ) (u r : ℕ) → u ≡ min (digits_value 10 whole) 10_000_000_000_001
+    → r ≡ nearest (digits_value 10 decimals * unit) (10 ^ length decimals) → r ≤ unit → u * 1_000_000 + r ≤ most
+    → Ok (u * 1_000_000 + r) ≡ number_read (Some (millionths_of whole decimals))
 size_ok whole decimals u r eu er small bound = read_ok (digits_value 10 whole) r u _ eu small (size_is whole decimals r er) bound
 
-pub size_too_great : (whole decimals : List ℕ) (u r : ℕ) → u ≡ min (digits_value 10 whole) 10_000_000_000_001 → r ≡ nearest (digits_value 10 decimals * unit) (10 ^ length decimals) → r ≤ unit → most < u * 1_000_000 + r → Err TooGreat ≡ number_read (Some (millionths_of whole decimals))
+pub size_too_great : (whole decimals : List ℕ) (u r : ℕ) → u ≡ min (digits_value 10 whole) 10_000_000_000_001
+    → r ≡ nearest (digits_value 10 decimals * unit) (10 ^ length decimals) → r ≤ unit → most < u * 1_000_000 + r
+    → Err TooGreat ≡ number_read (Some (millionths_of whole decimals))
 size_too_great whole decimals u r eu er small bound = read_too_great (digits_value 10 whole) r u _ eu small (size_is whole decimals r er) bound
 
 -- ---- the parts of a number's text
 
 pub no_whole : (text whole : List ℕ) → whole ≡ before_point text → false ≡ is_digits whole → Err NotAnAmount ≡ number_read (number_value text)
 unfolding number_value
-no_whole text whole eb bad = rw (← eb) (elim (behind_point text) as (λ o. Err NotAnAmount ≡ number_read (parts_value whole o)) [ None ↦ rw (← bad) refl | Some ds ↦ rw (← bad) refl ])
+no_whole text whole eb bad = rw (← eb) (elim (behind_point text) as (λ o. Err NotAnAmount ≡ number_read (parts_value whole o))
+    [ None ↦ rw (← bad) refl | Some ds ↦ rw (← bad) refl ])
 
-pub whole_alone : (text whole : List ℕ) (r : Result ℕ AmountFault) → whole ≡ before_point text → None ≡ behind_point text → true ≡ is_digits whole → r ≡ number_read (Some (millionths_of whole [])) → r ≡ number_read (number_value text)
+pub whole_alone : (text whole : List ℕ) (r : Result ℕ AmountFault) → whole ≡ before_point text → None ≡ behind_point text → true ≡ is_digits whole
+    → r ≡ number_read (Some (millionths_of whole [])) → r ≡ number_read (number_value text)
 unfolding number_value
 whole_alone text whole r eb eh good e = rw (← eb, ← eh, ← good) e
 
-pub no_decimals : (text whole decimals : List ℕ) → whole ≡ before_point text → Some decimals ≡ behind_point text → true ≡ is_digits whole → false ≡ is_digits decimals → Err NotAnAmount ≡ number_read (number_value text)
+pub no_decimals : (text whole decimals : List ℕ) → whole ≡ before_point text → Some decimals ≡ behind_point text → true ≡ is_digits whole
+    → false ≡ is_digits decimals → Err NotAnAmount ≡ number_read (number_value text)
 unfolding number_value
 no_decimals text whole decimals eb eh good bad = rw (← eb, ← eh, ← good, ← bad) refl
 
-pub whole_and_decimals : (text whole decimals : List ℕ) (r : Result ℕ AmountFault) → whole ≡ before_point text → Some decimals ≡ behind_point text → true ≡ is_digits whole → true ≡ is_digits decimals → r ≡ number_read (Some (millionths_of whole decimals)) → r ≡ number_read (number_value text)
+pub whole_and_decimals : (text whole decimals : List ℕ) (r : Result ℕ AmountFault) → whole ≡ before_point text → Some decimals ≡ behind_point text
+    → true ≡ is_digits whole → true ≡ is_digits decimals → r ≡ number_read (Some (millionths_of whole decimals)) → r ≡ number_read (number_value text)
 unfolding number_value
 whole_and_decimals text whole decimals r eb eh good too e = rw (← eb, ← eh, ← good, ← too) e
 
@@ -111,15 +124,18 @@ err_with_sign : (b : Bool) (o : Option ℕ) (f : AmountFault) → number_read o 
 err_with_sign b None f e = let same : NotAnAmount ≡ f = cc in rw same refl
 err_with_sign b (Some m) f e = rw (size_of_signed b m) (err_if_fits b (nat_le m most) m f e)
 
-with_parts : (text number : List ℕ) (b : Bool) → b ≡ starts_with_minus text → number ≡ without_minus text → amount_read (option_map (signed b) (number_value number)) ≡ amount_read (text_value text)
+with_parts : (text number : List ℕ) (b : Bool) → b ≡ starts_with_minus text → number ≡ without_minus text
+    → amount_read (option_map (signed b) (number_value number)) ≡ amount_read (text_value text)
 unfolding text_value
 with_parts text number b eb en =
     ap (λ p. amount_read (option_map (signed p) (number_value number))) eb
     ∙ ap (λ t. amount_read (option_map (signed (starts_with_minus text)) (number_value t))) en
 
-pub ok_is_read : (text number : List ℕ) (b : Bool) (n : ℕ) (z : ℤ) → b ≡ starts_with_minus text → number ≡ without_minus text → Ok n ≡ number_read (number_value number) → z ≡ signed b n → Ok z ≡ amount_read (text_value text)
+pub ok_is_read : (text number : List ℕ) (b : Bool) (n : ℕ) (z : ℤ) → b ≡ starts_with_minus text → number ≡ without_minus text
+    → Ok n ≡ number_read (number_value number) → z ≡ signed b n → Ok z ≡ amount_read (text_value text)
 ok_is_read text number b n z eb en e ez =
     ap (λ x. Ok x) ez ∙ ok_with_sign b (number_value number) n (sym e) ∙ with_parts text number b eb en
 
-pub err_is_read : (text number : List ℕ) (b : Bool) (f : AmountFault) → b ≡ starts_with_minus text → number ≡ without_minus text → Err f ≡ number_read (number_value number) → Err f ≡ amount_read (text_value text)
+pub err_is_read : (text number : List ℕ) (b : Bool) (f : AmountFault) → b ≡ starts_with_minus text → number ≡ without_minus text
+    → Err f ≡ number_read (number_value number) → Err f ≡ amount_read (text_value text)
 err_is_read text number b f eb en e = err_with_sign b (number_value number) f (sym e) ∙ with_parts text number b eb en

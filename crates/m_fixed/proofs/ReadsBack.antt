@@ -1,5 +1,6 @@
 -- The printed form of an amount spells that amount.
-use Rattle.std.proofs.Common.{Ok, unsigned_abs, ◌≡◌, ◌≢◌, ℕ, zero, suc, ◌+◌, ◌-◌, ◌*◌, ◌/◌, ◌%◌, ◌^◌, ◌<◌, ◌≤◌, List, [], ◌∷◌, length, Bool, true, false, if◌then◌else◌, Some, ℤ, pos, negsuc, refl, sym, ap, ◌∙◌, arith, add-zero, ⊎_elim}
+use Rattle.std.proofs.Common.{Ok, unsigned_abs, ◌≡◌, ◌≢◌, ℕ, zero, suc, ◌+◌, ◌-◌, ◌*◌, ◌/◌, ◌%◌, ◌^◌, ◌<◌, ◌≤◌, List, [], ◌∷◌, length, Bool, true, false}
+use Rattle.std.proofs.Common.{if◌then◌else◌, Some, ℤ, pos, negsuc, refl, sym, ap, ◌∙◌, arith, add-zero, ⊎_elim}
 use Rattle.std.proofs.Math.Nat.{pow-suc}
 use Rattle.std.proofs.lemmas.Bool.{ne_eqb, eqb-true, eqb-false, cases_Bool, lt-leb, le-leb}
 use Rattle.std.proofs.lemmas.List.{append-nil}
@@ -57,7 +58,8 @@ decimals_digits (suc places) fraction h =
     let digit : fraction / 10 ^ places < 10 = div_below fraction (10 ^ places) 10 (pow_ten places) (omega (arith, pow-suc 10 places)) in
     elim (fraction == 0) as (λ b. IsTrue (only_digits (if b then [] else (48 + fraction / 10 ^ places) ∷ decimals_of places (fraction % 10 ^ places)))) [
       | true ↦ refl
-      | false ↦ and_true _ _ (digit_test (48 + fraction / 10 ^ places) (omega arith, omega arith)) (decimals_digits places (fraction % 10 ^ places) (mod_below fraction (10 ^ places) (pow_ten places)))
+      | false ↦ and_true _ _ (digit_test (48 + fraction / 10 ^ places) (omega arith, omega arith))
+          (decimals_digits places (fraction % 10 ^ places) (mod_below fraction (10 ^ places) (pow_ten places)))
     ]
 
 decimals_some : (places fraction : ℕ) → fraction ≢ 0 → fraction < 10 ^ places → 0 < length (decimals_of places fraction)
@@ -72,7 +74,10 @@ worth_right q r l p = omega arith
 worth_step : (f q r v p l m k a : ℕ) → f ≡ q * p + r → v * p ≡ r * l → m ≡ p * 10 → k ≡ l * 10 → a ≡ q * l + v → a * m ≡ f * k
 worth_step f q r v p l m k a ef ev em ek ea = rw (ea, em, ek, ef) (omega (arith, worth_left q v l p, worth_right q r l p, ev))
 
-worth_from : (places fraction : ℕ) → fraction < 10 ^ suc places → fraction ≢ 0 → digits_value 10 (decimals_of places (fraction % 10 ^ places)) * 10 ^ places ≡ fraction % 10 ^ places * 10 ^ length (decimals_of places (fraction % 10 ^ places)) → digits_value 10 (decimals_of (suc places) fraction) * 10 ^ suc places ≡ fraction * 10 ^ length (decimals_of (suc places) fraction)
+worth_from : (places fraction : ℕ) → fraction < 10 ^ suc places → fraction ≢ 0
+    → digits_value 10 (decimals_of places (fraction % 10 ^ places)) * 10 ^ places ≡ fraction % 10 ^ places * 10 ^ length
+    (decimals_of places (fraction % 10 ^ places)) → digits_value 10 (decimals_of (suc places) fraction) * 10 ^ suc places ≡ fraction * 10 ^ length
+    (decimals_of (suc places) fraction)
 worth_from places fraction h some rest =
     let before : suc places - 1 ≡ places = omega arith in
     let digit : fraction / 10 ^ places < 10 = div_below fraction (10 ^ places) 10 (pow_ten places) (omega (arith, pow-suc 10 places)) in
@@ -82,11 +87,13 @@ worth_from places fraction h some rest =
     (sym (div-add-mod' fraction (10 ^ places))) rest (pow-suc 10 places) (pow-suc 10 (length left))
     (digits_cons (48 + fraction / 10 ^ places) left ∙ ap (λ d. d * 10 ^ length left + digits_value 10 left) (digit_of (fraction / 10 ^ places) digit)))
 
-decimals_worth : (places fraction : ℕ) → fraction < 10 ^ places → digits_value 10 (decimals_of places fraction) * 10 ^ places ≡ fraction * 10 ^ length (decimals_of places fraction)
+decimals_worth : (places fraction : ℕ) → fraction < 10 ^ places → digits_value 10 (decimals_of places fraction) * 10 ^ places ≡ fraction * 10 ^ length
+    (decimals_of places fraction)
 decimals_worth zero fraction h = let none : fraction ≡ 0 = omega arith in rw none (rw (decimals_none 0 0 refl) refl)
 decimals_worth (suc places) fraction h = ⊎_elim
     (λ (none : (fraction == 0) ≡ true). let e = eqb-true fraction 0 none in rw (e, decimals_none (suc places) 0 refl) (omega arith))
-    (λ (some : (fraction == 0) ≡ false). worth_from places fraction h (eqb-false fraction 0 some) (decimals_worth places (fraction % 10 ^ places) (mod_below fraction (10 ^ places) (pow_ten places))))
+    (λ (some : (fraction == 0) ≡ false). worth_from places fraction h (eqb-false fraction 0 some)
+    (decimals_worth places (fraction % 10 ^ places) (mod_below fraction (10 ^ places) (pow_ten places))))
     (cases_Bool (fraction == 0))
 
 -- ---- a size
@@ -107,8 +114,10 @@ spells_decimals n small e =
     let decimals = decimals_of 6 (n % unit) in
     let units = digits_value-decimal own (n / unit) whole in
     let digits = digits_test decimals (decimals_digits 6 (n % unit) below) (decimals_some 6 (n % unit) e below) in
-    let worth : nearest (digits_value 10 decimals * unit) (10 ^ length decimals) ≡ n % unit = nearest_down (n % unit) (10 ^ length decimals) 0 _ (decimals_worth 6 (n % unit) below ∙ sym (add-zero _)) (pow_ten (length decimals)) in
-    let value : millionths_of (decimal (n / unit)) decimals ≡ n = millionths_split (decimal (n / unit)) decimals ∙ omega (arith, units, worth, div-add-mod' n unit) in
+    let worth : nearest (digits_value 10 decimals * unit) (10 ^ length decimals) ≡ n % unit = nearest_down (n % unit) (10 ^ length decimals) 0 _
+    (decimals_worth 6 (n % unit) below ∙ sym (add-zero _)) (pow_ten (length decimals)) in
+    let value : millionths_of (decimal (n / unit)) decimals ≡ n = millionths_split (decimal (n / unit)) decimals
+    ∙ omega (arith, units, worth, div-add-mod' n unit) in
     rw (ne_eqb (n % unit) 0 e, number_value-decimals (decimal (n / unit)) decimals (units_digits (n / unit) whole) digits, value) refl
 
 spells_size : (n : ℕ) → n ≤ most → number_value (size_text n) ≡ Some n

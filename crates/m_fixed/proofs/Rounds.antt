@@ -28,7 +28,8 @@ nearest_down q d r n e below = div-eq_of_lt-le {k = q} (2 * d) (omega (arith, tw
 guessed_right : (n d q : ℕ) → q * d ≤ n → n < q * d + d → n / d ≡ q
 guessed_right n d q low high = div-eq_of_lt-le {k = q} d low (omega (arith, one_more q d))
 
-pub quotient_guessed : (size by q : ℕ) → (2 * q) * by ≤ size * 2_000_000 + by → size * 2_000_000 + by < (2 * q) * by + 2 * by → (if by == 0 then 0 else nearest (size * unit) by) ≡ q
+pub quotient_guessed : (size by q : ℕ) → (2 * q) * by ≤ size * 2_000_000 + by → size * 2_000_000 + by < (2 * q) * by + 2 * by
+    → (if by == 0 then 0 else nearest (size * unit) by) ≡ q
 quotient_guessed size by q low high =
     rw (ne_eqb by 0 (λ e. absurd (omega arith))) (guessed_right (2 * (size * unit) + by) (2 * by) q (omega arith) (omega arith))
 
@@ -51,13 +52,18 @@ pub more_read : (ds : List ℕ) (i n d : ℕ) → IsTrue (only_digits ds) → Ar
 more_read ds i n d h r e small =
     rw add-one record {
       small = omega (arith, pow-suc 10 i, r.small);
-      value = decimals_more _ n _ (10 ^ i) _ _ _ d (pow-suc 10 i) r.value (decimals_step ds i h ∙ ap (λ x. x * 10 ^ length ds + digits_value 10 (drop (suc i) ds) * 10 ^ suc i) (sym e));
+      value = decimals_more _ n _ (10 ^ i) _ _ _ d (pow-suc 10 i) r.value (decimals_step ds i h
+          ∙ ap (λ x. x * 10 ^ length ds + digits_value 10 (drop (suc i) ds) * 10 ^ suc i) (sym e));
     }
 
-pub read_up : (ds : List ℕ) (i n d : ℕ) → IsTrue (only_digits ds) → AreRead ds i n → d ≡ get_or ds i 48 - 48 → 5 ≤ d → nearest (digits_value 10 ds * 10 ^ i) (10 ^ length ds) ≡ n + 1
+pub read_up : (ds : List ℕ) (i n d : ℕ) → IsTrue (only_digits ds) → AreRead ds i n → d ≡ get_or ds i 48 - 48 → 5 ≤ d
+    → nearest (digits_value 10 ds * 10 ^ i) (10 ^ length ds) ≡ n + 1
 read_up ds i n d h r e up =
-    nearest_up n (10 ^ length ds) _ _ r.value (rest_below ds i h) (half_up (10 ^ length ds) (10 ^ i) _ _ (digits_value 10 (drop (suc i) ds)) (get_or ds i 48 - 48) (pow-suc 10 i) (decimals_step ds i h) (omega arith))
+    nearest_up n (10 ^ length ds) _ _ r.value (rest_below ds i h) (half_up (10 ^ length ds) (10 ^ i) _ _ (digits_value 10 (drop (suc i) ds))
+    (get_or ds i 48 - 48) (pow-suc 10 i) (decimals_step ds i h) (omega arith))
 
-pub read_down : (ds : List ℕ) (i n d : ℕ) → IsTrue (only_digits ds) → AreRead ds i n → d ≡ get_or ds i 48 - 48 → d < 5 → nearest (digits_value 10 ds * 10 ^ i) (10 ^ length ds) ≡ n
+pub read_down : (ds : List ℕ) (i n d : ℕ) → IsTrue (only_digits ds) → AreRead ds i n → d ≡ get_or ds i 48 - 48 → d < 5
+    → nearest (digits_value 10 ds * 10 ^ i) (10 ^ length ds) ≡ n
 read_down ds i n d h r e down =
-    nearest_down n (10 ^ length ds) _ _ r.value (half_down (10 ^ length ds) (10 ^ i) _ _ (digits_value 10 (drop (suc i) ds)) (get_or ds i 48 - 48) (pow-suc 10 i) (decimals_step ds i h) (rest_below ds (suc i) h) (omega arith))
+    nearest_down n (10 ^ length ds) _ _ r.value (half_down (10 ^ length ds) (10 ^ i) _ _ (digits_value 10 (drop (suc i) ds)) (get_or ds i 48 - 48)
+    (pow-suc 10 i) (decimals_step ds i h) (rest_below ds (suc i) h) (omega arith))

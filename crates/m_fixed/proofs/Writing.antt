@@ -1,5 +1,6 @@
 -- Texts written into a room, one after another.
-use Rattle.std.proofs.Common.{◌≡◌, ℕ, zero, suc, ◌+◌, ◌-◌, ◌/◌, ◌%◌, ◌^◌, ◌<◌, ◌≤◌, List, [], ◌∷◌, ◌++◌, length, take, drop, set, arith, refl, sym, ap, ◌∙◌, append_assoc, length-append, add-zero, ⊎_elim, true, false, if◌then◌else◌, ℤ, unsigned_abs}
+use Rattle.std.proofs.Common.{◌≡◌, ℕ, zero, suc, ◌+◌, ◌-◌, ◌/◌, ◌%◌, ◌^◌, ◌<◌, ◌≤◌, List, [], ◌∷◌, ◌++◌, length, take, drop, set, arith, refl, sym, ap, ◌∙◌}
+use Rattle.std.proofs.Common.{append_assoc, length-append, add-zero, ⊎_elim, true, false, if◌then◌else◌, ℤ, unsigned_abs}
 use Rattle.std.proofs.Math.Nat.{pow-suc, mul-div_left}
 use Rattle.std.specs.Prelude.{decimal, ◌==◌}
 use Rattle.std.proofs.lemmas.Fmt.{decimal_digit, decimal_step, length-decimal-le}
@@ -20,7 +21,8 @@ later xs ys i j h e =
     ap (λ k. drop k xs) (sym split) ∙ sym (drop-drop (j - i) i xs) ∙ ap (drop (j - i)) e ∙ drop-drop (j - i) i ys ∙ ap (λ k. drop k ys) split
 
 -- one byte before what was written
-pub writes_before : (room next : List ℕ) (at end : ℕ) (b : ℕ) (text : List ℕ) → at < length room → Writes (set room at b) next (at + 1) text end → Writes room next at (b ∷ text) end
+pub writes_before : (room next : List ℕ) (at end : ℕ) (b : ℕ) (text : List ℕ) → at < length room → Writes (set room at b) next (at + 1) text end
+    → Writes room next at (b ∷ text) end
 writes_before room next at end b text below w = record {
   length = omega (arith, w.length);
   front = w.front ∙ ap (λ xs. xs ++ text) (take_more_set room at b below) ∙ append_assoc (take at room) (b ∷ []) text;
@@ -28,7 +30,8 @@ writes_before room next at end b text below w = record {
 }
 
 -- one byte after it
-pub writes_behind : (room next : List ℕ) (at end : ℕ) (b : ℕ) (text : List ℕ) → end < length next → Writes room next at text end → Writes room (set next end b) at (text ++ b ∷ []) (end + 1)
+pub writes_behind : (room next : List ℕ) (at end : ℕ) (b : ℕ) (text : List ℕ) → end < length next → Writes room next at text end
+    → Writes room (set next end b) at (text ++ b ∷ []) (end + 1)
 writes_behind room next at end b text below w = record {
   length = omega (arith, w.length, length-append text (b ∷ []));
   front = take_more_set next end b below ∙ ap (λ xs. xs ++ b ∷ []) w.front ∙ append_assoc (take at room) text (b ∷ []);
@@ -36,7 +39,8 @@ writes_behind room next at end b text below w = record {
 }
 
 -- one text after another
-pub writes_both : (room next last : List ℕ) (at end to : ℕ) (s t : List ℕ) → Writes room next at s end → Writes next last end t to → Writes room last at (s ++ t) to
+pub writes_both : (room next last : List ℕ) (at end to : ℕ) (s t : List ℕ) → Writes room next at s end → Writes next last end t to
+    → Writes room last at (s ++ t) to
 writes_both room next last at end to s t v w = record {
   length = omega (arith, v.length, w.length, length-append s t);
   front = w.front ∙ ap (λ xs. xs ++ t) v.front ∙ append_assoc (take at room) s t;
@@ -54,7 +58,8 @@ unfolding decimals_of
 decimals_none zero fraction e = refl
 decimals_none (suc places) fraction e = rw e refl
 
-pub decimals_from : (places fraction : ℕ) → (fraction ≡ 0 → ⊥) → fraction < 10 ^ places → decimals_of places fraction ≡ (48 + fraction / 10 ^ (places - 1)) ∷ decimals_of (places - 1) (fraction % 10 ^ (places - 1))
+pub decimals_from : (places fraction : ℕ) → (fraction ≡ 0 → ⊥) → fraction < 10 ^ places
+    → decimals_of places fraction ≡ (48 + fraction / 10 ^ (places - 1)) ∷ decimals_of (places - 1) (fraction % 10 ^ (places - 1))
 unfolding decimals_of
 decimals_from zero fraction some below = absurd (some (omega arith))
 decimals_from (suc places) fraction some below =
@@ -77,10 +82,11 @@ part_some places parts fraction e some below = rw (parts_step places parts e (pl
 length_decimals : (places fraction : ℕ) → length (decimals_of places fraction) ≤ places
 unfolding decimals_of
 length_decimals zero fraction = omega arith
-length_decimals (suc places) fraction = elim (fraction == 0) as (λ b. length (if b then [] else (48 + fraction / 10 ^ places) ∷ decimals_of places (fraction % 10 ^ places)) ≤ suc places) [
-  | true ↦ omega arith
-  | false ↦ omega (arith, length_decimals places (fraction % 10 ^ places))
-]
+length_decimals (suc places) fraction = elim (fraction == 0) as
+    (λ b. length (if b then [] else (48 + fraction / 10 ^ places) ∷ decimals_of places (fraction % 10 ^ places)) ≤ suc places) [
+      | true ↦ omega arith
+      | false ↦ omega (arith, length_decimals places (fraction % 10 ^ places))
+    ]
 
 length_fraction : (fraction : ℕ) → length (fraction_text fraction) ≤ 7
 length_fraction fraction = elim (fraction == 0) as (λ b. length (if b then [] else 46 ∷ decimals_of 6 fraction) ≤ 7) [
@@ -115,11 +121,13 @@ size_short size h =
 -- ---- the sign
 
 -- the printed form after a minus, and without one
-pub writes_negative : (room next : List ℕ) (z : ℤ) (n end : ℕ) → 0 < length room → true ≡ is_negative z → n ≡ unsigned_abs z → Writes (set room 0 45) next 1 (size_text n) end → Writes room next 0 (printed z) end
+pub writes_negative : (room next : List ℕ) (z : ℤ) (n end : ℕ) → 0 < length room → true ≡ is_negative z → n ≡ unsigned_abs z
+    → Writes (set room 0 45) next 1 (size_text n) end → Writes room next 0 (printed z) end
 unfolding printed
 writes_negative room next z n end some below e w = rw (← below, ← e) (writes_before room next 0 end 45 (size_text n) some w)
 
-pub writes_other : (room next : List ℕ) (z : ℤ) (n end : ℕ) → false ≡ is_negative z → n ≡ unsigned_abs z → Writes room next 0 (size_text n) end → Writes room next 0 (printed z) end
+pub writes_other : (room next : List ℕ) (z : ℤ) (n end : ℕ) → false ≡ is_negative z → n ≡ unsigned_abs z → Writes room next 0 (size_text n) end
+    → Writes room next 0 (printed z) end
 unfolding printed
 writes_other room next z n end other e w = rw (← other, ← e) w
 

@@ -1,5 +1,6 @@
 -- What the laws say of the answers of the public calls.
-use Rattle.std.proofs.Common.{◌≡◌, ◌<◌, ◌≤◌, ◌-◌, ℕ, Bool, true, false, List, [], ◌∷◌, length, drop, Option, Some, None, Result, Ok, Err, refl, sym, ap, ◌∙◌, subst, arith}
+use Rattle.std.proofs.Common.{◌≡◌, ◌<◌, ◌≤◌, ◌-◌, ℕ, Bool, true, false, List, [], ◌∷◌, length, drop, Option, Some, None, Result, Ok, Err, refl, sym, ap, ◌∙◌}
+use Rattle.std.proofs.Common.{subst, arith}
 use Rattle.std.specs.Result.{IsErrAnd}
 use Rattle.m_places.specs.Refusals.{Outcome}
 use Rattle.m_lexer.specs.declared.token.Token.{Token}
@@ -16,8 +17,10 @@ use Rattle.m_terms.proofs.Passes.{Behind, behind_drop, behind_shorter}
 use Rattle.m_lexer.proofs.ChainComplete.{open_complete}
 use Rattle.m_items.specs.declared.item_fault.ItemFault.{ItemFault}
 use Rattle.m_items.specs.declared.item_fault.ItemFault.TheVariants.{NoItem, Memory}
-use Rattle.m_items.specs.DeclarationGrammar.{input, computed, constant, error, SpellsApplications, SpellsDeclaration, a_variable, an_error, an_application, a_chaining}
-use Rattle.m_items.specs.Standing.{DeclarationAt, NoDeclaration, ApplicationsStand, NoApplications, EndsApplications, BeginsDeclaration, by_name, by_application, by_chaining}
+use Rattle.m_items.specs.DeclarationGrammar.{input, computed, constant, error, SpellsApplications, SpellsDeclaration, a_variable, an_error, an_application}
+use Rattle.m_items.specs.DeclarationGrammar.{a_chaining}
+use Rattle.m_items.specs.Standing.{DeclarationAt, NoDeclaration, ApplicationsStand, NoApplications, EndsApplications, BeginsDeclaration, by_name}
+use Rattle.m_items.specs.Standing.{by_application, by_chaining}
 use Rattle.m_items.specs.inner.DeclarationReading.{Fails, sign_at, applications_at, declaration_at}
 use Rattle.m_items.proofs.DeclarationSoundLaws.{applications_sound, declaration_sound}
 use Rattle.m_items.proofs.DeclarationPassLaws.{applications_passes, declaration_passes}
@@ -25,7 +28,8 @@ use Rattle.m_items.proofs.DeclarationCompleteLaws.{applications_complete, declar
 use Rattle.m_items.proofs.FirstTokens.{key_begins}
 
 -- a fault of the inner reader, handed on
-pub failed : {A B : Type 0} {p : Option A} (good : B → Type 0) {bad : Type 0} (result : Result B ItemFault) (e : ItemFault) → IsErrAnd result (λ x. x ≡ e) → (p ≡ None → bad) → Fails e p → Outcome Memory result good (λ fault. bad)
+pub failed : {A B : Type 0} {p : Option A} (good : B → Type 0) {bad : Type 0} (result : Result B ItemFault) (e : ItemFault) → IsErrAnd result (λ x. x ≡ e)
+    → (p ≡ None → bad) → Fails e p → Outcome Memory result good (λ fault. bad)
 failed good (Ok x) e h k f = absurd h
 failed good (Err x) NoItem h k f = λ other. k f
 failed good (Err x) Memory h k f = λ other. absurd (other h)
@@ -49,7 +53,8 @@ left_of tokens rest b =
     record { some = omega arith; within = omega arith; left = behind_drop b (length tokens - length rest) (omega arith) }
 
 -- Declarations.
-pub declaration_found : (tokens : List Token) {i : Item} {rest : List Token} → declaration_at tokens ≡ Some (i, rest) → DeclarationAt tokens i (length tokens - length rest)
+pub declaration_found : (tokens : List Token) {i : Item} {rest : List Token} → declaration_at tokens ≡ Some (i, rest)
+    → DeclarationAt tokens i (length tokens - length rest)
 declaration_found tokens {i} {rest} e =
     let spelled : SpellsDeclaration i tokens rest = found (declaration_sound tokens) e in
     let l : Left tokens rest = left_of tokens rest (declaration_passes _ _ _ spelled) in
@@ -90,7 +95,8 @@ ends_at ts e = λ b. clash (comma_begins ts b) e
 begins_none : (ts : List Token) → sign_at Comma ts ≡ None → begins_by (is_sign Comma) ts ≡ false
 begins_none ts h = rw h refl
 
-pub applications_stand : (tokens : List Token) {names : List (List ℕ)} {rest : List Token} → applications_at tokens ≡ Some (names, rest) → begins_by (is_sign Comma) rest ≡ false → ApplicationsStand tokens names (length tokens - length rest)
+pub applications_stand : (tokens : List Token) {names : List (List ℕ)} {rest : List Token} → applications_at tokens ≡ Some (names, rest)
+    → begins_by (is_sign Comma) rest ≡ false → ApplicationsStand tokens names (length tokens - length rest)
 applications_stand tokens {names} {rest} e b =
     let spelled : SpellsApplications names tokens rest = found (applications_sound tokens) e in
     let l : Left tokens rest = left_of tokens rest (applications_passes _ _ _ spelled) in
@@ -104,11 +110,15 @@ applications_stand tokens {names} {rest} e b =
 pub no_applications : (tokens : List Token) → applications_at tokens ≡ None → NoApplications tokens
 no_applications tokens e = λ names rest d h. let f = applications_complete d (comma_none rest h) in absurd (cc)
 
-pub no_applications_end : (tokens : List Token) {names : List (List ℕ)} {rest : List Token} → applications_at tokens ≡ Some (names, rest) → begins_by (is_sign Comma) rest ≡ true → NoApplications tokens
+pub no_applications_end : (tokens : List Token) {names : List (List ℕ)} {rest : List Token} → applications_at tokens ≡ Some (names, rest)
+    → begins_by (is_sign Comma) rest ≡ true → NoApplications tokens
 no_applications_end tokens {names} {rest} e b = λ others left d h.
     let f : (names, rest) ≡ (others, left) = same (sym e ∙ applications_complete d (comma_none left h)) in
-    let g : begins_by (is_sign Comma) rest ≡ false = ap (λ (x : List (List ℕ) × List Token). begins_by (is_sign Comma) x.1) f ∙ begins_none left (comma_none left h) in
+    let g : begins_by (is_sign Comma) rest ≡ false = ap (λ (x : List (List ℕ) × List Token). begins_by (is_sign Comma) x.1) f
+    ∙ begins_none left (comma_none left h) in
     clash b g
 
-pub applications_one : (a b : List (List ℕ)) (ts r s : List Token) → SpellsApplications a ts r → EndsApplications r → SpellsApplications b ts s → EndsApplications s → (a ≡ b) × (r ≡ s)
-applications_one a b ts r s d g e h = let k : (a, r) ≡ (b, s) = same (sym (applications_complete d (comma_none r g)) ∙ applications_complete e (comma_none s h)) in ((λ j. (k j).0), (λ j. (k j).1))
+pub applications_one : (a b : List (List ℕ)) (ts r s : List Token) → SpellsApplications a ts r → EndsApplications r → SpellsApplications b ts s
+    → EndsApplications s → (a ≡ b) × (r ≡ s)
+applications_one a b ts r s d g e h = let k : (a, r) ≡ (b, s) = same (sym (applications_complete d (comma_none r g))
+    ∙ applications_complete e (comma_none s h)) in ((λ j. (k j).0), (λ j. (k j).1))

@@ -16,8 +16,13 @@ use Rattle.m_lexer.specs.inner.Chains.{open_at, ◌>>=◌}
 use Rattle.m_lexer.proofs.ChainSound.{Each, absent, here, bind_each, choose_each, each_from, open_each, Sound, chain_sound}
 use Rattle.m_terms.proofs.Sound.{joined_sound}
 use Rattle.m_items.specs.Tokens.{word, name, whole, amount, text, error_kind, key_place, SpellsSign, SpellsKey, SpellsKeyAt}
-use Rattle.m_items.specs.DeclarationGrammar.{attribute, attributes_of, SpellsAmount, positive, negative, SpellsNumber, without, with_one, SpellsAttributes, attributes, SpellsType, no_type, a_type, SpellsEnd, ending, SpellsSize, no_table, table, input, computed, constant, SpellsTexts, IsFourOrFive, error_item, error, SpellsApplications, applications, SpellsDeclaration, a_variable, an_error, an_application, a_chaining}
-use Rattle.m_items.specs.inner.DeclarationReading.{amount_at, number_at, lists_at, type_at, end_at, cells_at, size_at, input_at, computed_at, constant_at, is_four_or_five, list_at, error_at, named_at, applications_at, application_at, chaining_at, declared_at, declaration_at}
+use Rattle.m_items.specs.DeclarationGrammar.{attribute, attributes_of, SpellsAmount, positive, negative, SpellsNumber, without, with_one, SpellsAttributes}
+use Rattle.m_items.specs.DeclarationGrammar.{attributes, SpellsType, no_type, a_type, SpellsEnd, ending, SpellsSize, no_table, table, input, computed, constant}
+use Rattle.m_items.specs.DeclarationGrammar.{SpellsTexts, IsFourOrFive, error_item, error, SpellsApplications, applications, SpellsDeclaration, a_variable}
+use Rattle.m_items.specs.DeclarationGrammar.{an_error, an_application, a_chaining}
+use Rattle.m_items.specs.inner.DeclarationReading.{amount_at, number_at, lists_at, type_at, end_at, cells_at, size_at, input_at, computed_at, constant_at}
+use Rattle.m_items.specs.inner.DeclarationReading.{is_four_or_five, list_at, error_at, named_at, applications_at, application_at, chaining_at, declared_at}
+use Rattle.m_items.specs.inner.DeclarationReading.{declaration_at}
 
 -- Parts.
 amount_sound : Sound SpellsAmount amount_at
@@ -67,7 +72,8 @@ size_sound ts = choose_each (open_each (is_key keys.Tableau) ts) (here no_table)
 abbrev Declares : List Token → Item × List Token → Type 0
 Declares from o = SpellsDeclaration o.0 from o.1
 
-input_sound : {n : List ℕ × Place} {from a b ts : List Token} → First name n from a → SpellsSign signs.Colon a b → SpellsKey keys.Saisie b ts → Each (Declares from) (input_at n ts)
+input_sound : {n : List ℕ × Place} {from a b ts : List Token} → First name n from a → SpellsSign signs.Colon a b → SpellsKey keys.Saisie b ts
+    → Each (Declares from) (input_at n ts)
 unfolding input_at
 input_sound {ts = ts} d s k =
     bind_each (lists_sound ts) (λ l e.
@@ -83,7 +89,8 @@ computed_sound {ts = ts} d s =
     bind_each (lists_sound k.1) (λ l f.
     bind_each (end_sound l.1) (λ w g. here (a_variable (computed d s e j f g))))))
 
-constant_sound : {n : List ℕ × Place} {from a b ts : List Token} → First name n from a → SpellsSign signs.Colon a b → SpellsKey keys.Const b ts → Each (Declares from) (constant_at n ts)
+constant_sound : {n : List ℕ × Place} {from a b ts : List Token} → First name n from a → SpellsSign signs.Colon a b → SpellsKey keys.Const b ts
+    → Each (Declares from) (constant_at n ts)
 unfolding constant_at
 constant_sound {ts = ts} d s k =
     bind_each (open_each (is_sign signs.Equal) ts) (λ e f.
@@ -101,11 +108,14 @@ count_is m h = go (m == 4) (m == 5) refl refl h
 texts_sound : Sound SpellsTexts (list_at Texts)
 texts_sound = joined_sound (is_sign signs.Colon) (First text) (open_at text) (open_each text)
 
-counted : {n : List ℕ × Place} {k : ErrorKind} {from rest : List Token} (texts : List (List ℕ)) (o : Bool) → is_four_or_five (length texts) ≡ o → (IsFourOrFive (length texts) → SpellsDeclaration (items.Error (error_item n k texts)) from rest) → Each (Declares from) (cond o (Some (items.Error (error_item n k texts))) None >>= λ i. Some (i, rest))
+counted : {n : List ℕ × Place} {k : ErrorKind} {from rest : List Token} (texts : List (List ℕ)) (o : Bool) → is_four_or_five (length texts) ≡ o
+    → (IsFourOrFive (length texts) → SpellsDeclaration (items.Error (error_item n k texts)) from rest)
+    → Each (Declares from) (cond o (Some (items.Error (error_item n k texts))) None >>= λ i. Some (i, rest))
 counted texts true h p = here (p (count_is (length texts) h))
 counted texts false h p = absent
 
-error_sound : {n : List ℕ × Place} {k : ErrorKind} {from a b ts : List Token} → First name n from a → SpellsSign signs.Colon a b → First error_kind k b ts → Each (Declares from) (error_at n k ts)
+error_sound : {n : List ℕ × Place} {k : ErrorKind} {from a b ts : List Token} → First name n from a → SpellsSign signs.Colon a b → First error_kind k b ts
+    → Each (Declares from) (error_at n k ts)
 unfolding error_at
 error_sound {ts = ts} d s e =
     bind_each (open_each (is_sign signs.Colon) ts) (λ c f.

@@ -43,12 +43,17 @@ first_below (first {t = t} e) = follows_below t.kind _ e
 
 pub term_complete : {t : Syntax} {ts rest : List Token} → SpellsTerm t ts rest → BeginsBy follows rest → term_at ts ≡ Some (t, rest)
 unfolding term_at
-term_complete {rest = rest} d b = rw (expr_complete (SpellsInner BRACKET_DEPTH) (inner_passes BRACKET_DEPTH) (inner_at BRACKET_DEPTH) (inner_complete BRACKET_DEPTH) _ _ _ d (first_below b.1), begins_true follows rest b) refl
+term_complete {rest = rest} d b = rw (
+  expr_complete (SpellsInner BRACKET_DEPTH) (inner_passes BRACKET_DEPTH) (inner_at BRACKET_DEPTH)
+      (inner_complete BRACKET_DEPTH) _ _ _ d (first_below b.1),
+  begins_true follows rest b,
+) refl
 
 pub term_read : (ts : List Token) {t : Syntax} {to : ℕ} → TermAt ts 0 t to → term_at ts ≡ Some (t, drop to ts)
 term_read ts s = term_complete s.spelled s.closed
 
-term_stuck : (ts : List Token) (t : Syntax) (rest : List Token) → expr_at (inner_at BRACKET_DEPTH) ts ≡ Some (t, rest) → NoTermAt ts 0 → (b : Bool) → begins_by follows rest ≡ b → cond {A = Option (Syntax × List Token)} b (Some (t, rest)) None ≡ None
+term_stuck : (ts : List Token) (t : Syntax) (rest : List Token) → expr_at (inner_at BRACKET_DEPTH) ts ≡ Some (t, rest) → NoTermAt ts 0 → (b : Bool)
+    → begins_by follows rest ≡ b → cond {A = Option (Syntax × List Token)} b (Some (t, rest)) None ≡ None
 term_stuck ts t rest e none true f = absurd (none t _ (term_is_marked ts 0 (omega arith) e f))
 term_stuck ts t rest e none false f = refl
 
@@ -79,7 +84,8 @@ headed_complete {rest = rest} d b = rw (header_complete _ _ _ d (first_loose b.1
 pub header_read : (ts : List Token) {h : Header} {to : ℕ} → HeaderAt ts 0 h to → headed_at ts ≡ Some (h, drop to ts)
 header_read ts s = headed_complete s.spelled s.closed
 
-header_stuck : (ts : List Token) (h : Header) (rest : List Token) → header_at ts ≡ Some (h, rest) → NoHeaderAt ts 0 → (b : Bool) → begins_by (is_sign Colon) rest ≡ b → cond {A = Option (Header × List Token)} b (Some (h, rest)) None ≡ None
+header_stuck : (ts : List Token) (h : Header) (rest : List Token) → header_at ts ≡ Some (h, rest) → NoHeaderAt ts 0 → (b : Bool)
+    → begins_by (is_sign Colon) rest ≡ b → cond {A = Option (Header × List Token)} b (Some (h, rest)) None ≡ None
 header_stuck ts h rest e none true f = absurd (none h _ (header_found ts 0 (omega arith) e f))
 header_stuck ts h rest e none false f = refl
 

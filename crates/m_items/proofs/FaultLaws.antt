@@ -20,7 +20,8 @@ use Rattle.m_items.proofs.ListLaws.{items_read, items_longest, items_same}
 pub read_all : (ts : List Token) {items : List Item} {rest : List Token} → items_at ts ≡ (items, rest) → rest ≡ [] → SpellsItems items ts []
 read_all ts {items} {rest} e f = subst (λ r. SpellsItems items ts r) f (subst (λ (x : List Item × List Token). SpellsItems x.0 ts x.1) e (items_read ts))
 
-pub read_stops : (ts : List Token) {items : List Item} {rest others : List Token} {t : Token} → items_at ts ≡ (items, rest) → rest ≡ t ∷ others → StopsAt ts t.place
+pub read_stops : (ts : List Token) {items : List Item} {rest others : List Token} {t : Token} → items_at ts ≡ (items, rest) → rest ≡ t ∷ others
+    → StopsAt ts t.place
 read_stops ts {items} {rest} {others} {t} e f = record {
   items = items;
   token = t;
@@ -78,10 +79,12 @@ one_fault ts f Memory a b = absurd b
 pub list_or_fault : (ts : List Token) → (IsShallow ts × ((items : List Item) × SpellsItems items ts [])) ⊎ ((fault : ParseFault) × IsParseFault ts fault)
 list_or_fault ts = go (first_too_deep BRACKET_DEPTH 0 ts) refl
   where
-    ended : IsShallow ts → (rest : List Token) → (items_at ts).1 ≡ rest → (IsShallow ts × ((items : List Item) × SpellsItems items ts [])) ⊎ ((fault : ParseFault) × IsParseFault ts fault)
+    ended : IsShallow ts → (rest : List Token) → (items_at ts).1 ≡ rest
+        → (IsShallow ts × ((items : List Item) × SpellsItems items ts [])) ⊎ ((fault : ParseFault) × IsParseFault ts fault)
     ended h [] e = inl (h, ((items_at ts).0, read_all ts refl e))
     ended h (t ∷ others) e = inr (Syntax t.place, record { shallow = h; stops = read_stops ts refl e })
 
-    go : (o : Option Place) → first_too_deep BRACKET_DEPTH 0 ts ≡ o → (IsShallow ts × ((items : List Item) × SpellsItems items ts [])) ⊎ ((fault : ParseFault) × IsParseFault ts fault)
+    go : (o : Option Place) → first_too_deep BRACKET_DEPTH 0 ts ≡ o
+        → (IsShallow ts × ((items : List Item) × SpellsItems items ts [])) ⊎ ((fault : ParseFault) × IsParseFault ts fault)
     go None h = ended h (items_at ts).1 refl
     go (Some p) h = inr (TooDeep p, h)

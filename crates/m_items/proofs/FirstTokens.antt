@@ -15,14 +15,16 @@ use Rattle.m_lexer.specs.declared.token.Sign.{Sign as ASign}
 use Rattle.m_lexer.specs.Chains.{First, first}
 use Rattle.m_terms.specs.Tokens.{same_sign, same_key, kind_is_sign, kind_is_key}
 use Rattle.m_lexer.specs.inner.Chains.{open_at}
-use Rattle.m_items.specs.Tokens.{placed, place_where, word_of, name_of, amount_of, error_kind_of, word, name, amount, error_kind, key_place, SpellsSign, SpellsKey, SpellsKeyAt}
+use Rattle.m_items.specs.Tokens.{placed, place_where, word_of, name_of, amount_of, error_kind_of, word, name, amount, error_kind, key_place, SpellsSign}
+use Rattle.m_items.specs.Tokens.{SpellsKey, SpellsKeyAt}
 
 -- the first token is of this kind
 pub data BeginsWith (k : Kind) : List Token → Type 0 where
   begins_with : {t : Token} {ts : List Token} → t.kind ≡ k → BeginsWith k (t ∷ ts)
 
 -- so a table by kinds that says nothing of it opens nothing
-pub nothing_opened : {B : Type 0} (table : Kind → Option B) {k : Kind} {ts : List Token} → BeginsWith k ts → table k ≡ None → open_at (λ (t : Token). table t.kind) ts ≡ None
+pub nothing_opened : {B : Type 0} (table : Kind → Option B) {k : Kind} {ts : List Token} → BeginsWith k ts → table k ≡ None
+    → open_at (λ (t : Token). table t.kind) ts ≡ None
 nothing_opened table (begins_with e) h = rw (e, h) refl
 
 pub no_place_opened : (key : AKey) {k : Kind} {ts : List Token} → BeginsWith k ts → kind_is_key key k ≡ None → open_at (key_place key) ts ≡ None

@@ -25,11 +25,13 @@ use Rattle.m_items.specs.DeclarationGrammar.{SpellsDeclaration}
 use Rattle.m_items.specs.Standing.{BeginsDeclaration, by_name, by_application, by_chaining}
 use Rattle.m_items.specs.inner.DeclarationReading.{sign_at, key_at, named_at, declared_at, declaration_at}
 use Rattle.m_items.proofs.Answered.{declaration_begins}
-use Rattle.m_items.proofs.FirstTokens.{BeginsWith, begins_with, nothing_opened, no_place_opened, sign_first, key_first, key_place_first, key_begins, BeginsWithWord, a_word, name_first}
+use Rattle.m_items.proofs.FirstTokens.{BeginsWith, begins_with, nothing_opened, no_place_opened, sign_first, key_first, key_place_first, key_begins}
+use Rattle.m_items.proofs.FirstTokens.{BeginsWithWord, a_word, name_first}
 use Rattle.m_items.proofs.DeclarationSoundLaws.{declaration_sound}
 use Rattle.m_items.proofs.DeclarationCompleteLaws.{declaration_complete}
 use Rattle.m_items.proofs.DeclarationPassLaws.{declaration_passes}
-use Rattle.m_items.specs.RuleGrammar.{head, SpellsSlot, no_index, every_cell, one_cell, SpellsFormula, formula, SpellsRule, rule, SpellsCheck, check, SpellsVerification, verification}
+use Rattle.m_items.specs.RuleGrammar.{head, SpellsSlot, no_index, every_cell, one_cell, SpellsFormula, formula, SpellsRule, rule, SpellsCheck, check}
+use Rattle.m_items.specs.RuleGrammar.{SpellsVerification, verification}
 use Rattle.m_items.specs.inner.RuleReading.{rule_at, verification_at}
 use Rattle.m_items.proofs.RuleSoundLaws.{rule_sound, verification_sound}
 use Rattle.m_items.proofs.RulePassLaws.{rule_passes, verification_passes}
@@ -70,7 +72,8 @@ no_key_at_word : (k : AKey) {ts : List Token} → BeginsWithWord ts → key_at k
 no_key_at_word k (a_word b) = nothing_opened (kind_is_key k) b refl
 
 -- a declaration begins with a name, or with one of two reserved words
-not_declared : (k : AKey) (ts : List Token) → kind_is_key k (Key keys.Application) ≡ None → kind_is_key k (Key keys.Enchaineur) ≡ None → BeginsDeclaration ts → key_at k ts ≡ None
+not_declared : (k : AKey) (ts : List Token) → kind_is_key k (Key keys.Application) ≡ None → kind_is_key k (Key keys.Enchaineur) ≡ None → BeginsDeclaration ts
+    → key_at k ts ≡ None
 not_declared k ts h g (by_name d s) = no_key_at_word k (name_first d)
 not_declared k ts h g (by_application d) = nothing_opened (kind_is_key k) (key_first keys.Application d) h
 not_declared k ts h g (by_chaining d) = nothing_opened (kind_is_key k) (key_first keys.Enchaineur d) g
@@ -98,7 +101,8 @@ rule_at_front : {r : RuleItem} (ts : List Token) {rest : List Token} → SpellsR
 unfolding item_at
 rule_at_front ts d = rw (rule_begins ts d) refl
 
-verification_at_front : {v : VerifItem} (ts : List Token) {rest : List Token} → SpellsVerification v ts rest → item_at ts ≡ (verification_at ts >>= λ v. Some (Verif v.0, v.1))
+verification_at_front : {v : VerifItem} (ts : List Token) {rest : List Token} → SpellsVerification v ts rest
+    → item_at ts ≡ (verification_at ts >>= λ v. Some (Verif v.0, v.1))
 unfolding item_at
 verification_at_front ts d = rw (no_rule_verified ts d, verification_begins ts d) refl
 
@@ -111,12 +115,15 @@ no_item ts h g e = rw (not_begun keys.Regle ts h, not_begun keys.Verif ts g) e
 no_name : {k : AKey} {ts : List Token} → BeginsWith (Key k) ts → open_at name ts ≡ None
 no_name (begins_with e) = rw e refl
 
-not_declared_at_key : {k : AKey} {ts : List Token} → BeginsWith (Key k) ts → kind_is_key keys.Application (Key k) ≡ None → kind_is_key keys.Enchaineur (Key k) ≡ None → declaration_at ts ≡ None
+not_declared_at_key : {k : AKey} {ts : List Token} → BeginsWith (Key k) ts → kind_is_key keys.Application (Key k) ≡ None
+    → kind_is_key keys.Enchaineur (Key k) ≡ None → declaration_at ts ≡ None
 unfolding declaration_at declared_at
 not_declared_at_key b e f = rw (no_place_opened keys.Application b e, no_place_opened keys.Enchaineur b f, no_name b) refl
 
-no_item_at_key : (k : AKey) (ts : List Token) → BeginsWith (Key k) ts → kind_is_key keys.Regle (Key k) ≡ None → kind_is_key keys.Verif (Key k) ≡ None → kind_is_key keys.Application (Key k) ≡ None → kind_is_key keys.Enchaineur (Key k) ≡ None → item_at ts ≡ None
-no_item_at_key k ts b h g e f = no_item ts (nothing_opened (kind_is_key keys.Regle) b h) (nothing_opened (kind_is_key keys.Verif) b g) (not_declared_at_key b e f)
+no_item_at_key : (k : AKey) (ts : List Token) → BeginsWith (Key k) ts → kind_is_key keys.Regle (Key k) ≡ None → kind_is_key keys.Verif (Key k) ≡ None
+    → kind_is_key keys.Application (Key k) ≡ None → kind_is_key keys.Enchaineur (Key k) ≡ None → item_at ts ≡ None
+no_item_at_key k ts b h g e f = no_item ts (nothing_opened (kind_is_key keys.Regle) b h) (nothing_opened (kind_is_key keys.Verif) b g)
+    (not_declared_at_key b e f)
 
 no_colon : {s : Slot} {ts mid rest : List Token} → SpellsSlot s ts mid → SpellsSign signs.Equal mid rest → sign_at signs.Colon ts ≡ None
 no_colon no_index e = nothing_opened (kind_is_sign signs.Colon) (sign_first signs.Equal e) refl
@@ -128,7 +135,8 @@ not_declared_at_word : (t : Token) (ts : List Token) → BeginsWithWord (t ∷ t
 unfolding declaration_at declared_at
 not_declared_at_word t ts (a_word b) h = rw (no_place_opened keys.Application b refl, no_place_opened keys.Enchaineur b refl) (go (name t))
   where
-    go : (o : Option (List ℕ × Place)) → (choose {B = Option ((List ℕ × Place) × List Token)} o None (λ n. Some (n, ts)) >>= λ n. sign_at signs.Colon n.1 >>= λ c. named_at n.0 c.1) ≡ None
+    go : (o : Option (List ℕ × Place)) → (choose {B = Option ((List ℕ × Place) × List Token)} o None (λ n. Some (n, ts)) >>= λ n. sign_at signs.Colon n.1 >>=
+        λ c. named_at n.0 c.1) ≡ None
     go None = refl
     go (Some n) = rw h refl
 
@@ -137,7 +145,8 @@ no_item_at_word t ts b h = no_item (t ∷ ts) (no_key_at_word keys.Regle b) (no_
 
 formula_no_item : {f : Formula} {ts rest : List Token} → SpellsFormula f ts rest → item_at ts ≡ None
 formula_no_item (formula ended (first {t = t} {ts = ts} e) s q f g) = no_item_at_word t ts (placed_word_first (first {t = t} {ts = ts} e)) (no_colon s q)
-formula_no_item (formula (further {t = t} {b = b} {ts = ts} o l c) d s q f g) = no_item_at_key keys.Pour (t ∷ ts) (key_first keys.Pour (first {b = b} {t = t} {ts = ts} o)) refl refl refl refl
+formula_no_item (formula (further {t = t} {b = b} {ts = ts} o l c) d s q f g) = no_item_at_key keys.Pour (t ∷ ts)
+    (key_first keys.Pour (first {b = b} {t = t} {ts = ts} o)) refl refl refl refl
 
 check_no_item : {c : CheckItem} {ts rest : List Token} → SpellsCheck c ts rest → item_at ts ≡ None
 check_no_item {ts = ts} (check d e f g h w s) = no_item_at_key keys.Si ts (key_place_first keys.Si d) refl refl refl refl
@@ -147,11 +156,13 @@ pub data ItemRuns (i : Item) (ts r : List Token) : Type 0 where
   exact : item_at ts ≡ Some (i, r) → ItemRuns i ts r
   longer : (j : Item) (m : List Token) → item_at ts ≡ Some (j, m) → length m < length r → item_at r ≡ None → ItemRuns i ts r
 
-rule_item_runs : {x : RuleItem} (ts r : List Token) → item_at ts ≡ (rule_at ts >>= λ r. Some (Rule r.0, r.1)) → RunsOn SpellsFormula (rule_at ts) x r → ItemRuns (Rule x) ts r
+rule_item_runs : {x : RuleItem} (ts r : List Token) → item_at ts ≡ (rule_at ts >>= λ r. Some (Rule r.0, r.1)) → RunsOn SpellsFormula (rule_at ts) x r
+    → ItemRuns (Rule x) ts r
 rule_item_runs ts r h (just e) = exact (rw (h, e) refl)
 rule_item_runs ts r h (beyond y m z s e less d) = longer (Rule y) m (rw (h, e) refl) less (formula_no_item d)
 
-verification_item_runs : {x : VerifItem} (ts r : List Token) → item_at ts ≡ (verification_at ts >>= λ v. Some (Verif v.0, v.1)) → RunsOn SpellsCheck (verification_at ts) x r → ItemRuns (Verif x) ts r
+verification_item_runs : {x : VerifItem} (ts r : List Token) → item_at ts ≡ (verification_at ts >>= λ v. Some (Verif v.0, v.1))
+    → RunsOn SpellsCheck (verification_at ts) x r → ItemRuns (Verif x) ts r
 verification_item_runs ts r h (just e) = exact (rw (h, e) refl)
 verification_item_runs ts r h (beyond y m z s e less d) = longer (Verif y) m (rw (h, e) refl) less (check_no_item d)
 

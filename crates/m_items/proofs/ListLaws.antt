@@ -32,12 +32,15 @@ stuck {i} {ts} {r} d none = go (item_runs d)
     go (exact e) = absurd (cc)
     go (longer j m e less f) = absurd (cc)
 
-after : {whole : List Item × List Token} (done : List Item) {y : Item} {ys : List Item} {ts mid r : List Token} → ItemRuns y ts mid → SpellsItems ys mid r → Going item_at whole done ts → (Going item_at whole (done ++ y ∷ []) mid → ListRuns whole ((done ++ y ∷ []) ++ ys) r) → ListRuns whole (done ++ y ∷ ys) r
-after {whole} done {y} {ys} {r = r} (exact e) m g again = subst (λ l. ListRuns whole l r) (append_assoc done (y ∷ []) ys) (again (many_turn item_at g e (shorter _ e)))
+after : {whole : List Item × List Token} (done : List Item) {y : Item} {ys : List Item} {ts mid r : List Token} → ItemRuns y ts mid → SpellsItems ys mid r
+    → Going item_at whole done ts → (Going item_at whole (done ++ y ∷ []) mid → ListRuns whole ((done ++ y ∷ []) ++ ys) r) → ListRuns whole (done ++ y ∷ ys) r
+after {whole} done {y} {ys} {r = r} (exact e) m g again = subst (λ l. ListRuns whole l r) (append_assoc done (y ∷ []) ys)
+    (again (many_turn item_at g e (shorter _ e)))
 after done (longer j m e less none) no_more g again = past (let short = shrinks (many_turn item_at g e (shorter _ e)) in omega (arith, short, less))
 after done (longer j m e less none) (one_more f h) g again = absurd (stuck f none)
 
-list_runs : {whole : List Item × List Token} {ys : List Item} {ts r : List Token} → SpellsItems ys ts r → (done : List Item) → Going item_at whole done ts → ListRuns whole (done ++ ys) r
+list_runs : {whole : List Item × List Token} {ys : List Item} {ts r : List Token} → SpellsItems ys ts r → (done : List Item) → Going item_at whole done ts
+    → ListRuns whole (done ++ ys) r
 list_runs {whole} {ts = ts} no_more done g = along (subst (λ l. Going item_at whole l ts) (sym (append-nil done)) g)
 list_runs (one_more {x = y} d e) done g = after done (item_runs d) e g (λ q. list_runs e (done ++ y ∷ []) q)
 
@@ -58,7 +61,8 @@ items_longest ts ys r d = go (from_start d)
     go (along g) = shrinks g
     go (past h) = omega arith
 
-ends_there : {whole : List Item × List Token} {ys : List Item} {r : List Token} → Going item_at whole ys r → length whole.1 ≡ length r → (o : Option (Item × List Token)) → item_at r ≡ o → whole ≡ (ys, r)
+ends_there : {whole : List Item × List Token} {ys : List Item} {r : List Token} → Going item_at whole ys r → length whole.1 ≡ length r
+    → (o : Option (Item × List Token)) → item_at r ≡ o → whole ≡ (ys, r)
 ends_there g h None e = many_stop item_at g e
 ends_there g h (Some x) e = absurd (let less = shorter _ e in let short = shrinks (many_turn item_at g e less) in omega (arith, less, short, h))
 

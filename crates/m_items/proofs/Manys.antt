@@ -40,7 +40,8 @@ module _ {A : Type 0} (p : List Token → Option (A × List Token)) where
   unfolding one_or_more_at
   begun_start {x} {from} {ts} e = record { whole = many_at p (length ts) (x ∷ []) ts; all = rw e refl; going = many_start refl }
 
-  pub begun_turn : {x : A} {from ts rest : List Token} {done : List A} → Begun from done ts → p ts ≡ Some (x, rest) → length rest < length ts → Begun from (done ++ x ∷ []) rest
+  pub begun_turn : {x : A} {from ts rest : List Token} {done : List A} → Begun from done ts → p ts ≡ Some (x, rest) → length rest < length ts
+      → Begun from (done ++ x ∷ []) rest
   begun_turn b e shorter = record { whole = b.whole; all = b.all; going = many_turn b.going e shorter }
 
   pub begun_stop : {from ts : List Token} {done : List A} → Begun from done ts → p ts ≡ None → one_or_more_at p from ≡ Some (done, ts)

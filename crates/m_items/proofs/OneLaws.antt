@@ -9,7 +9,8 @@ use Rattle.m_items.specs.Many.{no_more, one_more}
 use Rattle.m_items.proofs.RuleOneLaws.{rule_one, verification_one}
 use Rattle.m_items.specs.Grammar.{SpellsItem, a_declaration, a_rule, a_verification, SpellsItems}
 use Rattle.m_items.specs.inner.Reading.{item_at}
-use Rattle.m_items.proofs.ItemLaws.{item_passes, ItemRuns, exact, longer, item_runs, rule_begins, verification_begins, no_rule_declared, no_verification_declared, no_rule_verified}
+use Rattle.m_items.proofs.ItemLaws.{item_passes, ItemRuns, exact, longer, item_runs, rule_begins, verification_begins, no_rule_declared}
+use Rattle.m_items.proofs.ItemLaws.{no_verification_declared, no_rule_verified}
 use Rattle.m_items.proofs.ListLaws.{stuck}
 
 same : {A : Type 0} {x y : A} → Some x ≡ Some y → x ≡ y
@@ -38,14 +39,16 @@ none_left : {xs : List Item} {ts r : List Token} → item_at ts ≡ None → Spe
 none_left none no_more = (refl, refl)
 none_left none (one_more d e) = absurd (stuck d none)
 
-too_short : (ts : List Token) {x y : Item} {a m b r : List Token} → item_at ts ≡ Some (x, a) → item_at ts ≡ Some (y, m) → length m < length b → length r ≤ length a → b ≡ r → ⊥
+too_short : (ts : List Token) {x y : Item} {a m b r : List Token} → item_at ts ≡ Some (x, a) → item_at ts ≡ Some (y, m) → length m < length b
+    → length r ≤ length a → b ≡ r → ⊥
 too_short ts {x} {y} {a} {m} e f less short at =
     let p : ◌≡◌ {A = Item × List Token} (x, a) (y, m) = same (sym e ∙ f) in
     let q : length a ≡ length m = ap (λ (z : Item × List Token). length z.1) p in
     let s = ap length at in
     omega (arith, less, short, q, s)
 
-pairs : {x y : Item} {xs ys : List Item} (ts : List Token) {a b r : List Token} → ItemRuns x ts a → ItemRuns y ts b → SpellsItem x ts a → SpellsItem y ts b → SpellsItems xs a r → SpellsItems ys b r → (SpellsItems ys a r → xs ≡ ys) → (x ∷ xs) ≡ (y ∷ ys)
+pairs : {x y : Item} {xs ys : List Item} (ts : List Token) {a b r : List Token} → ItemRuns x ts a → ItemRuns y ts b → SpellsItem x ts a → SpellsItem y ts b
+    → SpellsItems xs a r → SpellsItems ys b r → (SpellsItems ys a r → xs ≡ ys) → (x ∷ xs) ≡ (y ∷ ys)
 pairs {x} {y} {ys = ys} ts {a} {b} {r} (exact e) (exact f) d g m n again =
     let p : (x, a) ≡ (y, b) = same (sym e ∙ f) in
     let q = again (subst (λ t. SpellsItems ys t r) (λ i. (sym p i).1) n) in

@@ -23,7 +23,8 @@ use Rattle.m_items.proofs.FirstTokens.{BeginsWith, begins_with, nothing_opened, 
 use Rattle.m_items.proofs.DeclarationCompleteLaws.{applications_complete}
 use Rattle.m_terms.proofs.Passes.{shrinks_passing}
 use Rattle.m_items.specs.Many.{Many, no_more, one_more}
-use Rattle.m_items.specs.RuleGrammar.{SpellsHead, head, SpellsLoop, loop, SpellsLoops, SpellsSlot, no_index, every_cell, one_cell, SpellsFormula, formula, SpellsChaining, unchained, chained, SpellsCheck, check}
+use Rattle.m_items.specs.RuleGrammar.{SpellsHead, head, SpellsLoop, loop, SpellsLoops, SpellsSlot, no_index, every_cell, one_cell, SpellsFormula, formula}
+use Rattle.m_items.specs.RuleGrammar.{SpellsChaining, unchained, chained, SpellsCheck, check}
 use Rattle.m_items.specs.declared.head.Head.{Head}
 use Rattle.m_items.specs.inner.RuleReading.{behind_words, head_at, loop_at, loops_at, index_at, slot_at, set_at, formula_at, chaining_at, error_at, check_at}
 use Rattle.m_items.proofs.Words.{words_stop}
@@ -70,7 +71,15 @@ words_complete (one_more (first e) d) h = rw e (words_complete d h)
 pub head_complete : {k : AKey} {h : Head} {ts rest : List Token} → SpellsHead k h ts rest → head_at k ts ≡ Some (h, rest)
 unfolding head_at
 head_complete (head d w e s f g) =
-    rw (open_complete d, words_complete w (no_word_at_whole e), open_complete e, open_complete s, applications_complete f (nothing_opened (kind_is_sign signs.Comma) (sign_first signs.Semicolon g) refl), open_complete g) refl
+    rw (
+      open_complete d,
+      words_complete w (no_word_at_whole e),
+      open_complete e,
+      open_complete s,
+      applications_complete f
+          (nothing_opened (kind_is_sign signs.Comma) (sign_first signs.Semicolon g) refl),
+      open_complete g,
+    ) refl
 
 -- Formulas.
 loop_complete : {h : Header} {ts rest : List Token} → SpellsLoop h ts rest → loop_at ts ≡ Some (h, rest)
@@ -78,7 +87,9 @@ unfolding loop_at
 loop_complete (loop {rest = rest} d s) = rw (headed_complete d (rest, s), open_complete s) refl
 
 loops_complete : {hs : List Header} {ts rest : List Token} → SpellsLoops hs ts rest → BeginsWithWord rest → loops_at ts ≡ Some (hs, rest)
-loops_complete {ts = ts} c (a_word b) = chain_complete (is_key keys.Pour) (λ _ h. h) SpellsLoop (shrinks_passing SpellsLoop loop_passes) loop_at (λ _. Unit {0}) (λ ts. key_at keys.Pour ts ≡ None) (λ _ _ _ d h. loop_complete d) (λ _ _ _ _. tt) (λ _ _. tt) (λ _ h. h) (length ts) [] c (nothing_opened (kind_is_key keys.Pour) b refl) (omega arith)
+loops_complete {ts = ts} c (a_word b) = chain_complete (is_key keys.Pour) (λ _ h. h) SpellsLoop (shrinks_passing SpellsLoop loop_passes) loop_at (λ _. Unit {0})
+    (λ ts. key_at keys.Pour ts ≡ None) (λ _ _ _ d h. loop_complete d) (λ _ _ _ _. tt) (λ _ _. tt) (λ _ h. h) (length ts) [] c
+    (nothing_opened (kind_is_key keys.Pour) b refl) (omega arith)
 
 slot_complete : {s : Slot} {ts mid rest : List Token} → SpellsSlot s ts mid → SpellsSign signs.Equal mid rest → slot_at ts ≡ Some (s, mid)
 unfolding slot_at index_at
@@ -86,7 +97,8 @@ slot_complete no_index e = rw (nothing_opened (kind_is_sign signs.OpenBracket) (
 slot_complete (every_cell o k c) e = rw (open_complete o, open_complete k, open_complete c) refl
 slot_complete (one_cell o d c) e = rw (open_complete o, no_key_at_whole keys.X d, open_complete d, open_complete c) refl
 
-set_complete : {t : Syntax} {ts a b rest : List Token} → SpellsSign signs.Equal ts a → SpellsTerm t a b → SpellsSign signs.Semicolon b rest → set_at ts ≡ Some (t, rest)
+set_complete : {t : Syntax} {ts a b rest : List Token} → SpellsSign signs.Equal ts a → SpellsTerm t a b → SpellsSign signs.Semicolon b rest
+    → set_at ts ≡ Some (t, rest)
 unfolding set_at
 set_complete s d e = rw (open_complete s, term_complete d (begins_followed (sign_first signs.Semicolon e) refl), open_complete e) refl
 
@@ -111,7 +123,8 @@ no_key : (k : AKey) {ts : List Token} → FormulaBegins ts → kind_is_key k (Ke
 no_key k (with_pour b) h = nothing_opened (kind_is_key k) b h
 no_key k (with_word (a_word b)) h = nothing_opened (kind_is_key k) b refl
 
-pub chaining_complete : {c : Bool} {f : Formula} {ts mid rest : List Token} → SpellsChaining c ts mid → SpellsFormula f mid rest → chaining_at ts ≡ Some (c, mid)
+pub chaining_complete : {c : Bool} {f : Formula} {ts mid rest : List Token} → SpellsChaining c ts mid → SpellsFormula f mid rest
+    → chaining_at ts ≡ Some (c, mid)
 unfolding chaining_at
 chaining_complete unchained d = rw (no_key keys.Enchaineur (formula_begins d) refl) refl
 chaining_complete (chained k s e f) d = rw (open_complete k, open_complete s, open_complete e, open_complete f) refl
@@ -120,4 +133,13 @@ chaining_complete (chained k s e f) d = rw (open_complete k, open_complete s, op
 pub check_complete : {c : CheckItem} {ts rest : List Token} → SpellsCheck c ts rest → check_at ts ≡ Some (c, rest)
 unfolding check_at error_at
 check_complete (check d e k f g w s) =
-    rw (open_complete d, term_complete e (begins_followed (key_first keys.Alors k) refl), open_complete k, open_complete f, open_complete g, words_complete w (no_word_at_sign s), open_complete s) refl
+    rw (
+      open_complete d,
+      term_complete e (begins_followed (key_first keys.Alors k) refl),
+      open_complete k,
+      open_complete f,
+      open_complete g,
+      words_complete w
+          (no_word_at_sign s),
+      open_complete s,
+    ) refl

@@ -14,7 +14,8 @@ use Rattle.m_items.proofs.RuleCompleteLaws.{head_complete, formula_complete, cha
 same : {A : Type 0} {x y : A} → Some x ≡ Some y → x ≡ y
 same e = cc
 
-module _ {A : Type 0} (R : A → List Token → List Token → Type 0) (p : List Token → Option (A × List Token)) (passes : Passes R) (complete : (x : A) (ts rest : List Token) → R x ts rest → p ts ≡ Some (x, rest)) where
+module _ {A : Type 0} (R : A → List Token → List Token → Type 0) (p : List Token → Option (A × List Token)) (passes : Passes R)
+    (complete : (x : A) (ts rest : List Token) → R x ts rest → p ts ≡ Some (x, rest)) where
   shrinks : {xs : List A} {ts r : List Token} → Many R xs ts r → length r ≤ length ts
   shrinks no_more = omega arith
   shrinks (one_more d e) = omega (arith, behind_shorter (passes _ _ _ d), shrinks e)
@@ -38,7 +39,8 @@ pub rule_one : {x y : RuleItem} {ts r : List Token} → SpellsRule x ts r → Sp
 rule_one {r = r} (rule {h = h} {is_chained = c} {a = a} {b = b} d e f) (rule {h = g} {is_chained = k} {formulas = fs} {a = m} {b = n} u v w) =
     let p : (h, a) ≡ (g, m) = same (sym (head_complete d) ∙ head_complete u) in
     let q : (c, b) ≡ (k, n) = same (sym (chaining_before e f) ∙ (ap chaining_at (λ i. (p i).1) ∙ chaining_before v w)) in
-    let s = one_or_more_one SpellsFormula _ formula_passes (λ _ _ _ z. formula_complete z) f (subst (λ m. OneOrMore SpellsFormula fs m r) (λ i. (sym q i).1) w) in
+    let s = one_or_more_one SpellsFormula _ formula_passes (λ _ _ _ z. formula_complete z) f
+    (subst (λ m. OneOrMore SpellsFormula fs m r) (λ i. (sym q i).1) w) in
     λ i. rule_of ((p i).0) ((q i).0) (s i)
 
 pub verification_one : {x y : VerifItem} {ts r : List Token} → SpellsVerification x ts r → SpellsVerification y ts r → x ≡ y

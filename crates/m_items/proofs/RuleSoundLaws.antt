@@ -23,8 +23,11 @@ use Rattle.m_terms.proofs.TermLaws.{inner_sound, expr_sound}
 use Rattle.m_items.specs.Tokens.{word, placed_word, whole, key_place, SpellsSign, SpellsKey, SpellsKeyAt}
 use Rattle.m_items.proofs.DeclarationSoundLaws.{applications_sound}
 use Rattle.m_items.specs.Many.{Many, no_more, one_more, OneOrMore, one}
-use Rattle.m_items.specs.RuleGrammar.{formula_of, check_of, SpellsHead, head, SpellsLoop, loop, SpellsLoops, SpellsSlot, no_index, every_cell, one_cell, SpellsFormula, formula, SpellsChaining, unchained, chained, SpellsRule, rule, SpellsCheck, check, SpellsVerification, verification}
-use Rattle.m_items.specs.inner.RuleReading.{term_at, headed_at, behind_words, many_at, one_or_more_at, head_at, loop_at, loops_at, index_at, slot_at, set_at, formula_at, chaining_at, rule_at, error_at, check_at, verification_at}
+use Rattle.m_items.specs.RuleGrammar.{formula_of, check_of, SpellsHead, head, SpellsLoop, loop, SpellsLoops, SpellsSlot, no_index, every_cell, one_cell}
+use Rattle.m_items.specs.RuleGrammar.{SpellsFormula, formula, SpellsChaining, unchained, chained, SpellsRule, rule, SpellsCheck, check, SpellsVerification}
+use Rattle.m_items.specs.RuleGrammar.{verification}
+use Rattle.m_items.specs.inner.RuleReading.{term_at, headed_at, behind_words, many_at, one_or_more_at, head_at, loop_at, loops_at, index_at, slot_at, set_at}
+use Rattle.m_items.specs.inner.RuleReading.{formula_at, chaining_at, rule_at, error_at, check_at, verification_at}
 
 kept : {A : Type 0} {P : A → Type 0} (b : Bool) (x : A) → P x → Each P (cond b (Some x) None)
 kept true x p = here p
@@ -32,7 +35,8 @@ kept false x p = absent
 
 term_sound : Sound SpellsTerm term_at
 unfolding term_at
-term_sound ts = bind_each (expr_sound (SpellsInner BRACKET_DEPTH) (inner_at BRACKET_DEPTH) (inner_sound BRACKET_DEPTH) ts) (λ t d. kept (begins_by follows t.1) t d)
+term_sound ts = bind_each (expr_sound (SpellsInner BRACKET_DEPTH) (inner_at BRACKET_DEPTH) (inner_sound BRACKET_DEPTH) ts)
+    (λ t d. kept (begins_by follows t.1) t d)
 
 headed_sound : Sound SpellsHeader headed_at
 unfolding headed_at
@@ -66,7 +70,8 @@ module _ {A : Type 0} (R : A → List Token → List Token → Type 0) (p : List
   many_sound zero done ts = record { others = []; all = sym (append-nil done); many = no_more }
   many_sound (suc n) done ts = step (λ x. many_sound n (done ++ x.0 ∷ []) x.1) (sound ts)
     where
-      step : ((x : A × List Token) → ManyRead R (done ++ x.0 ∷ []) x.1 (many_at p n (done ++ x.0 ∷ []) x.1)) → {o : Option (A × List Token)} → Each (λ x. R x.0 ts x.1) o → ManyRead R done ts (choose o (done, ts) (λ x. many_at p n (done ++ x.0 ∷ []) x.1))
+      step : ((x : A × List Token) → ManyRead R (done ++ x.0 ∷ []) x.1 (many_at p n (done ++ x.0 ∷ []) x.1)) → {o : Option (A × List Token)}
+          → Each (λ x. R x.0 ts x.1) o → ManyRead R done ts (choose o (done, ts) (λ x. many_at p n (done ++ x.0 ∷ []) x.1))
       step again absent = record { others = []; all = sym (append-nil done); many = no_more }
       step again (here {x = x} d) =
           let q = again x in
@@ -97,9 +102,11 @@ loop_sound ts =
     bind_each (open_each (is_sign signs.Colon) h.1) (λ c s. here (loop d s)))
 
 loops_sound : Sound SpellsLoops loops_at
-loops_sound ts = each_from (chain_sound (is_key keys.Pour) (λ _ h. h) SpellsLoop loop_at loop_sound (length ts) [] ts) (λ hs c. subst (λ l. SpellsLoops l ts hs.1) (sym c.all) c.chain)
+loops_sound ts = each_from (chain_sound (is_key keys.Pour) (λ _ h. h) SpellsLoop loop_at loop_sound (length ts) [] ts)
+    (λ hs c. subst (λ l. SpellsLoops l ts hs.1) (sym c.all) c.chain)
 
-indexed : {from ts : List Token} → SpellsSign signs.OpenBracket from ts → Each (λ (s : Slot × List Token). (rest : List Token) → SpellsSign signs.CloseBracket s.1 rest → SpellsSlot s.0 from rest) (index_at ts)
+indexed : {from ts : List Token} → SpellsSign signs.OpenBracket from ts
+    → Each (λ (s : Slot × List Token). (rest : List Token) → SpellsSign signs.CloseBracket s.1 rest → SpellsSlot s.0 from rest) (index_at ts)
 unfolding index_at
 indexed {ts = ts} o =
     choose_each (open_each (is_key keys.X) ts)
@@ -132,7 +139,8 @@ formula_sound ts =
     bind_each (slot_sound w.1) (λ s f.
     bind_each (set_sound s.1) (λ t g. here (made d e f g)))))
   where
-    made : {hs : List Header} {w : List ℕ × Place} {s : Slot} {t : Syntax} {ts a b c rest : List Token} → SpellsLoops hs ts a → First placed_word w a b → SpellsSlot s b c → SpellsSet t c rest → SpellsFormula (formula_of hs w s t) ts rest
+    made : {hs : List Header} {w : List ℕ × Place} {s : Slot} {t : Syntax} {ts a b c rest : List Token} → SpellsLoops hs ts a → First placed_word w a b
+        → SpellsSlot s b c → SpellsSet t c rest → SpellsFormula (formula_of hs w s t) ts rest
     made d e f (a_set s g h) = formula d e f s g h
 
 -- Rules.
@@ -174,7 +182,8 @@ check_sound ts =
     bind_each (term_sound p.1) (λ t e.
     bind_each (error_sound t.1) (λ w f. here (made d e f))))
   where
-    made : {p : Place} {t : Syntax} {w : List ℕ} {ts a b rest : List Token} → SpellsKeyAt keys.Si p ts a → SpellsTerm t a b → SpellsError w b rest → SpellsCheck (check_of p t w) ts rest
+    made : {p : Place} {t : Syntax} {w : List ℕ} {ts a b rest : List Token} → SpellsKeyAt keys.Si p ts a → SpellsTerm t a b → SpellsError w b rest
+        → SpellsCheck (check_of p t w) ts rest
     made d e (an_error f g h i j) = check d e f g h i j
 
 pub verification_sound : Sound SpellsVerification verification_at

@@ -33,16 +33,20 @@ module _ {A : Type 0} (R : A → List Token → List Token → Type 0) (p : List
   many_shrinks (one_more d e) = omega (arith, behind_shorter (passes _ _ _ d), many_shrinks e)
 
   pub going_shrinks : {whole : List A × List Token} {done : List A} {ts : List Token} → Going p whole done ts → length whole.1 ≤ length ts
-  going_shrinks {done = done} {ts = ts} g = let q = many_shrinks (many_sound R p sound g.left done ts).many in let e = ap (λ (w : List A × List Token). length w.1) g.same in omega (arith, q, e)
+  going_shrinks {done = done} {ts = ts} g = let q = many_shrinks (many_sound R p sound g.left done ts).many in let e = ap
+      (λ (w : List A × List Token). length w.1) g.same in omega (arith, q, e)
 
   -- R has one reading, which p gives
   module _ (complete : (x : A) (ts rest : List Token) → R x ts rest → p ts ≡ Some (x, rest)) where
-    many_going : {whole : List A × List Token} {xs : List A} {ts r : List Token} → Many R xs ts r → (done : List A) → Going p whole done ts → Going p whole (done ++ xs) r
+    many_going : {whole : List A × List Token} {xs : List A} {ts r : List Token} → Many R xs ts r → (done : List A) → Going p whole done ts
+        → Going p whole (done ++ xs) r
     many_going {whole} {ts = ts} no_more done g = subst (λ l. Going p whole l ts) (sym (append-nil done)) g
     many_going {whole} {r = r} (one_more {x = x} {xs = xs} d e) done g =
-        subst (λ l. Going p whole l r) (append_assoc done (x ∷ []) xs) (many_going e (done ++ x ∷ []) (many_turn p g (complete _ _ _ d) (behind_shorter (passes _ _ _ d))))
+        subst (λ l. Going p whole l r) (append_assoc done (x ∷ []) xs)
+        (many_going e (done ++ x ∷ []) (many_turn p g (complete _ _ _ d) (behind_shorter (passes _ _ _ d))))
 
-    ends : {whole : List A × List Token} {xs : List A} (ts : List Token) {r : List Token} → one_or_more_at p ts ≡ Some whole → Going p whole xs r → (o : Option (A × List Token)) → p r ≡ o → RunsOn R (one_or_more_at p ts) xs r
+    ends : {whole : List A × List Token} {xs : List A} (ts : List Token) {r : List Token} → one_or_more_at p ts ≡ Some whole → Going p whole xs r
+        → (o : Option (A × List Token)) → p r ≡ o → RunsOn R (one_or_more_at p ts) xs r
     ends ts all g None e = just (all ∙ ap Some (many_stop p g e))
     ends {whole} ts {r} all g (Some z) e =
         let d : R z.0 r z.1 = found_at (sound r) e in
@@ -54,19 +58,23 @@ module _ {A : Type 0} (R : A → List Token → List Token → Type 0) (p : List
     one_or_more_runs {ts = ts} {r = r} (one {x = x} d e) = ends ts (rw (complete _ _ _ d) refl) (many_going e (x ∷ []) (many_start p refl)) (p r) refl
 
 -- Rules.
-rule_from : {h : Head} {c : Bool} {fs : List Formula} (ts a b : List Token) {r : List Token} → head_at keys.Regle ts ≡ Some (h, a) → chaining_at a ≡ Some (c, b) → RunsOn SpellsFormula (one_or_more_at formula_at b) fs r → RunsOn SpellsFormula (rule_at ts) (rule_of h c fs) r
+rule_from : {h : Head} {c : Bool} {fs : List Formula} (ts a b : List Token) {r : List Token} → head_at keys.Regle ts ≡ Some (h, a) → chaining_at a ≡ Some (c, b)
+    → RunsOn SpellsFormula (one_or_more_at formula_at b) fs r → RunsOn SpellsFormula (rule_at ts) (rule_of h c fs) r
 unfolding rule_at
 rule_from ts a b d e (just f) = just (rw (d, e, f) refl)
 rule_from {h = h} {c = c} ts a b d e (beyond y m z s f less g) = beyond (rule_of h c y) m z s (rw (d, e, f) refl) less g
 
 pub rule_runs : {x : RuleItem} {ts r : List Token} → SpellsRule x ts r → RunsOn SpellsFormula (rule_at ts) x r
-rule_runs (rule d e (one f g)) = rule_from _ _ _ (head_complete d) (chaining_complete e f) (one_or_more_runs SpellsFormula formula_at formula_sound formula_passes (λ _ _ _ k. formula_complete k) (one f g))
+rule_runs (rule d e (one f g)) = rule_from _ _ _ (head_complete d) (chaining_complete e f)
+    (one_or_more_runs SpellsFormula formula_at formula_sound formula_passes (λ _ _ _ k. formula_complete k) (one f g))
 
 -- Verifications.
-verification_from : {h : Head} {cs : List CheckItem} (ts a : List Token) {r : List Token} → head_at keys.Verif ts ≡ Some (h, a) → RunsOn SpellsCheck (one_or_more_at check_at a) cs r → RunsOn SpellsCheck (verification_at ts) (verification_of h cs) r
+verification_from : {h : Head} {cs : List CheckItem} (ts a : List Token) {r : List Token} → head_at keys.Verif ts ≡ Some (h, a)
+    → RunsOn SpellsCheck (one_or_more_at check_at a) cs r → RunsOn SpellsCheck (verification_at ts) (verification_of h cs) r
 unfolding verification_at
 verification_from ts a d (just f) = just (rw (d, f) refl)
 verification_from {h = h} ts a d (beyond y m z s f less g) = beyond (verification_of h y) m z s (rw (d, f) refl) less g
 
 pub verification_runs : {x : VerifItem} {ts r : List Token} → SpellsVerification x ts r → RunsOn SpellsCheck (verification_at ts) x r
-verification_runs (verification d e) = verification_from _ _ (head_complete d) (one_or_more_runs SpellsCheck check_at check_sound check_passes (λ _ _ _ k. check_complete k) e)
+verification_runs (verification d e) = verification_from _ _ (head_complete d)
+    (one_or_more_runs SpellsCheck check_at check_sound check_passes (λ _ _ _ k. check_complete k) e)

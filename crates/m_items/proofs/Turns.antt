@@ -11,8 +11,18 @@ use Rattle.m_items.specs.inner.DeclarationReading.{number_at, attributes_at, lis
 
 -- one attribute more
 more_sorted : (done : List Attribute) (w : List ℕ) (z : Option ℤ) → attributes_of (done ++ attribute w z ∷ []) ≡ with_one_more (attributes_of done) w z
-more_sorted done w None = rw (filter_map-append (λ (a : Attribute). word_without a.0 a.1) done (attribute w None ∷ []), filter_map-append (λ (a : Attribute). pair_with a.0 a.1) done (attribute w None ∷ []), append-nil) refl
-more_sorted done w (Some z) = rw (filter_map-append (λ (a : Attribute). word_without a.0 a.1) done (attribute w (Some z) ∷ []), filter_map-append (λ (a : Attribute). pair_with a.0 a.1) done (attribute w (Some z) ∷ []), append-nil) refl
+more_sorted done w None = rw (
+  filter_map-append (λ (a : Attribute). word_without a.0 a.1) done (attribute w None ∷ []),
+  filter_map-append
+      (λ (a : Attribute). pair_with a.0 a.1) done (attribute w None ∷ []),
+  append-nil,
+) refl
+more_sorted done w (Some z) = rw (
+  filter_map-append (λ (a : Attribute). word_without a.0 a.1) done (attribute w (Some z) ∷ []),
+  filter_map-append
+      (λ (a : Attribute). pair_with a.0 a.1) done (attribute w (Some z) ∷ []),
+  append-nil,
+) refl
 
 -- with these lists at ts, the attributes from the first token on are the whole
 pub record Sorting (from : List Token) (lists : Attributes) (ts : List Token) : Type 0 where
@@ -21,7 +31,8 @@ pub record Sorting (from : List Token) (lists : Attributes) (ts : List Token) : 
   pub going : Going word attribute number_at (attributes_at from) done ts
 
 module _ {from : List Token} {lists : Attributes} {ts : List Token} where
-  pub sorting_turn : {w : List ℕ} {z : Option ℤ} {us rest : List Token} → Sorting from lists ts → open_at word ts ≡ Some (w, us) → number_at us ≡ Some (z, rest) → length rest < length ts → Sorting from (with_one_more lists w z) rest
+  pub sorting_turn : {w : List ℕ} {z : Option ℤ} {us rest : List Token} → Sorting from lists ts → open_at word ts ≡ Some (w, us) → number_at us ≡ Some (z, rest)
+      → length rest < length ts → Sorting from (with_one_more lists w z) rest
   sorting_turn {w} {z} s o r shorter = record {
     done = s.done ++ attribute w z ∷ [];
     sorted = ap (λ l. with_one_more l w z) s.sorted ∙ sym (more_sorted s.done w z);
@@ -32,7 +43,8 @@ module _ {from : List Token} {lists : Attributes} {ts : List Token} where
   unfolding lists_at
   sorting_stop s o = rw (chain_stop word attribute number_at s.going o, s.sorted) refl
 
-  pub sorting_stuck : {w : List ℕ} {us : List Token} → Sorting from lists ts → open_at word ts ≡ Some (w, us) → length us < length ts → number_at us ≡ None → lists_at from ≡ None
+  pub sorting_stuck : {w : List ℕ} {us : List Token} → Sorting from lists ts → open_at word ts ≡ Some (w, us) → length us < length ts → number_at us ≡ None
+      → lists_at from ≡ None
   unfolding lists_at
   sorting_stuck s o shorter r = rw (chain_stuck word attribute number_at s.going o shorter r) refl
 

@@ -20,7 +20,10 @@ use Rattle.m_ast.specs.declared.item.VerifItem.{VerifItem}
 use Rattle.m_lexer.specs.Chains.{Chain, ended, further}
 use Rattle.m_terms.specs.Tokens.{Joined, joined}
 use Rattle.m_terms.specs.Headers.{SpellsPlaces, bare, bracketed, SpellsAssigned, assigned, SpellsWalked, walked, SpellsHeader, by_signs, by_words}
-use Rattle.m_terms.specs.Grammar.{addition, multiplication, conjunction, disjunction, link, gathered, Gathered, gather, SpellsPrim, number, word, own, read, brackets, either, only, called, called_two, looped, SpellsFactor, plain, minus, SpellsProduct, SpellsSum, SpellsSigned, positive, negative, SpellsMember, amount, name, range, SpellsMembers, SpellsRelation, alone, compared, inside, outside, SpellsNegation, affirmed, negated, SpellsConjunction, SpellsExpr, SpellsInner}
+use Rattle.m_terms.specs.Grammar.{addition, multiplication, conjunction, disjunction, link, gathered, Gathered, gather, SpellsPrim, number, word, own, read}
+use Rattle.m_terms.specs.Grammar.{brackets, either, only, called, called_two, looped, SpellsFactor, plain, minus, SpellsProduct, SpellsSum, SpellsSigned}
+use Rattle.m_terms.specs.Grammar.{positive, negative, SpellsMember, amount, name, range, SpellsMembers, SpellsRelation, alone, compared, inside, outside}
+use Rattle.m_terms.specs.Grammar.{SpellsNegation, affirmed, negated, SpellsConjunction, SpellsExpr, SpellsInner}
 use Rattle.m_terms.specs.Terms.{SpellsTerm}
 use Rattle.m_items.specs.Many.{Many, no_more, one_more, OneOrMore, one}
 use Rattle.m_items.specs.RuleGrammar.{SpellsLoop, loop, SpellsFormula, formula, SpellsRule, rule, SpellsCheck, check, SpellsVerification, verification}
@@ -44,7 +47,8 @@ module _ {A : Type 0} (R : A → List Token → List Token → Type 0) (P : A �
   pub joined_each : {opens : Token → Option (Unit {0})} {xs : List A} {ts rest : List Token} → Joined opens R xs ts rest → All P xs
   joined_each (joined {x = x} {xs = xs} d c) = All-cons P x xs (each _ _ _ d) (chain_each c)
 
-joined_some : {A : Type 0} {opens : Token → Option (Unit {0})} {R : A → List Token → List Token → Type 0} {xs : List A} {ts rest : List Token} → Joined opens R xs ts rest → xs ≢ []
+joined_some : {A : Type 0} {opens : Token → Option (Unit {0})} {R : A → List Token → List Token → Type 0} {xs : List A} {ts rest : List Token}
+    → Joined opens R xs ts rest → xs ≢ []
 joined_some (joined d c) = some_there
 
 -- Headers.
@@ -72,7 +76,8 @@ member_whole (amount d) = (signed_whole d, signed_whole d)
 member_whole name = (tt, tt)
 member_whole (range d e) = (signed_whole d, signed_whole e)
 
-chained_members : {opens : Token → Option (Unit {0})} {ms : List Member} {ts rest : List Token} → Chain opens (λ _ x. x) SpellsMember ms ts rest → AreWholeMembers (members_of ms)
+chained_members : {opens : Token → Option (Unit {0})} {ms : List Member} {ts rest : List Token} → Chain opens (λ _ x. x) SpellsMember ms ts rest
+    → AreWholeMembers (members_of ms)
 chained_members ended = tt
 chained_members (further o d c) = let m = member_whole d in (m.0, m.1, chained_members c)
 

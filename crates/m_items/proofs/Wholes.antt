@@ -29,7 +29,8 @@ digit_at (c ∷ cs) zero h below = (both _ _ h).0
 digit_at (c ∷ cs) (suc i) h below = digit_at cs i (both _ _ h).1 (omega arith)
 
 -- one digit more
-pub value_more : (ds : List ℕ) (i : ℕ) → IsShort ds → i < length ds → digits_value 10 (take (i + 1) ds) ≡ digits_value 10 (take i ds) * 10 + (get_or ds i 0 - 48)
+pub value_more : (ds : List ℕ) (i : ℕ) → IsShort ds → i < length ds
+    → digits_value 10 (take (i + 1) ds) ≡ digits_value 10 (take i ds) * 10 + (get_or ds i 0 - 48)
 value_more ds i h below =
     let more = digits_value_more 10 ds i below in
     let digit = digit_is (get_or ds i 0) (digit_at ds i h.digits below) in

@@ -10,7 +10,8 @@ unfolding behind_words
 words_turn [] e = absurd (cc)
 words_turn (t ∷ ts) {w} {rest} e = go (word t) e
   where
-    go : (o : Option (List ℕ)) → choose {B = Option (List ℕ × List Token)} o None (λ b. Some (b, ts)) ≡ Some (w, rest) → choose o (t ∷ ts) (λ w. behind_words ts) ≡ behind_words rest
+    go : (o : Option (List ℕ)) → choose {B = Option (List ℕ × List Token)} o None (λ b. Some (b, ts)) ≡ Some (w, rest)
+        → choose o (t ∷ ts) (λ w. behind_words ts) ≡ behind_words rest
     go None e = absurd (cc)
     go (Some x) e = let f : ◌≡◌ {A = List ℕ × List Token} (x, ts) (w, rest) = cc in ap behind_words (λ i. (f i).1)
 
@@ -19,6 +20,7 @@ unfolding behind_words
 words_stop [] e = refl
 words_stop (t ∷ ts) e = go (word t) e
   where
-    go : (o : Option (List ℕ)) → choose {B = Option (List ℕ × List Token)} o None (λ b. Some (b, ts)) ≡ None → choose o (t ∷ ts) (λ w. behind_words ts) ≡ (t ∷ ts)
+    go : (o : Option (List ℕ)) → choose {B = Option (List ℕ × List Token)} o None (λ b. Some (b, ts)) ≡ None
+        → choose o (t ∷ ts) (λ w. behind_words ts) ≡ (t ∷ ts)
     go None e = refl
     go (Some x) e = absurd (cc)

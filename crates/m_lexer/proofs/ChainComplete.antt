@@ -20,15 +20,18 @@ module _ {T A B X : Type 0} (opens : T → Option B) (made : B → A → X) (R :
   chain_shrinks (further o d c) = omega (arith, shrinks _ _ _ d, chain_shrinks c)
 
   -- a further one may stand after an R, and so may what stands after all of them, which opens none
-  module _ (p : List T → Option (A × List T)) (S E : List T → Type 0) (complete : Complete S R p) (binds : (t : T) (b : B) (ts : List T) → opens t ≡ Some b → S (t ∷ ts)) (weaker : (ts : List T) → E ts → S ts) (closed : (ts : List T) → E ts → open_at opens ts ≡ None) where
+  module _ (p : List T → Option (A × List T)) (S E : List T → Type 0) (complete : Complete S R p) (binds : (t : T) (b : B) (ts : List T) → opens t ≡ Some b
+      → S (t ∷ ts)) (weaker : (ts : List T) → E ts → S ts) (closed : (ts : List T) → E ts → open_at opens ts ≡ None) where
     pub chain_binds : {xs : List X} {ts rest : List T} → Chain opens made R xs ts rest → E rest → S ts
     chain_binds ended h = weaker _ h
     chain_binds (further o d c) h = binds _ _ _ o
 
-    pub chain_complete : (n : ℕ) {xs : List X} {ts rest : List T} (done : List X) → Chain opens made R xs ts rest → E rest → length ts ≤ n → chain_at opens made p n done ts ≡ Some (done ++ xs, rest)
+    pub chain_complete : (n : ℕ) {xs : List X} {ts rest : List T} (done : List X) → Chain opens made R xs ts rest → E rest → length ts ≤ n
+        → chain_at opens made p n done ts ≡ Some (done ++ xs, rest)
     unfolding chain_at
     chain_complete zero done ended h l = rw append-nil refl
     chain_complete (suc n) {ts = ts} done ended h l = rw (closed ts h, append-nil) refl
     chain_complete zero done (further o d c) h l = absurd (omega arith)
     chain_complete (suc n) {rest = rest} done (further {b = b} {x = x} {xs = xs} o d c) h l =
-        rw (o, complete _ _ _ d (chain_binds c h)) (chain_complete n (done ++ made b x ∷ []) c h (omega (arith, shrinks _ _ _ d)) ∙ ap (λ l. Some (l, rest)) (append_assoc done (made b x ∷ []) xs))
+        rw (o, complete _ _ _ d (chain_binds c h)) (chain_complete n (done ++ made b x ∷ []) c h (omega (arith, shrinks _ _ _ d))
+        ∙ ap (λ l. Some (l, rest)) (append_assoc done (made b x ∷ []) xs))

@@ -37,26 +37,28 @@ opened (first {t = t} e) = (t, e, refl)
 abbrev pub Sound : {T A : Type 0} → (A → List T → List T → Type 0) → (List T → Option (A × List T)) → Type 0
 Sound {T} R p = (ts : List T) → Each (λ x. R x.0 ts x.1) (p ts)
 
-module _ {T A B X : Type 0} (opens : T → Option B) (made : B → A → X) (R : A → List T → List T → Type 0) (p : List T → Option (A × List T)) (sound : Sound R p) where
-  pub record Done (done : List X) (ts : List T) (r : List X × List T) : Type 0 where
-    pub others : List X
-    pub all : r.0 ≡ done ++ others
-    pub chain : Chain opens made R others ts r.1
+module _ {T A B X : Type 0} (opens : T → Option B) (made : B → A → X) (R : A → List T → List T → Type 0) (p : List T → Option (A × List T)) (sound : Sound R p)
+  where
+    pub record Done (done : List X) (ts : List T) (r : List X × List T) : Type 0 where
+      pub others : List X
+      pub all : r.0 ≡ done ++ others
+      pub chain : Chain opens made R others ts r.1
 
-  none_more : (done : List X) (ts : List T) → Done done ts (done, ts)
-  none_more done ts = record { others = []; all = sym (append-nil done); chain = ended }
+    none_more : (done : List X) (ts : List T) → Done done ts (done, ts)
+    none_more done ts = record { others = []; all = sym (append-nil done); chain = ended }
 
-  one_more : {b : B} {ts us : List T} (done : List X) → First opens b ts us → (x : A × List T) → R x.0 us x.1 → (r : List X × List T) → Done (done ++ made b x.0 ∷ []) x.1 r → Done done ts r
-  one_more {b = b} done (first e) x d r q = record {
-    others = made b x.0 ∷ q.others;
-    all = q.all ∙ append_assoc done (made b x.0 ∷ []) q.others;
-    chain = further e d q.chain;
-  }
+    one_more : {b : B} {ts us : List T} (done : List X) → First opens b ts us → (x : A × List T) → R x.0 us x.1 → (r : List X × List T)
+        → Done (done ++ made b x.0 ∷ []) x.1 r → Done done ts r
+    one_more {b = b} done (first e) x d r q = record {
+      others = made b x.0 ∷ q.others;
+      all = q.all ∙ append_assoc done (made b x.0 ∷ []) q.others;
+      chain = further e d q.chain;
+    }
 
-  pub chain_sound : (n : ℕ) (done : List X) (ts : List T) → Each (Done done ts) (chain_at opens made p n done ts)
-  unfolding chain_at
-  chain_sound zero done ts = here (none_more done ts)
-  chain_sound (suc n) done ts =
-      choose_each (open_each opens ts) (here (none_more done ts)) (λ o h.
-      bind_each (sound o.1) (λ x d.
-      each_from (chain_sound n (done ++ made o.0 x.0 ∷ []) x.1) (λ r q. one_more done h x d r q)))
+    pub chain_sound : (n : ℕ) (done : List X) (ts : List T) → Each (Done done ts) (chain_at opens made p n done ts)
+    unfolding chain_at
+    chain_sound zero done ts = here (none_more done ts)
+    chain_sound (suc n) done ts =
+        choose_each (open_each opens ts) (here (none_more done ts)) (λ o h.
+        bind_each (sound o.1) (λ x d.
+        each_from (chain_sound n (done ++ made o.0 x.0 ∷ []) x.1) (λ r q. one_more done h x d r q)))

@@ -13,7 +13,8 @@ module _ {T A B X : Type 0} (opens : T → Option B) (made : B → A → X) (p :
     pub chain_start : whole ≡ chain_at opens made p (length ts) done ts → Going whole done ts
     chain_start e = record { left = length ts; enough = omega arith; same = sym e }
 
-    pub chain_turn : {b : B} {x : A} {us rest : List T} → Going whole done ts → open_at opens ts ≡ Some (b, us) → p us ≡ Some (x, rest) → length rest < length ts → Going whole (done ++ made b x ∷ []) rest
+    pub chain_turn : {b : B} {x : A} {us rest : List T} → Going whole done ts → open_at opens ts ≡ Some (b, us) → p us ≡ Some (x, rest)
+        → length rest < length ts → Going whole (done ++ made b x ∷ []) rest
     unfolding chain_at
     chain_turn {b} {x} {us} {rest} g o r shorter = go g.left g.enough g.same
       where

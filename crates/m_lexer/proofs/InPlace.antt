@@ -29,7 +29,8 @@ later p bytes t rest tok e s = record {
   placed = s.placed ∙ behind_both t s.before p;
 }
 
-all_later : (p : Place) (bytes t rest : List ℕ) (tokens : List Token) → bytes ≡ t ++ rest → AllByRecursion (IsTokenOf (behind t p) rest) tokens → AllByRecursion (IsTokenOf p bytes) tokens
+all_later : (p : Place) (bytes t rest : List ℕ) (tokens : List Token) → bytes ≡ t ++ rest → AllByRecursion (IsTokenOf (behind t p) rest) tokens
+    → AllByRecursion (IsTokenOf p bytes) tokens
 all_later p bytes t rest [] e h = tt
 all_later p bytes t rest (x ∷ tokens) e h = (later p bytes t rest x e h.0, all_later p bytes t rest tokens e h.1)
 
@@ -53,7 +54,8 @@ tokens_in_place p bytes tokens d = All-from_recursion (IsTokenOf p bytes) tokens
 moved : (p q : Place) (f : LexFault) → p ≡ q → IsFaultAt p f → IsFaultAt q f
 moved p q f e h = subst (λ x. IsFaultAt x f) e h
 
-pub fault_in_place : (p : Place) (bytes : List ℕ) (fault : LexFault) → FirstFault p bytes fault → (before : List ℕ) × (others : List ℕ) × (bytes ≡ before ++ others) × IsFaultAt (behind before p) fault
+pub fault_in_place : (p : Place) (bytes : List ℕ) (fault : LexFault) → FirstFault p bytes fault → (before : List ℕ) × (others : List ℕ)
+    × (bytes ≡ before ++ others) × IsFaultAt (behind before p) fault
 fault_in_place p bytes fault (bad_byte ne none) = ([], _, refl, behind_nothing p)
 fault_in_place p bytes fault (open_string i e h) = ([], bytes, refl, behind_nothing p)
 fault_in_place p bytes fault (too_great l g) = ([], bytes, refl, behind_nothing p)

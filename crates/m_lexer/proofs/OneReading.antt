@@ -10,7 +10,8 @@ use Rattle.m_lexer.specs.declared.fault.LexFault.{LexFault}
 use Rattle.m_text.specs.Bytes.{IsWordByte, IsBlankByte, quote, hash, point}
 use Rattle.m_text.specs.Words.{IsWord, IsNumber}
 use Rattle.m_lexer.specs.Spellings.{IsPiece}
-use Rattle.m_lexer.specs.Tokens.{Longest, IsGap, IsTooGreat, Spells, word, key, number, text, sign, Lexes, end, gap, token, NoPiece, FirstFault, bad_byte, open_string, too_great, behind}
+use Rattle.m_lexer.specs.Tokens.{Longest, IsGap, IsTooGreat, Spells, word, key, number, text, sign, Lexes, end, gap, token, NoPiece, FirstFault, bad_byte}
+use Rattle.m_lexer.specs.Tokens.{open_string, too_great, behind}
 use Rattle.m_text.proofs.Fronts.{all_left, all_right}
 use Rattle.m_text.proofs.Longest.{one_longest}
 use Rattle.m_text.proofs.Spelled.{first, word_first, number_first, point_is_none}
@@ -161,11 +162,14 @@ one_first_fault p bytes f o (open_string i e h) (token {t = t} {rest = r} l s d)
 one_first_fault p bytes f o (too_great {t = t} {rest = r} l g) (bad_byte ne none) = absurd (no_longest _ t r none l)
 one_first_fault p bytes f o (too_great {t = t} {rest = r} l g) (open_string i e h) = absurd (no_longest bytes t r (none_at_open bytes i e h) l)
 one_first_fault p bytes f o (too_great l g) (too_great l' g') = refl
-one_first_fault p bytes f o (too_great {t = t} {rest = r} l h) (gap {t = u} {rest = v} m g d) = absurd (gap_or_number u g (subst IsNumber (one_longest IsPiece bytes t r u v l m).0 h.0))
-one_first_fault p bytes f o (too_great {t = t} {rest = r} l h) (token {t = u} {rest = v} {kind = k} m s d) = absurd (great_or_token u k (subst IsTooGreat (one_longest IsPiece bytes t r u v l m).0 h) s)
+one_first_fault p bytes f o (too_great {t = t} {rest = r} l h) (gap {t = u} {rest = v} m g d) = absurd
+    (gap_or_number u g (subst IsNumber (one_longest IsPiece bytes t r u v l m).0 h.0))
+one_first_fault p bytes f o (too_great {t = t} {rest = r} l h) (token {t = u} {rest = v} {kind = k} m s d) = absurd
+    (great_or_token u k (subst IsTooGreat (one_longest IsPiece bytes t r u v l m).0 h) s)
 one_first_fault p bytes f o (gap {t = t} {rest = r} l g d) (bad_byte ne none) = absurd (no_longest _ t r none l)
 one_first_fault p bytes f o (gap {t = t} {rest = r} l g d) (open_string i e h) = absurd (no_longest bytes t r (none_at_open bytes i e h) l)
-one_first_fault p bytes f o (gap {t = u} {rest = v} m g d) (too_great {t = t} {rest = r} l h) = absurd (gap_or_number u g (subst IsNumber (one_longest IsPiece bytes t r u v l m).0 h.0))
+one_first_fault p bytes f o (gap {t = u} {rest = v} m g d) (too_great {t = t} {rest = r} l h) = absurd
+    (gap_or_number u g (subst IsNumber (one_longest IsPiece bytes t r u v l m).0 h.0))
 one_first_fault p bytes f o (gap {t = t} {rest = r} l g d) (gap {t = u} {rest = v} m h d') =
     let q = one_longest IsPiece bytes u v t r m l in
     one_first_fault (behind t p) r f o d (fault_moved p u t v r o q.0 q.1 d')
@@ -173,7 +177,8 @@ one_first_fault p bytes f o (gap {t = t} {rest = r} l g d) (token {t = u} {rest 
     absurd (gap_or_token t k g (subst (λ x. Spells x k) (one_longest IsPiece bytes u v t r m l).0 s))
 one_first_fault p bytes f o (token {t = t} {rest = r} l s d) (bad_byte ne none) = absurd (no_longest _ t r none l)
 one_first_fault p bytes f o (token {t = t} {rest = r} l s d) (open_string i e h) = absurd (no_longest bytes t r (none_at_open bytes i e h) l)
-one_first_fault p bytes f o (token {t = u} {rest = v} {kind = k} m s d) (too_great {t = t} {rest = r} l h) = absurd (great_or_token u k (subst IsTooGreat (one_longest IsPiece bytes t r u v l m).0 h) s)
+one_first_fault p bytes f o (token {t = u} {rest = v} {kind = k} m s d) (too_great {t = t} {rest = r} l h) = absurd
+    (great_or_token u k (subst IsTooGreat (one_longest IsPiece bytes t r u v l m).0 h) s)
 one_first_fault p bytes f o (token {t = t} {rest = r} {kind = k} l s d) (gap {t = u} {rest = v} m g d') =
     absurd (gap_or_token t k (subst IsGap (one_longest IsPiece bytes u v t r m l).0 g) s)
 one_first_fault p bytes f o (token {t = t} {rest = r} l s d) (token {t = u} {rest = v} m s' d') =

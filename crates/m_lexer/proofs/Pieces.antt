@@ -2,7 +2,8 @@
 use Rattle.std.proofs.Common.{◌≡◌, ◌≢◌, ◌⊎◌, ℕ, ◌≤◌, List, [], ◌∷◌, ◌++◌, length, drop, refl, sym, ap, ◌∙◌, subst, arith, lit≤, inl, inr}
 use Rattle.std.specs.List.{AllByRecursion}
 use Rattle.m_lexer.specs.declared.token.Sign.{Sign}
-use Rattle.m_lexer.specs.declared.token.Sign.TheVariants.{Plus, Minus, Star, Slash, Equal, NotEqual, Less, LessEqual, Greater, GreaterEqual, OpenParen, CloseParen, OpenBracket, CloseBracket, Comma, Semicolon, Colon, Range}
+use Rattle.m_lexer.specs.declared.token.Sign.TheVariants.{Plus, Minus, Star, Slash, Equal, NotEqual, Less, LessEqual, Greater, GreaterEqual, OpenParen}
+use Rattle.m_lexer.specs.declared.token.Sign.TheVariants.{CloseParen, OpenBracket, CloseBracket, Comma, Semicolon, Colon, Range}
 use Rattle.m_text.specs.Bytes.{IsWordByte, IsBlankByte, quote, hash, line_feed}
 use Rattle.m_text.specs.Words.{IsComment, IsWordOrNumber, IsQuoted, LongestBetween}
 use Rattle.m_lexer.specs.Spellings.{IsBlank, sign_spelling, IsPiece, blank, comment, word, number, text, sign}
@@ -128,7 +129,8 @@ longest_blank bytes b rest e h = longest_from IsPiece bytes (b ∷ []) rest e (b
     none : (c : ℕ) (more v : List ℕ) → rest ≡ c ∷ (more ++ v) → IsPiece (b ∷ c ∷ more) → ⊥
     none c more v f p = let k = (blank_first (b ∷ c ∷ more) (after_blank (b ∷ c ∷ more) p h)).1 in omega arith
 
-pub longest_comment : (bytes inside rest : List ℕ) → bytes ≡ hash ∷ (inside ++ rest) → AllByRecursion (λ b. b ≢ line_feed) inside → Stops (λ b. b ≢ line_feed) rest → Longest bytes (hash ∷ inside) rest
+pub longest_comment : (bytes inside rest : List ℕ) → bytes ≡ hash ∷ (inside ++ rest) → AllByRecursion (λ b. b ≢ line_feed) inside
+    → Stops (λ b. b ≢ line_feed) rest → Longest bytes (hash ∷ inside) rest
 longest_comment bytes inside rest e h stops = longest_from IsPiece bytes (hash ∷ inside) rest e (comment (inside, h, refl)) none
   where
     none : (c : ℕ) (more v : List ℕ) → rest ≡ c ∷ (more ++ v) → IsPiece (hash ∷ (inside ++ c ∷ more)) → ⊥
@@ -138,7 +140,8 @@ longest_comment bytes inside rest e h stops = longest_from IsPiece bytes (hash �
         let all = subst (AllByRecursion (λ b. b ≢ line_feed)) g w.1 in
         not_next (λ b. b ≢ line_feed) rest c (more ++ v) f stops (all_right (λ b. b ≢ line_feed) inside (c ∷ more) all).0
 
-pub longest_quoted : (bytes inside rest : List ℕ) → bytes ≡ (quote ∷ (inside ++ quote ∷ [])) ++ rest → AllByRecursion (λ b. b ≢ quote) inside → Longest bytes (quote ∷ (inside ++ quote ∷ [])) rest
+pub longest_quoted : (bytes inside rest : List ℕ) → bytes ≡ (quote ∷ (inside ++ quote ∷ [])) ++ rest → AllByRecursion (λ b. b ≢ quote) inside
+    → Longest bytes (quote ∷ (inside ++ quote ∷ [])) rest
 longest_quoted bytes inside rest e h = longest_from IsPiece bytes (quote ∷ (inside ++ quote ∷ [])) rest e (text inside (h, refl)) none
   where
     none : (c : ℕ) (more v : List ℕ) → rest ≡ c ∷ (more ++ v) → IsPiece (quote ∷ ((inside ++ quote ∷ []) ++ c ∷ more)) → ⊥
@@ -169,7 +172,8 @@ longest_word_or_number bytes from end l = longest_among IsWordOrNumber IsPiece (
 
     same : (u others : List ℕ) → drop from bytes ≡ u ++ others → IsPiece u → IsWordOrNumber u
     same u others e p =
-        let at : first t ≡ first u = sym (first_append t (drop end bytes) (some t (piece t l.longest.piece))) ∙ ap first (sym l.longest.parts ∙ e) ∙ first_append u others (some u p) in
+        let at : first t ≡ first u = sym (first_append t (drop end bytes) (some t (piece t l.longest.piece))) ∙ ap first (sym l.longest.parts ∙ e)
+        ∙ first_append u others (some u p) in
         after_word_byte u p (subst IsWordByte at (begins t l.longest.piece))
 
 pub longest_two : (bytes : List ℕ) (a b : ℕ) (rest : List ℕ) (s : Sign) → bytes ≡ a ∷ b ∷ rest → sign_spelling s ≡ a ∷ b ∷ [] → Longest bytes (a ∷ b ∷ []) rest
@@ -202,7 +206,8 @@ longest_one bytes a rest s e h short = longest_from IsPiece bytes (a ∷ []) res
         two c more v f w.0 w.1
 
 -- no piece begins with a byte of no kind
-pub no_piece : (a : ℕ) (rest : List ℕ) → (IsBlankByte a → ⊥) → a ≢ hash → a ≢ quote → (IsWordByte a → ⊥) → ((s : Sign) → sign_spelling s ≡ a ∷ [] → ⊥) → NoTwo a rest → NoPiece (a ∷ rest)
+pub no_piece : (a : ℕ) (rest : List ℕ) → (IsBlankByte a → ⊥) → a ≢ hash → a ≢ quote → (IsWordByte a → ⊥) → ((s : Sign) → sign_spelling s ≡ a ∷ [] → ⊥)
+    → NoTwo a rest → NoPiece (a ∷ rest)
 no_piece a rest nb nh nq nw one two [] others e p = not_empty p
 no_piece a rest nb nh nq nw one two (x ∷ t) others e p = kinds p
   where

@@ -3,9 +3,12 @@ use Rattle.std.specs.Prelude.{◌≡◌, ℕ, List, [], ◌∷◌, codes}
 use Rattle.m_text.specs.Bytes.{IsBlankByte}
 use Rattle.m_text.specs.Words.{IsComment, IsNumber, IsQuoted, IsWord}
 use Rattle.m_lexer.specs.declared.token.Key.{Key}
-use Rattle.m_lexer.specs.declared.token.Key.TheVariants.{Regle, Verif, Application, Enchaineur, Si, Alors, Sinon, Finsi, Erreur, Saisie, Calculee, Const, Tableau, Alias, TypeKey, Pour, Un, Dans, Et, Ou, Non, Somme, Present, Positif, PositifOuNul, Null, Arr, Inf, Abs, Max, Min, Anomalie, Discordance, Informative, X}
+use Rattle.m_lexer.specs.declared.token.Key.TheVariants.{Regle, Verif, Application, Enchaineur, Si, Alors, Sinon, Finsi, Erreur, Saisie, Calculee, Const}
+use Rattle.m_lexer.specs.declared.token.Key.TheVariants.{Tableau, Alias, TypeKey, Pour, Un, Dans, Et, Ou, Non, Somme, Present, Positif, PositifOuNul, Null, Arr}
+use Rattle.m_lexer.specs.declared.token.Key.TheVariants.{Inf, Abs, Max, Min, Anomalie, Discordance, Informative, X}
 use Rattle.m_lexer.specs.declared.token.Sign.{Sign}
-use Rattle.m_lexer.specs.declared.token.Sign.TheVariants.{Plus, Minus, Star, Slash, Equal, NotEqual, Less, LessEqual, Greater, GreaterEqual, OpenParen, CloseParen, OpenBracket, CloseBracket, Comma, Semicolon, Colon, Range}
+use Rattle.m_lexer.specs.declared.token.Sign.TheVariants.{Plus, Minus, Star, Slash, Equal, NotEqual, Less, LessEqual, Greater, GreaterEqual, OpenParen}
+use Rattle.m_lexer.specs.declared.token.Sign.TheVariants.{CloseParen, OpenBracket, CloseBracket, Comma, Semicolon, Colon, Range}
 
 -- one blank byte
 abbrev pub IsBlank : List ℕ → Type 0

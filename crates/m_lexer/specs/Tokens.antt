@@ -63,7 +63,8 @@ NoPiece bytes = (t others : List ℕ) → bytes ≡ t ++ others → IsPiece t �
 -- begins, a quote with no other after it, or a number that is too great.
 pub data FirstFault : Place → List ℕ → LexFault → Type 0 where
   bad_byte : {p : Place} {b : ℕ} {bytes : List ℕ} → b ≢ quote → NoPiece (b ∷ bytes) → FirstFault p (b ∷ bytes) (BadByte p)
-  open_string : {p : Place} {bytes : List ℕ} (inside : List ℕ) → bytes ≡ quote ∷ inside → AllByRecursion (λ b. b ≢ quote) inside → FirstFault p bytes (OpenString p)
+  open_string : {p : Place} {bytes : List ℕ} (inside : List ℕ) → bytes ≡ quote ∷ inside → AllByRecursion (λ b. b ≢ quote) inside
+      → FirstFault p bytes (OpenString p)
   too_great : {p : Place} {bytes t rest : List ℕ} → Longest bytes t rest → IsTooGreat t → FirstFault p bytes (NumberTooGreat p)
   gap : {p : Place} {bytes t rest : List ℕ} {fault : LexFault} → Longest bytes t rest → IsGap t →
       FirstFault (behind t p) rest fault → FirstFault p bytes fault

@@ -73,7 +73,8 @@ label-same a b e =
   where
     by : (a b : Label) → a.verif ≡ b.verif → a.error ≡ b.error → a.kind ≡ b.kind → a.text ≡ b.text → a ≡ b
     by a b v r k t =
-        ap (λ x. label x a.error a.kind a.text) v ∙ ap (λ x. label b.verif x a.kind a.text) r ∙ ap (λ x. label b.verif b.error x a.text) k ∙ ap (λ x. label b.verif b.error b.kind x) t
+        ap (λ x. label x a.error a.kind a.text) v ∙ ap (λ x. label b.verif x a.kind a.text) r ∙ ap (λ x. label b.verif b.error x a.text) k
+        ∙ ap (λ x. label b.verif b.error b.kind x) t
 
 -- the texts of labels are equal exactly where the labels are
 pub code-same : (a b : Label) → bytes_eq (coded_label a) (coded_label b) ≡ is_same_label a b
@@ -85,7 +86,8 @@ code-same a b = by (bytes_eq (coded_label a) (coded_label b)) (is_same_label a b
         let r = word-apart a.error b.error (kind_number a.kind ∷ a.text) (kind_number b.kind ∷ b.text) v.1 in
         let k : kind_number a.kind ≡ kind_number b.kind = cc (r.1) in
         let t : a.text ≡ b.text = cc (r.1) in
-        and-both _ _ (and-both _ _ (and-both _ _ (ap (bytes_eq a.verif) (sym v.0) ∙ itself a.verif) (ap (bytes_eq a.error) (sym r.0) ∙ itself a.error)) (kind-apart a.kind b.kind k)) (ap (bytes_eq a.text) (sym t) ∙ itself a.text)
+        and-both _ _ (and-both _ _ (and-both _ _ (ap (bytes_eq a.verif) (sym v.0) ∙ itself a.verif) (ap (bytes_eq a.error) (sym r.0) ∙ itself a.error))
+        (kind-apart a.kind b.kind k)) (ap (bytes_eq a.text) (sym t) ∙ itself a.text)
 
     by : (p q : Bool) → bytes_eq (coded_label a) (coded_label b) ≡ p → is_same_label a b ≡ q → p ≡ q
     by true true e f = refl

@@ -1,5 +1,6 @@
 -- The marks of cells that are read: by runs, then swept, and without those that have definitions.
-use Rattle.std.proofs.Common.{◌≡◌, ℕ, zero, suc, ◌+◌, ◌<◌, ◌≤◌, max, Bool, true, false, ltb, eqb, List, [], ◌∷◌, length, get_or, map, replicate, All, Result, Ok, Err, refl, ap, sym, ◌∙◌, inl, inr, arith}
+use Rattle.std.proofs.Common.{◌≡◌, ℕ, zero, suc, ◌+◌, ◌<◌, ◌≤◌, max, Bool, true, false, ltb, eqb, List, [], ◌∷◌, length, get_or, map, replicate, All, Result}
+use Rattle.std.proofs.Common.{Ok, Err, refl, ap, sym, ◌∙◌, inl, inr, arith}
 use Rattle.std.specs.Prelude.{◌||◌, IfOk}
 use Rattle.std.specs.List.{AllByRecursion}
 use Rattle.std.proofs.lemmas.Bool.Decides.{nat_tests}
@@ -74,7 +75,8 @@ or-assoc true b c = refl
 or-assoc false b c = refl
 
 -- a run more has its cells
-covers-raised : (first : ℕ) (reach : List ℕ) (i count c : ℕ) → i < length reach → covers first (raised reach i count) c ≡ (covers first reach c || is_in_run (first + i) count c)
+covers-raised : (first : ℕ) (reach : List ℕ) (i count c : ℕ) → i < length reach
+    → covers first (raised reach i count) c ≡ (covers first reach c || is_in_run (first + i) count c)
 covers-raised first [] i count c h = absurd (omega (arith, h))
 covers-raised first (n ∷ ns) zero count c h =
     let here : first + 0 ≡ first = omega arith in
@@ -107,7 +109,8 @@ from-none : (first c : ℕ) → is_in_run first 0 c ≡ false
 from-none first c = grind (arith, nat_tests)
 
 -- a table whose cells are there, if it has any
-covers-table : (first size : ℕ) (reach : List ℕ) (c : ℕ) → first + size ≤ length reach → covers 0 (raised reach first size) c ≡ (covers 0 reach c || is_in_run first size c)
+covers-table : (first size : ℕ) (reach : List ℕ) (c : ℕ) → first + size ≤ length reach
+    → covers 0 (raised reach first size) c ≡ (covers 0 reach c || is_in_run first size c)
 covers-table first size reach c h = elim (cases_lt first (length reach)) [ inl low ↦ at reach first size c low | inr high ↦ past high ]
   where
     past : length reach ≤ first → covers 0 (raised reach first size) c ≡ (covers 0 reach c || is_in_run first size c)
@@ -116,7 +119,8 @@ covers-table first size reach c h = elim (cases_lt first (length reach)) [ inl l
         ap (λ ns. covers 0 ns c) (set_past reach first (max (get_or reach first 0) size) high) ∙ or-none (covers 0 reach c)
         ∙ ap (λ b. covers 0 reach c || b) (sym (ap (λ n. is_in_run first n c) empty ∙ from-none first c))
 
-covers-pick : (first size : ℕ) (index : Tree) (reach : List ℕ) (c : ℕ) → first + size ≤ length reach → covers 0 (reach_of_pick first size index reach) c ≡ (covers 0 reach c || pick_reads first size index c)
+covers-pick : (first size : ℕ) (index : Tree) (reach : List ℕ) (c : ℕ) → first + size ≤ length reach
+    → covers 0 (reach_of_pick first size index reach) c ≡ (covers 0 reach c || pick_reads first size index c)
 covers-pick first size (lit v) reach c h = covers-picked (picked first size v) first size v reach c refl h
 covers-pick first size (cell d) reach c h = covers-table first size reach c h
 covers-pick first size (pick g s i) reach c h = covers-table first size reach c h
@@ -140,19 +144,22 @@ mutual
       then-read _ _ _ (term_reads a c) (steps_read steps c)
       (covers-along steps (reach_of a reach) c (rw (term-length a reach) h.1)) (covers-term a reach c h.0)
 
-  covers-all : (all : Trees) (reach : List ℕ) (c : ℕ) → AreWithin (length reach) all → covers 0 (reach_of_all all reach) c ≡ (covers 0 reach c || arguments_read all c)
+  covers-all : (all : Trees) (reach : List ℕ) (c : ℕ) → AreWithin (length reach) all
+      → covers 0 (reach_of_all all reach) c ≡ (covers 0 reach c || arguments_read all c)
   covers-all none reach c h = or-none (covers 0 reach c)
   covers-all (more a rest) reach c h =
       then-read _ _ _ (term_reads a c) (arguments_read rest c)
       (covers-all rest (reach_of a reach) c (rw (term-length a reach) h.1)) (covers-term a reach c h.0)
 
-  covers-along : (steps : Steps) (reach : List ℕ) (c : ℕ) → StepsAreWithin (length reach) steps → covers 0 (reach_along steps reach) c ≡ (covers 0 reach c || steps_read steps c)
+  covers-along : (steps : Steps) (reach : List ℕ) (c : ℕ) → StepsAreWithin (length reach) steps
+      → covers 0 (reach_along steps reach) c ≡ (covers 0 reach c || steps_read steps c)
   covers-along end reach c h = or-none (covers 0 reach c)
   covers-along (step op a rest) reach c h =
       then-read _ _ _ (term_reads a c) (steps_read rest c)
       (covers-along rest (reach_of a reach) c (rw (term-length a reach) h.1)) (covers-term a reach c h.0)
 
-covers-terms : (ts : List Tree) (reach : List ℕ) (c : ℕ) → AllByRecursion (IsWithin (length reach)) ts → covers 0 (reach_of_terms ts reach) c ≡ (covers 0 reach c || are_read ts c)
+covers-terms : (ts : List Tree) (reach : List ℕ) (c : ℕ) → AllByRecursion (IsWithin (length reach)) ts
+    → covers 0 (reach_of_terms ts reach) c ≡ (covers 0 reach c || are_read ts c)
 covers-terms [] reach c h = or-none (covers 0 reach c)
 covers-terms (t ∷ ts) reach c h =
     then-read _ _ _ (term_reads t c) (are_read ts c)
@@ -163,7 +170,8 @@ none-covered first zero c = refl
 none-covered first (suc n) c = ap (λ b. b || covers (first + 1) (replicate n 0) c) (from-none first c) ∙ none-covered (first + 1) n c
 
 -- two lists of terms, from no runs on: those cells are in runs that they read
-pub covers-both : (n : ℕ) (ts us : List Tree) (c : ℕ) → AllByRecursion (IsWithin n) ts → AllByRecursion (IsWithin n) us → covers 0 (reach_of_terms us (reach_of_terms ts (replicate n 0))) c ≡ (are_read ts c || are_read us c)
+pub covers-both : (n : ℕ) (ts us : List Tree) (c : ℕ) → AllByRecursion (IsWithin n) ts → AllByRecursion (IsWithin n) us
+    → covers 0 (reach_of_terms us (reach_of_terms ts (replicate n 0))) c ≡ (are_read ts c || are_read us c)
 covers-both n ts us c h k =
     let zeros = replicate n 0 in
     let so_many : length zeros ≡ n = length-replicate n 0 in
@@ -184,12 +192,14 @@ from-later first n (m ∷ ns) c h = ap (λ b. b || covers (first + 1) ns c) (low
     low first m c h = grind (arith, nat_tests)
 
 -- a cell is swept where it is before the end of earlier runs, or in a run from here on
-swept-at : (first until : ℕ) (ns : List ℕ) (i c : ℕ) → i < length ns → c ≡ first + i → get_or (swept first until ns) i false ≡ (ltb c until || covers first ns c)
+swept-at : (first until : ℕ) (ns : List ℕ) (i c : ℕ) → i < length ns → c ≡ first + i
+    → get_or (swept first until ns) i false ≡ (ltb c until || covers first ns c)
 swept-at first until [] i c h e = absurd (omega (arith, h))
 swept-at first until (n ∷ ns) zero c h e =
     let here : c ≡ first = omega (arith, e) in
     now first c until n here
-    ∙ ap (λ b. ltb c until || b) (or-none (is_in_run first n c) ∙ ap (λ b. is_in_run first n c || b) (sym (from-later (first + 1) 0 ns c (omega (arith, here)))))
+    ∙ ap (λ b. ltb c until || b) (or-none (is_in_run first n c)
+    ∙ ap (λ b. is_in_run first n c || b) (sym (from-later (first + 1) 0 ns c (omega (arith, here)))))
   where
     now : (first c until n : ℕ) → c ≡ first → ltb first (max until (first + n)) ≡ (ltb c until || is_in_run first n c)
     now first c until n e = grind (arith, nat_tests)
@@ -227,7 +237,8 @@ pub marks-read : {R E : Type 0} (items : R → List Bool) (result : Result R E) 
 marks-read items (Err e) base reach valid is h = tt
 marks-read items (Ok marks) base reach valid is h = λ c low.
     let so_many : length reach ≡ base.cells =
-    ap length is ∙ terms-length (conditions_of base) (reach_of_terms (terms_of base) (replicate base.cells 0)) ∙ terms-length (terms_of base) (replicate base.cells 0) ∙ length-replicate base.cells 0 in
+    ap length is ∙ terms-length (conditions_of base) (reach_of_terms (terms_of base) (replicate base.cells 0))
+    ∙ terms-length (terms_of base) (replicate base.cells 0) ∙ length-replicate base.cells 0 in
     ap (λ bs. get_or bs c false) h ∙ swept-covers reach c (omega (arith, low, so_many)) ∙ ap (λ ns. covers 0 ns c) is
     ∙ covers-both base.cells (terms_of base) (conditions_of base) c
     (all-first (IsWithin base.cells) (λ d. d.1) base.definitions valid.terms) (conditions base valid)

@@ -14,7 +14,8 @@ use Rattle.m_lint.specs.Truths.{AreRead}
 
 terms-are : (ts : List Tree) (c : ℕ) → are_read ts c ≡ true → AreRead ts c
 terms-are [] c e = cc e
-terms-are (t ∷ ts) c e = elim (or_cases (term_reads t c) (are_read ts c) e) [ inl k ↦ (t, (0, omega arith, refl), term-is t c k) | inr k ↦ later (terms-are ts c k) ]
+terms-are (t ∷ ts) c e = elim (or_cases (term_reads t c) (are_read ts c) e)
+    [ inl k ↦ (t, (0, omega arith, refl), term-is t c k) | inr k ↦ later (terms-are ts c k) ]
   where
     later : AreRead ts c → AreRead (t ∷ ts) c
     later h = (h.0, (suc h.1.0, omega (arith, h.1.1), h.1.2), h.2)
@@ -28,7 +29,8 @@ are-terms ts c h = at ts h.1.0 h.0 h.1.1 h.1.2 h.2
     at (u ∷ us) (suc k) t low e h = or_right (term_reads u c) (are_read us c) (at us k t (omega (arith, low)) e h)
 
 pub read-is : (base : Base) (c : ℕ) → is_read base c ≡ true → AreRead (terms_of base) c ⊎ AreRead (conditions_of base) c
-read-is base c e = elim (or_cases (are_read (terms_of base) c) (are_read (conditions_of base) c) e) [ inl k ↦ inl (terms-are (terms_of base) c k) | inr k ↦ inr (terms-are (conditions_of base) c k) ]
+read-is base c e = elim (or_cases (are_read (terms_of base) c) (are_read (conditions_of base) c) e)
+    [ inl k ↦ inl (terms-are (terms_of base) c k) | inr k ↦ inr (terms-are (conditions_of base) c k) ]
 
 pub is-read : (base : Base) (c : ℕ) → AreRead (terms_of base) c ⊎ AreRead (conditions_of base) c → is_read base c ≡ true
 is-read base c (inl h) = or_left (are_read (terms_of base) c) (are_read (conditions_of base) c) (are-terms (terms_of base) c h)

@@ -1,5 +1,6 @@
 -- Marks after some are set or taken away.
-use Rattle.std.proofs.Common.{◌≡◌, ℕ, zero, suc, ◌<◌, Bool, true, false, eqb, List, [], ◌∷◌, length, get_or, set, map, replicate, All, refl, ap, sym, ◌∙◌, arith}
+use Rattle.std.proofs.Common.{◌≡◌, ℕ, zero, suc, ◌<◌, Bool, true, false, eqb, List, [], ◌∷◌, length, get_or, set, map, replicate, All, refl, ap, sym, ◌∙◌}
+use Rattle.std.proofs.Common.{arith}
 use Rattle.std.specs.Prelude.{◌||◌, ◌&&◌, not}
 use Rattle.std.specs.List.{list_any}
 use Rattle.std.proofs.lemmas.Bool.{ne_eqb}
@@ -38,7 +39,8 @@ set-false (m ∷ ms) (suc n) zero = and-true m ∙ ap (λ b. m && not b) (sym (n
 set-false (m ∷ ms) (suc n) (suc c) = set-false ms n c ∙ ap (λ b. get_or ms c false && not b) (same-next c n)
 
 -- the marks of the cells that have no definition stay
-pub cleared-at : (ds : List Definition) (marks : List Bool) (c : ℕ) → get_or (cleared ds marks) c false ≡ (get_or marks c false && not (is_among c (map (λ d. d.0) ds)))
+pub cleared-at : (ds : List Definition) (marks : List Bool) (c : ℕ)
+    → get_or (cleared ds marks) c false ≡ (get_or marks c false && not (is_among c (map (λ d. d.0) ds)))
 cleared-at [] marks c = and-true (get_or marks c false)
 cleared-at (d ∷ ds) marks c =
     cleared-at ds (set marks d.0 false) c ∙ ap (λ b. b && not (is_among c (map (λ d. d.0) ds))) (set-false marks d.0 c)
@@ -57,7 +59,8 @@ set-true (m ∷ ms) (suc n) zero h = ap (λ b. b || m) (sym (ne_eqb 0 (suc n) (�
 set-true (m ∷ ms) (suc n) (suc c) h = set-true ms n c (omega (arith, h)) ∙ ap (λ b. b || get_or ms c false) (same-next c n)
 
 -- the inputs that a node is are marked
-pub used-at : (nodes : List Node) (marks : List Bool) (c : ℕ) → c < length marks → get_or (with_inputs nodes marks) c false ≡ (get_or marks c false || list_any (is_input_node c) nodes)
+pub used-at : (nodes : List Node) (marks : List Bool) (c : ℕ) → c < length marks
+    → get_or (with_inputs nodes marks) c false ≡ (get_or marks c false || list_any (is_input_node c) nodes)
 used-at [] marks c h = by (get_or marks c false)
   where
     by : (b : Bool) → b ≡ (b || false)

@@ -1,5 +1,6 @@
 -- Distinct names, one after another.
-use Rattle.std.proofs.Common.{◌≡◌, ℕ, ◌+◌, ◌<◌, zero, suc, Bool, true, false, not, cond, List, [], ◌∷◌, ◌++◌, length, take, get_or, Some, refl, sym, subst, ap, ◌∙◌, inl, inr, length-take, arith}
+use Rattle.std.proofs.Common.{◌≡◌, ℕ, ◌+◌, ◌<◌, zero, suc, Bool, true, false, not, cond, List, [], ◌∷◌, ◌++◌, length, take, get_or, Some, refl, sym, subst, ap}
+use Rattle.std.proofs.Common.{◌∙◌, inl, inr, length-take, arith}
 use mathlib.Core.Bool.{◌||◌}
 use Rattle.std.specs.Str.{bytes_eq}
 use Rattle.std.proofs.lemmas.Bool.{or_parts, or_from, or_cases, not-true, false_from_ne_true, false≢true}
@@ -34,7 +35,8 @@ twice x (y ∷ xs) ys h d =
 -- a name that is neither among names nor after them
 has-push : (y x : List ℕ) (xs : List (List ℕ)) → has y xs ≡ false → bytes_eq y x ≡ false → has y (xs ++ x ∷ []) ≡ false
 has-push y x [] h e = or_from (bytes_eq y x) false e refl
-has-push y x (z ∷ xs) h e = or_from (bytes_eq y z) (has y (xs ++ x ∷ [])) (or_parts (bytes_eq y z) (has y xs) h).0 (has-push y x xs (or_parts (bytes_eq y z) (has y xs) h).1 e)
+has-push y x (z ∷ xs) h e = or_from (bytes_eq y z) (has y (xs ++ x ∷ [])) (or_parts (bytes_eq y z) (has y xs) h).0
+    (has-push y x xs (or_parts (bytes_eq y z) (has y xs) h).1 e)
 
 -- a new name after distinct ones
 pub AreDistinct-push : (x : List ℕ) (xs : List (List ℕ)) → AreDistinct xs → has x xs ≡ false → AreDistinct (xs ++ x ∷ [])
@@ -43,7 +45,8 @@ AreDistinct-push x (y ∷ xs) d h =
     (has-push y x xs d.0 (bytes_eq-flip x y (or_parts (bytes_eq x y) (has x xs) h).0), AreDistinct-push x xs d.1 (or_parts (bytes_eq x y) (has x xs) h).1)
 
 -- a name that was added and is new leaves names distinct
-pub AreDistinct-added : (old new : List (List ℕ)) (name : List ℕ) (fresh : Bool) → fresh ≡ true → fresh ≡ not (has name old) → new ≡ cond fresh (old ++ name ∷ []) old → AreDistinct old → AreDistinct new
+pub AreDistinct-added : (old new : List (List ℕ)) (name : List ℕ) (fresh : Bool) → fresh ≡ true → fresh ≡ not (has name old)
+    → new ≡ cond fresh (old ++ name ∷ []) old → AreDistinct old → AreDistinct new
 AreDistinct-added old new name fresh t f e a =
     subst AreDistinct (sym (e ∙ ap (λ b. cond b (old ++ name ∷ []) old) t)) (AreDistinct-push name old a (not-true (has name old) (sym f ∙ t)))
 
@@ -61,7 +64,8 @@ has-take (n ∷ ns) (suc i) d h l =
     or_from _ _ (bytes_eq-flip n (get_or ns i d) (has-get_or n ns i d h.0 (omega arith))) (has-take ns i d h.1 (omega arith))
 
 -- the names that were added are those before the next one
-pub take-added : (names : List (List ℕ)) (i : ℕ) {known new : List (List ℕ)} {name : List ℕ} {fresh : Bool} (d : List ℕ) → AreDistinct names → i < length names → known ≡ take i names → name ≡ get_or names i d
+pub take-added : (names : List (List ℕ)) (i : ℕ) {known new : List (List ℕ)} {name : List ℕ} {fresh : Bool} (d : List ℕ) → AreDistinct names → i < length names
+    → known ≡ take i names → name ≡ get_or names i d
     → fresh ≡ not (has name known) → new ≡ cond fresh (known ++ name ∷ []) known → new ≡ take (i + 1) names
 take-added names i {known} {new} {name} {fresh} d distinct l k n f e =
     let unknown : has name known ≡ false = (λ j. has (n j) (k j)) ∙ has-take names i d distinct l in
@@ -69,7 +73,8 @@ take-added names i {known} {new} {name} {fresh} d distinct l k n f e =
     e ∙ ap (λ b. cond b (known ++ name ∷ []) known) is_fresh ∙ (λ j. k j ++ n j ∷ []) ∙ sym (take_more names i d l)
 
 -- what is added and is new leaves the names those before the next one, and distinct
-pub distinct_added : (names : List (List ℕ)) (i : ℕ) {known new : List (List ℕ)} {name : List ℕ} {fresh : Bool} (d : List ℕ) → i < length names → known ≡ take i names → AreDistinct known → name ≡ get_or names i d
+pub distinct_added : (names : List (List ℕ)) (i : ℕ) {known new : List (List ℕ)} {name : List ℕ} {fresh : Bool} (d : List ℕ) → i < length names
+    → known ≡ take i names → AreDistinct known → name ≡ get_or names i d
     → fresh ≡ not (has name known) → fresh ≡ true → new ≡ cond fresh (known ++ name ∷ []) known → (new ≡ take (i + 1) names) × AreDistinct new
 distinct_added names i {known} {new} {name} {fresh} d l k distinct n f is_fresh e = (
   e ∙ ap (λ b. cond b (known ++ name ∷ []) known) is_fresh ∙ (λ j. k j ++ n j ∷ []) ∙ sym (take_more names i d l),
@@ -81,8 +86,10 @@ not_not true h = refl
 not_not false h = sym h
 
 -- what is added and isn't new is the first name that stands again
-pub first_repeat : (names : List (List ℕ)) (i earlier later : ℕ) {known : List (List ℕ)} {name : List ℕ} {fresh : Bool} (d : List ℕ) → i < length names → known ≡ take i names → AreDistinct known → name ≡ get_or names i d
-    → later ≡ length known → fresh ≡ not (has name known) → fresh ≡ false → (has name known ≡ true → index_of name known ≡ Some earlier) → IsFirstRepeat names earlier later
+pub first_repeat : (names : List (List ℕ)) (i earlier later : ℕ) {known : List (List ℕ)} {name : List ℕ} {fresh : Bool} (d : List ℕ) → i < length names
+    → known ≡ take i names → AreDistinct known → name ≡ get_or names i d
+    → later ≡ length known → fresh ≡ not (has name known) → fresh ≡ false → (has name known ≡ true → index_of name known ≡ Some earlier)
+    → IsFirstRepeat names earlier later
 first_repeat names i earlier later {known} {name} {fresh} d l k distinct n e f not_fresh number =
     let place : later ≡ i = omega (arith, e, ap length k, length-take i names) in
     let front : known ≡ take later names = k ∙ ap (λ j. take j names) (sym place) in

@@ -20,10 +20,11 @@ positive : (n : ℕ) → ltb 0 (suc n) ≡ true
 positive n = grind (arith, nat_tests)
 
 pub position-cons : {X : Type 0} (p : X → Bool) (x : X) (xs : List X) → position p (x ∷ xs) ≡ cond (p x) (Some 0) (option_map (λ i. i + 1) (position p xs))
-position-cons p x xs = elim (p x) as (λ b. cond (ltb (cond (not b) (1 + position_or_len p xs) 0) (length (x ∷ xs))) (Some (cond (not b) (1 + position_or_len p xs) 0)) None ≡ cond b (Some 0) (option_map (λ i. i + 1) (position p xs))) [
-  | true ↦ ap (λ b. cond b (Some 0) None) (positive (length xs))
-  | false ↦ shifted _ _ (position_or_len p xs) (grind (arith, nat_tests))
-]
+position-cons p x xs = elim (p x) as (λ b. cond (ltb (cond (not b) (1 + position_or_len p xs) 0) (length (x ∷ xs)))
+    (Some (cond (not b) (1 + position_or_len p xs) 0)) None ≡ cond b (Some 0) (option_map (λ i. i + 1) (position p xs))) [
+      | true ↦ ap (λ b. cond b (Some 0) None) (positive (length xs))
+      | false ↦ shifted _ _ (position_or_len p xs) (grind (arith, nat_tests))
+    ]
 
 pub has-keys : {K : Type 0} (bytes : K → List ℕ) (name : List ℕ) (ks : List K) → list_any (λ k. bytes_eq name (bytes k)) ks ≡ has name (map bytes ks)
 has-keys bytes name [] = refl
@@ -31,7 +32,8 @@ has-keys bytes name (k ∷ ks) = ap (λ b. bytes_eq name (bytes k) || b) (has-ke
 
 pub index_of-keys : {K : Type 0} (bytes : K → List ℕ) (name : List ℕ) (ks : List K) → position (λ k. bytes_eq name (bytes k)) ks ≡ index_of name (map bytes ks)
 index_of-keys bytes name [] = refl
-index_of-keys bytes name (k ∷ ks) = position-cons (λ x. bytes_eq name (bytes x)) k ks ∙ ap (λ o. cond (bytes_eq name (bytes k)) (Some 0) (option_map (λ i. i + 1) o)) (index_of-keys bytes name ks)
+index_of-keys bytes name (k ∷ ks) = position-cons (λ x. bytes_eq name (bytes x)) k ks
+    ∙ ap (λ o. cond (bytes_eq name (bytes k)) (Some 0) (option_map (λ i. i + 1) o)) (index_of-keys bytes name ks)
 
 -- where there is a place at all, it is this one
 only_place : (b : Bool) (n : ℕ) (o : Option ℕ) → cond b (Some n) None ≡ o → (o ≡ None → ⊥) → o ≡ Some n
@@ -39,6 +41,7 @@ only_place true n o e f = sym e
 only_place false n o e f = absurd (f (sym e))
 
 -- the number of a name that is there
-pub index_of-known : {K : Type 0} (bytes : K → List ℕ) (name : List ℕ) (ks : List K) → has name (map bytes ks) ≡ true → index_of name (map bytes ks) ≡ Some (position_or_len (λ k. bytes_eq name (bytes k)) ks)
+pub index_of-known : {K : Type 0} (bytes : K → List ℕ) (name : List ℕ) (ks : List K) → has name (map bytes ks) ≡ true
+    → index_of name (map bytes ks) ≡ Some (position_or_len (λ k. bytes_eq name (bytes k)) ks)
 index_of-known bytes name ks h =
     only_place _ _ (index_of name (map bytes ks)) (index_of-keys bytes name ks) (λ e. false≢true (sym (index_of-none name (map bytes ks) e) ∙ h))

@@ -1,5 +1,6 @@
 -- Names, and lists of variables by their names.
-use Rattle.std.proofs.Common.{◌≡◌, ℕ, ◌+◌, ◌<◌, Bool, true, false, not, cond, suc, List, [], ◌∷◌, ◌++◌, length, Option, Some, None, refl, sym, ◌∙◌, subst, arith, add-one}
+use Rattle.std.proofs.Common.{◌≡◌, ℕ, ◌+◌, ◌<◌, Bool, true, false, not, cond, suc, List, [], ◌∷◌, ◌++◌, length, Option, Some, None, refl, sym, ◌∙◌, subst}
+use Rattle.std.proofs.Common.{arith, add-one}
 use mathlib.Core.Bool.{◌||◌, ◌&&◌}
 use Rattle.std.specs.Option.{option_map}
 use Rattle.std.specs.Str.{bytes_eq}
@@ -67,7 +68,8 @@ pub index_of-none : (x : List ℕ) (ns : List (List ℕ)) → index_of x ns ≡ 
 index_of-none x [] e = refl
 index_of-none x (n ∷ ns) e = absent (bytes_eq x n) (index_of x ns) (has x ns) e (index_of-none x ns)
 
-present : (b : Bool) (o : Option ℕ) (c : Bool) (n j : ℕ) → cond b (Some 0) (option_map (λ i. i + 1) o) ≡ Some j → ((i : ℕ) → o ≡ Some i → (c ≡ true) × (i < n)) → ((b || c) ≡ true) × (j < suc n)
+present : (b : Bool) (o : Option ℕ) (c : Bool) (n j : ℕ) → cond b (Some 0) (option_map (λ i. i + 1) o) ≡ Some j → ((i : ℕ) → o ≡ Some i → (c ≡ true) × (i < n))
+    → ((b || c) ≡ true) × (j < suc n)
 present true o c n j e f = let h : 0 ≡ j = cc in (refl, omega arith)
 present false o c n j e f =
     let s = shifted-some o j e in

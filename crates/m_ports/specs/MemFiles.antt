@@ -1,5 +1,6 @@
 -- What files in memory answer.
-use Rattle.std.specs.Prelude.{◌≡◌, ◌⊎◌, ℕ, ◌+◌, Bool, true, false, if◌then◌else◌, nat_le, bytes_eq, List, length, find, Option, None, Some, Result, Ok, Err, MatchResult, Vec, option_map}
+use Rattle.std.specs.Prelude.{◌≡◌, ◌⊎◌, ℕ, ◌+◌, Bool, true, false, if◌then◌else◌, nat_le, bytes_eq, List, length, find, Option, None, Some, Result, Ok, Err}
+use Rattle.std.specs.Prelude.{MatchResult, Vec, option_map}
 use Rattle.std.specs.declared.alloc.Global.{Global}
 use Rattle.m_ports.specs.declared.files.FetchFault.{FetchFault}
 use Rattle.m_ports.specs.declared.files.FetchFault.TheVariants.{Failed, TooLong, Memory}

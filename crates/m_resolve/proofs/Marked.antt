@@ -18,13 +18,17 @@ was_new true e = absurd (cc)
 was_new false e = cc
 
 -- a cell that an earlier definition has
-pub twice : (d : Declared) (place : Place) (earlier : List ℕ) (cell : ℕ) (stated : Result ℕ ResolveFault) → stated ≡ Ok cell → false ≡ not (is_among cell earlier)
+pub twice : (d : Declared) (place : Place) (earlier : List ℕ) (cell : ℕ) (stated : Result ℕ ResolveFault) → stated ≡ Ok cell
+    → false ≡ not (is_among cell earlier)
     → if_resolved (new_target d place earlier) stated ≡ Err (DefinedTwice (cell_name d cell) place)
 twice d place earlier cell stated s m =
-    ap (if_resolved (new_target d place earlier)) s ∙ ap (λ b. cond b (Err (DefinedTwice (cell_name d cell) place)) (Ok cell)) (was_marked (is_among cell earlier) m)
+    ap (if_resolved (new_target d place earlier)) s ∙ ap (λ b. cond b (Err (DefinedTwice (cell_name d cell) place)) (Ok cell))
+    (was_marked (is_among cell earlier) m)
 
 -- a cell that none has
-pub first_time : (d : Declared) (place : Place) (earlier : List ℕ) (cell : ℕ) (stated : Result ℕ ResolveFault) → stated ≡ Ok cell → true ≡ not (is_among cell earlier)
+pub first_time : (d : Declared) (place : Place) (earlier : List ℕ) (cell : ℕ) (stated : Result ℕ ResolveFault) → stated ≡ Ok cell
+    → true ≡ not (is_among cell earlier)
     → if_resolved (new_target d place earlier) stated ≡ Ok cell
 first_time d place earlier cell stated s m =
-    ap (if_resolved (new_target d place earlier)) s ∙ ap (λ b. cond b (Err (DefinedTwice (cell_name d cell) place)) (Ok cell)) (was_new (is_among cell earlier) m)
+    ap (if_resolved (new_target d place earlier)) s ∙ ap (λ b. cond b (Err (DefinedTwice (cell_name d cell) place)) (Ok cell))
+    (was_new (is_among cell earlier) m)

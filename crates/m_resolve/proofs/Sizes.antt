@@ -16,7 +16,8 @@ link_size [] i a h e = absurd (omega arith)
 link_size (b ∷ all) zero a h e = omega (arith, ap (λ (l : PLink). nodes l.term) e)
 link_size (b ∷ all) (suc i) a h e = let k = link_size all i a (omega (arith, h)) e in omega (arith, k)
 
-pub member_size : (all : List PMember) (i : ℕ) (a : PMember) → i < length all → a ≡ get_or all i a → nodes a.low + nodes a.high + 1 ≤ nodes_of_members (members_of all)
+pub member_size : (all : List PMember) (i : ℕ) (a : PMember) → i < length all → a ≡ get_or all i a
+    → nodes a.low + nodes a.high + 1 ≤ nodes_of_members (members_of all)
 member_size [] i a h e = absurd (omega arith)
 member_size (b ∷ all) zero a h e = omega (arith, ap (λ (m : PMember). nodes m.low) e, ap (λ (m : PMember). nodes m.high) e)
 member_size (b ∷ all) (suc i) a h e = let k = member_size all i a (omega (arith, h)) e in omega (arith, k)

@@ -1,5 +1,6 @@
 -- The cell of a target is among those that are declared.
-use Rattle.std.proofs.Common.{◌≡◌, ◌≤◌, ◌<◌, ◌+◌, ℕ, Bool, true, false, cond, nat_lt, List, length, Option, None, Some, Result, Ok, Err, refl, sym, ap, ◌∙◌, subst, arith, slice_get}
+use Rattle.std.proofs.Common.{◌≡◌, ◌≤◌, ◌<◌, ◌+◌, ℕ, Bool, true, false, cond, nat_lt, List, length, Option, None, Some, Result, Ok, Err, refl, sym, ap, ◌∙◌}
+use Rattle.std.proofs.Common.{subst, arith, slice_get}
 use Rattle.std.specs.Prelude.{IfOk, IfSome}
 use Rattle.std.specs.Option.{option_and_then}
 use Rattle.std.proofs.lemmas.Bool.{ltb-true}
@@ -29,17 +30,20 @@ at_place vs (Some i) v e = (i, e)
 pub named_at : (d : Declared) (name : List ℕ) (v : Variable) → variable_named d name ≡ Some v → (i : ℕ) × (slice_get d.variables i ≡ Some v)
 named_at d name v e = at_place d.variables (index_of name (names_of d.variables)) v e
 
-pub named_fits : (d : Declared) (name : List ℕ) (count : ℕ) (v : Variable) → IsPlaced d → variable_named d name ≡ Some v → count ≡ length (owners_from 0 d.variables) → v.first_cell + v.cells ≤ count
+pub named_fits : (d : Declared) (name : List ℕ) (count : ℕ) (v : Variable) → IsPlaced d → variable_named d name ≡ Some v
+    → count ≡ length (owners_from 0 d.variables) → v.first_cell + v.cells ≤ count
 named_fits d name count v p e c = let k = named_at d name v e in fits d k.0 count v p k.1 c
 
 pub named_sized : (d : Declared) (name : List ℕ) (v : Variable) → IsPlaced d → variable_named d name ≡ Some v → IfSome (variable_size v.item) (λ s. v.cells ≡ s)
 named_sized d name v p e = let k = named_at d name v e in table_sized d k.0 v p k.1
 
-in_table : (name : List ℕ) (place : Place) (first size all k : ℕ) (b : Bool) → nat_lt k size ≡ b → first + size ≤ all → IfOk (cond b (Ok (first + k)) (Err (BadTarget name place))) (λ c. c < all)
+in_table : (name : List ℕ) (place : Place) (first size all k : ℕ) (b : Bool) → nat_lt k size ≡ b → first + size ≤ all
+    → IfOk (cond b (Ok (first + k)) (Err (BadTarget name place))) (λ c. c < all)
 in_table name place first size all k true e h = let l = ltb-true k size e in omega (arith, h, l)
 in_table name place first size all k false e h = tt
 
-in_computed : (name : List ℕ) (place : Place) (first all cells : ℕ) (size : Option ℕ) (slot : Slot) → cells ≡ cells_in size → first + cells ≤ all → IfOk (computed_target name place first size slot) (λ c. c < all)
+in_computed : (name : List ℕ) (place : Place) (first all cells : ℕ) (size : Option ℕ) (slot : Slot) → cells ≡ cells_in size → first + cells ≤ all
+    → IfOk (computed_target name place first size slot) (λ c. c < all)
 in_computed name place first all cells None Whole e h = omega (arith, e, h)
 in_computed name place first all cells None (Cell k) e h = tt
 in_computed name place first all cells None Every e h = tt
@@ -47,7 +51,8 @@ in_computed name place first all cells (Some size) Whole e h = tt
 in_computed name place first all cells (Some size) (Cell k) e h = in_table name place first size all k (nat_lt k size) refl (omega (arith, e, h))
 in_computed name place first all cells (Some size) Every e h = tt
 
-in_variable : (name : List ℕ) (place : Place) (first all cells : ℕ) (slot : Slot) (role : Role) → cells ≡ cells_in (size_in role) → first + cells ≤ all → IfOk (target_in name place first slot role) (λ c. c < all)
+in_variable : (name : List ℕ) (place : Place) (first all cells : ℕ) (slot : Slot) (role : Role) → cells ≡ cells_in (size_in role) → first + cells ≤ all
+    → IfOk (target_in name place first slot role) (λ c. c < all)
 in_variable name place first all cells slot (Computed size) e h = in_computed name place first all cells size slot e h
 in_variable name place first all cells slot (Input code) e h = tt
 in_variable name place first all cells slot (Constant amount) e h = tt
@@ -55,18 +60,22 @@ in_variable name place first all cells slot (Constant amount) e h = tt
 if_target : (stated : Result ℕ ResolveFault) (cell all : ℕ) → stated ≡ Ok cell → IfOk stated (λ c. c < all) → cell < all
 if_target stated cell all e h = subst (λ r. IfOk r (λ c. c < all)) e h
 
-pub target_known : (d : Declared) (name : List ℕ) (place : Place) (slot : Slot) (v : Variable) (result : Result ℕ ResolveFault) → IsPlaced d → variable_named d name ≡ Some v
-    → Outcome Memory result (λ cell. target_in name place v.first_cell slot v.item.role ≡ Ok cell) (λ fault. target_in name place v.first_cell slot v.item.role ≡ Err fault)
+pub target_known : (d : Declared) (name : List ℕ) (place : Place) (slot : Slot) (v : Variable) (result : Result ℕ ResolveFault) → IsPlaced d
+    → variable_named d name ≡ Some v
+    → Outcome Memory result (λ cell. target_in name place v.first_cell slot v.item.role ≡ Ok cell)
+    (λ fault. target_in name place v.first_cell slot v.item.role ≡ Err fault)
     → IfOk result (λ c. c < length (owners_from 0 d.variables))
 target_known d name place slot v (Ok cell) p e o =
     let k = named_at d name v e in
     let m = placed_ends d k.0 v p k.1 in
     let all = length (owners_from 0 d.variables) in
-    if_target (target_in name place v.first_cell slot v.item.role) cell all o (in_variable name place v.first_cell all v.cells slot v.item.role m.cells (omega (arith, m.ends)))
+    if_target (target_in name place v.first_cell slot v.item.role) cell all o (in_variable name place v.first_cell all v.cells slot v.item.role m.cells
+    (omega (arith, m.ends)))
 target_known d name place slot v (Err fault) p e o = tt
 
 -- the cell of a definition's target is among those that are declared
-pub resolved_target_within : (d : Declared) (definition : Definition) (cell : ℕ) → IsPlaced d → resolved_target d definition ≡ Ok cell → cell < length (owners_from 0 d.variables)
+pub resolved_target_within : (d : Declared) (definition : Definition) (cell : ℕ) → IsPlaced d → resolved_target d definition ≡ Ok cell
+    → cell < length (owners_from 0 d.variables)
 resolved_target_within d definition cell p e = by_variable (variable_named d definition.target) refl
   where
     by_variable : (o : Option Variable) → variable_named d definition.target ≡ o → cell < length (owners_from 0 d.variables)
@@ -74,5 +83,7 @@ resolved_target_within d definition cell p e = by_variable (variable_named d def
     by_variable (Some v) n =
         let k = named_at d definition.target v n in
         let m = placed_ends d k.0 v p k.1 in
-        if_target (target_in definition.target definition.place v.first_cell definition.slot v.item.role) cell (length (owners_from 0 d.variables)) (sym (ap (target_of definition) n) ∙ e)
-        (in_variable definition.target definition.place v.first_cell (length (owners_from 0 d.variables)) v.cells definition.slot v.item.role m.cells (omega (arith, m.ends)))
+        if_target (target_in definition.target definition.place v.first_cell definition.slot v.item.role) cell (length (owners_from 0 d.variables))
+        (sym (ap (target_of definition) n) ∙ e)
+        (in_variable definition.target definition.place v.first_cell (length (owners_from 0 d.variables)) v.cells definition.slot v.item.role m.cells
+        (omega (arith, m.ends)))

@@ -10,14 +10,17 @@ use Rattle.m_resolve.specs.Bases.{resolved_label}
 use Rattle.m_resolve.specs.inner.Words.{words_of, label_with, resolved_with}
 
 -- the words of the errors so far, and of one more
-pub words_more : (errors : List ErrorItem) (i : ℕ) (e : ErrorItem) (before now : List ErrorWords) → i < length errors → slice_get errors i ≡ Some e → before ≡ map words_of (take i errors) → now ≡ before ++ words_of e ∷ []
+pub words_more : (errors : List ErrorItem) (i : ℕ) (e : ErrorItem) (before now : List ErrorWords) → i < length errors → slice_get errors i ≡ Some e
+    → before ≡ map words_of (take i errors) → now ≡ before ++ words_of e ∷ []
     → now ≡ map words_of (take (i + 1) errors)
 words_more errors i e before now h is b n =
-    let one : take (i + 1) errors ≡ take i errors ++ e ∷ [] = take_more errors i e h ∙ ap (λ w. take i errors ++ w ∷ []) (get_or_from_slice_get errors i e e is) in
+    let one : take (i + 1) errors ≡ take i errors ++ e ∷ [] = take_more errors i e h
+    ∙ ap (λ w. take i errors ++ w ∷ []) (get_or_from_slice_get errors i e e is) in
     n ∙ ap (λ l. l ++ words_of e ∷ []) b ∙ sym (map-append words_of (take i errors) (e ∷ [])) ∙ ap (map words_of) (sym one)
 
 -- the words at a place are those of the error there
-pub words_there : (errors : List ErrorItem) (all : List ErrorWords) (i : ℕ) (words : ErrorWords) → all ≡ map words_of errors → i < length errors → words ≡ get_or all i words → option_map words_of (slice_get errors i) ≡ Some words
+pub words_there : (errors : List ErrorItem) (all : List ErrorWords) (i : ℕ) (words : ErrorWords) → all ≡ map words_of errors → i < length errors
+    → words ≡ get_or all i words → option_map words_of (slice_get errors i) ≡ Some words
 words_there errors all i words e h is =
     let count : length all ≡ length errors = ap length e ∙ length-map errors words_of in
     sym (slice_get-map words_of errors i) ∙ ap (λ l. slice_get l i) (sym e) ∙ slice_get_read all (length errors) i words (sym count) h is

@@ -1,5 +1,6 @@
 -- The base of plain rules, or their first fault.
-use Rattle.std.specs.Prelude.{ℕ, ◌+◌, nat_lt, ◌==◌, Bool, true, false, ℤ, List, [], ◌∷◌, ◌++◌, length, map, drop, Option, Some, None, Result, Ok, Err, if◌then◌else◌, codes, slice_get}
+use Rattle.std.specs.Prelude.{ℕ, ◌+◌, nat_lt, ◌==◌, Bool, true, false, ℤ, List, [], ◌∷◌, ◌++◌, length, map, drop, Option, Some, None, Result, Ok, Err}
+use Rattle.std.specs.Prelude.{if◌then◌else◌, codes, slice_get}
 use Rattle.std.specs.List.{filter_map, flat_map}
 use Rattle.std.specs.Option.{option_and_then}
 use Rattle.m_places.specs.declared.place.Place.{Place}
@@ -77,7 +78,8 @@ resolved_definition declared before definition =
 -- definitions one after the other, after those that are said already
 abbrev pub resolved_definitions : Declared → List CellDefinition → List Definition → Result (List CellDefinition) ResolveFault
 resolved_definitions declared before [] = Ok before
-resolved_definitions declared before (d ∷ ds) = if_resolved (λ stated. resolved_definitions declared (before ++ stated ∷ []) ds) (resolved_definition declared before d)
+resolved_definitions declared before (d ∷ ds) = if_resolved (λ stated. resolved_definitions declared (before ++ stated ∷ []) ds)
+    (resolved_definition declared before d)
 
 -- ---- checks
 
@@ -112,12 +114,14 @@ Checks = List Check × List Label
 -- what a condition is: its term's faults come first, and then an unknown error
 abbrev pub with_condition : Declared → Checks → Condition → Result Checks ResolveFault
 with_condition declared before condition =
-    if_resolved (λ tree. if_resolved (λ label. Ok (before.0 ++ (tree, length before.1, condition.place) ∷ [], before.1 ++ label ∷ [])) (resolved_label condition (error_named declared condition.error)))
+    if_resolved (λ tree. if_resolved (λ label. Ok (before.0 ++ (tree, length before.1, condition.place) ∷ [], before.1 ++ label ∷ []))
+    (resolved_label condition (error_named declared condition.error)))
     (resolved_term declared condition.term)
 
 abbrev pub resolved_conditions : Declared → Checks → List Condition → Result Checks ResolveFault
 resolved_conditions declared before [] = Ok before
-resolved_conditions declared before (condition ∷ conditions) = if_resolved (λ stated. resolved_conditions declared stated conditions) (with_condition declared before condition)
+resolved_conditions declared before (condition ∷ conditions) = if_resolved (λ stated. resolved_conditions declared stated conditions)
+    (with_condition declared before condition)
 
 -- ---- the base
 
@@ -133,9 +137,16 @@ constants_of declared = filter_map (λ v. constant_in v.first_cell v.item.role) 
 
 abbrev pub base_with : Declared → List CellDefinition → Checks → Base
 base_with declared definitions checks =
-    record { cells = length (owners_from 0 declared.variables); constants = constants_of declared; definitions = definitions; checks = checks.0; labels = checks.1 }
+    record {
+      cells = length (owners_from 0 declared.variables);
+      constants = constants_of declared;
+      definitions = definitions;
+      checks = checks.0;
+      labels = checks.1;
+    }
 
 -- The base of plain rules over the cells of what is declared, or their first fault: all definitions come first, in order, and then all conditions.
 abbrev pub resolved : Declared → Plain → Result Base ResolveFault
 resolved declared plain =
-    if_resolved (λ definitions. if_resolved (λ checks. Ok (base_with declared definitions checks)) (resolved_conditions declared ([], []) plain.conditions)) (resolved_definitions declared [] plain.definitions)
+    if_resolved (λ definitions. if_resolved (λ checks. Ok (base_with declared definitions checks)) (resolved_conditions declared ([], []) plain.conditions))
+    (resolved_definitions declared [] plain.definitions)

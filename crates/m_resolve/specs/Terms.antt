@@ -4,7 +4,8 @@ use Rattle.m_fixed.specs.declared.operator.Op.TheVariants.{Eq, Ge, Le, And, Or, 
 use Rattle.m_fixed.specs.declared.amount.Value.TheVariants.{Undef}
 use Rattle.m_places.specs.declared.place.Place.{Place}
 use Rattle.m_ast.specs.Items.{variable_size}
-use Rattle.m_ast.specs.Syntax.{Syntax, lit, named, the_x, cell, apply, chain, among, loop, Terms, no_terms, a_term, Links, no_links, a_link, Members, no_members, a_member}
+use Rattle.m_ast.specs.Syntax.{Syntax, lit, named, the_x, cell, apply, chain, among, loop, Terms, no_terms, a_term, Links, no_links, a_link, Members}
+use Rattle.m_ast.specs.Syntax.{no_members, a_member}
 use Rattle.m_symbols.specs.declared.variable.Variable.{Variable}
 use Rattle.m_symbols.specs.Declarations.{Declared}
 use Rattle.micro_m.specs.Trees.{Tree, lit as lit_tree, cell as cell_tree, pick, apply as apply_tree, chain as chain_tree, none, more}
@@ -52,7 +53,8 @@ resolved_table declared name place = table_of_variable name place (variable_name
 
 abbrev pub member_by : Bool → Tree → Tree → Tree → Tree
 member_by true x low high = apply_tree Eq (more x (more low none))
-member_by false x low high = chain_tree (apply_tree Ge (more x (more low none))) (steps_of (record { op = And; term = apply_tree Le (more x (more high none)) } ∷ []))
+member_by false x low high = chain_tree (apply_tree Ge (more x (more low none)))
+    (steps_of (record { op = And; term = apply_tree Le (more x (more high none)) } ∷ []))
 
 -- members joined by `ou`, each with it: one member is that member itself
 abbrev pub any_of : List Step → Tree
@@ -78,10 +80,13 @@ abbrev mutual
   resolved_term declared (lit value) = Ok (lit_tree value)
   resolved_term declared (named name place) = if_resolved (λ c. Ok (cell_tree c)) (resolved_cell declared name place)
   resolved_term declared (the_x place) = Err (UnknownName x_name place)
-  resolved_term declared (cell name index place) = if_resolved (λ table. if_resolved (λ i. Ok (pick table.0 table.1 i)) (resolved_term declared index)) (resolved_table declared name place)
+  resolved_term declared (cell name index place) = if_resolved (λ table. if_resolved (λ i. Ok (pick table.0 table.1 i)) (resolved_term declared index))
+      (resolved_table declared name place)
   resolved_term declared (apply op all) = if_resolved (λ arguments. Ok (apply_tree op (trees_of arguments))) (resolved_terms declared [] all)
-  resolved_term declared (chain first links) = if_resolved (λ f. if_resolved (λ steps. Ok (chain_tree f (steps_of steps))) (resolved_links declared [] links)) (resolved_term declared first)
-  resolved_term declared (among negated x all) = if_resolved (λ t. if_resolved (λ members. Ok (membership negated members)) (resolved_members declared t [] all)) (resolved_term declared x)
+  resolved_term declared (chain first links) = if_resolved (λ f. if_resolved (λ steps. Ok (chain_tree f (steps_of steps))) (resolved_links declared [] links))
+      (resolved_term declared first)
+  resolved_term declared (among negated x all) = if_resolved
+      (λ t. if_resolved (λ members. Ok (membership negated members)) (resolved_members declared t [] all)) (resolved_term declared x)
   resolved_term declared (loop header body) = Ok (lit_tree Undef)
 
   -- terms one after the other, after those that are said already
@@ -91,7 +96,8 @@ abbrev mutual
 
   pub resolved_links : Declared → List Step → Links → Result (List Step) ResolveFault
   resolved_links declared before no_links = Ok before
-  resolved_links declared before (a_link op a rest) = if_resolved (λ t. resolved_links declared (before ++ record { op = op; term = t } ∷ []) rest) (resolved_term declared a)
+  resolved_links declared before (a_link op a rest) = if_resolved (λ t. resolved_links declared (before ++ record { op = op; term = t } ∷ []) rest)
+      (resolved_term declared a)
 
   -- members of a membership of this term, each with its `ou`
   pub resolved_members : Declared → Tree → List Step → Members → Result (List Step) ResolveFault
@@ -102,4 +108,5 @@ abbrev mutual
 
 -- what a member of a membership of this term is
 abbrev pub resolved_member : Declared → Tree → Syntax → Syntax → Result Tree ResolveFault
-resolved_member declared x low high = if_resolved (λ l. if_resolved (λ h. Ok (member_by (is_single low high) x l h)) (resolved_term declared high)) (resolved_term declared low)
+resolved_member declared x low high = if_resolved (λ l. if_resolved (λ h. Ok (member_by (is_single low high) x l h)) (resolved_term declared high))
+    (resolved_term declared low)

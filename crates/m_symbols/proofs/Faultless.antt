@@ -15,7 +15,8 @@ use Rattle.m_names.specs.Names.{has}
 use Rattle.m_symbols.specs.declared.variable.Variable.{Variable}
 use Rattle.m_symbols.specs.declared.fault.DeclareFault.{DeclareFault}
 use Rattle.m_symbols.specs.Declarations.{Declared, names_of, codes_of, error_names_of, owners_from}
-use Rattle.m_symbols.specs.Faults.{first_of, name_fault, code_fault, size_fault, cells_fault, variable_fault, error_fault, taken_code, paired_place, placed_name, placed_code, placed_error}
+use Rattle.m_symbols.specs.Faults.{first_of, name_fault, code_fault, size_fault, cells_fault, variable_fault, error_fault, taken_code, paired_place}
+use Rattle.m_symbols.specs.Faults.{placed_name, placed_code, placed_error}
 use Rattle.m_symbols.proofs.Found.{has-none, has_code-none}
 
 parts : (a b : Option DeclareFault) → first_of a b ≡ None → (a ≡ None) × (b ≡ None)

@@ -17,19 +17,24 @@ front : (items : List Item) (i : ℕ) (item : Item) → i < length items → ite
 front items i item l at = take_more items i item l ∙ ap (λ x. take i items ++ x ∷ []) (sym at)
 
 -- what is left, seen from the item that comes next
-opened : (items : List Item) (i : ℕ) (item : Item) (d : Declared) (all : Option DeclareFault) → i < length items → item ≡ get_or items i item → d ≡ declared_by (take i items) → fault_behind (take i items) (drop i items) ≡ all
+opened : (items : List Item) (i : ℕ) (item : Item) (d : Declared) (all : Option DeclareFault) → i < length items → item ≡ get_or items i item
+    → d ≡ declared_by (take i items) → fault_behind (take i items) (drop i items) ≡ all
     → first_of (fault_at d item) (fault_behind (take (i + 1) items) (drop (i + 1) items)) ≡ all
 opened items i item d all l at e h =
-    (λ k. first_of (fault_at (e k) item) (fault_behind (front items i item l at k) (drop (i + 1) items))) ∙ sym (ap (fault_behind (take i items)) (here items i item l at)) ∙ h
+    (λ k. first_of (fault_at (e k) item) (fault_behind (front items i item l at k) (drop (i + 1) items)))
+    ∙ sym (ap (fault_behind (take i items)) (here items i item l at)) ∙ h
 
-pub turn : (items : List Item) (i : ℕ) (item : Item) (d next : Declared) (all : Option DeclareFault) → i < length items → item ≡ get_or items i item → d ≡ declared_by (take i items) → fault_behind (take i items) (drop i items) ≡ all
-    → fault_at d item ≡ None → next ≡ with_item d item → (next ≡ declared_by (take (i + 1) items)) × (fault_behind (take (i + 1) items) (drop (i + 1) items) ≡ all)
+pub turn : (items : List Item) (i : ℕ) (item : Item) (d next : Declared) (all : Option DeclareFault) → i < length items → item ≡ get_or items i item
+    → d ≡ declared_by (take i items) → fault_behind (take i items) (drop i items) ≡ all
+    → fault_at d item ≡ None → next ≡ with_item d item → (next ≡ declared_by (take (i + 1) items))
+    × (fault_behind (take (i + 1) items) (drop (i + 1) items) ≡ all)
 turn items i item d next all l at e h f n = (
   n ∙ ap (λ x. with_item x item) e ∙ sym (declared-push (take i items) item) ∙ ap declared_by (sym (front items i item l at)),
   ap (λ x. first_of x (fault_behind (take (i + 1) items) (drop (i + 1) items))) (sym f) ∙ opened items i item d all l at e h,
 )
 
-pub stop : (items : List Item) (i : ℕ) (item : Item) (d : Declared) (all : Option DeclareFault) (fault : DeclareFault) → i < length items → item ≡ get_or items i item → d ≡ declared_by (take i items) → fault_behind (take i items) (drop i items) ≡ all
+pub stop : (items : List Item) (i : ℕ) (item : Item) (d : Declared) (all : Option DeclareFault) (fault : DeclareFault) → i < length items
+    → item ≡ get_or items i item → d ≡ declared_by (take i items) → fault_behind (take i items) (drop i items) ≡ all
     → fault_at d item ≡ Some fault → all ≡ Some fault
 stop items i item d all fault l at e h f =
     sym (opened items i item d all l at e h) ∙ ap (λ x. first_of x (fault_behind (take (i + 1) items) (drop (i + 1) items))) f

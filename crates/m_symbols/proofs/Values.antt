@@ -1,5 +1,6 @@
 -- The last pair with an attribute, from turn to turn.
-use Rattle.std.proofs.Common.{◌≡◌, ℕ, ◌+◌, ◌<◌, zero, suc, Bool, true, false, cond, List, [], ◌∷◌, length, drop, get_or, Option, Some, None, refl, sym, ap, ◌∙◌, subst, add-one, arith}
+use Rattle.std.proofs.Common.{◌≡◌, ℕ, ◌+◌, ◌<◌, zero, suc, Bool, true, false, cond, List, [], ◌∷◌, length, drop, get_or, Option, Some, None, refl, sym, ap, ◌∙◌}
+use Rattle.std.proofs.Common.{subst, add-one, arith}
 use Rattle.std.specs.Prelude.{ℤ}
 use Rattle.std.specs.Option.{option_or}
 use Rattle.std.specs.Str.{bytes_eq}
@@ -12,7 +13,8 @@ later None last true value = refl
 later None last false value = refl
 
 -- with a further pair
-pub kept : (a : List ℕ) (ps : List (List ℕ × ℤ)) (i : ℕ) (pair : List ℕ × ℤ) (b : Bool) (last next all : Option ℤ) → i < length ps → pair ≡ get_or ps i pair → bytes_eq a pair.0 ≡ b → next ≡ cond b (Some pair.1) last
+pub kept : (a : List ℕ) (ps : List (List ℕ × ℤ)) (i : ℕ) (pair : List ℕ × ℤ) (b : Bool) (last next all : Option ℤ) → i < length ps → pair ≡ get_or ps i pair
+    → bytes_eq a pair.0 ≡ b → next ≡ cond b (Some pair.1) last
     → option_or (last_value a (drop i ps)) last ≡ all → option_or (last_value a (drop (i + 1) ps)) next ≡ all
 kept a ps i pair b last next all l at e n h =
     let front : drop i ps ≡ pair ∷ drop (i + 1) ps = (let one : suc i ≡ i + 1 = omega arith in drop-cons ps i pair l ∙ (λ k. sym at k ∷ drop (one k) ps)) in

@@ -1,5 +1,6 @@
 -- What the laws say of the answers of the public calls.
-use Rattle.std.proofs.Common.{◌≡◌, ◌<◌, ◌≤◌, ◌+◌, ◌-◌, ℕ, Bool, true, false, List, [], ◌∷◌, length, drop, Option, Some, None, Result, Ok, Err, refl, sym, ap, ◌∙◌, subst, lit<, arith, length-drop, take}
+use Rattle.std.proofs.Common.{◌≡◌, ◌<◌, ◌≤◌, ◌+◌, ◌-◌, ℕ, Bool, true, false, List, [], ◌∷◌, length, drop, Option, Some, None, Result, Ok, Err, refl, sym, ap}
+use Rattle.std.proofs.Common.{◌∙◌, subst, lit<, arith, length-drop, take}
 use Rattle.std.proofs.lemmas.List.{drop-drop, take_all}
 use Rattle.std.specs.Result.{IsErrAnd}
 use Rattle.m_places.specs.Refusals.{Outcome}
@@ -27,7 +28,8 @@ use Rattle.m_terms.proofs.HeaderLaws.{grip_of, Loose, header_sound, header_passe
 use Rattle.m_terms.proofs.TermLaws.{tightness, Below, inner_sound, inner_passes, inner_complete, expr_sound, expr_passes, expr_complete}
 
 -- a fault of the inner reader, handed on
-pub failed : {A B : Type 0} {p : Option A} (good : B → Type 0) {bad : Type 0} (result : Result B TermFault) (e : TermFault) → IsErrAnd result (λ x. x ≡ e) → (p ≡ None → bad) → Fails e p → Outcome Memory result good (λ fault. bad)
+pub failed : {A B : Type 0} {p : Option A} (good : B → Type 0) {bad : Type 0} (result : Result B TermFault) (e : TermFault) → IsErrAnd result (λ x. x ≡ e)
+    → (p ≡ None → bad) → Fails e p → Outcome Memory result good (λ fault. bad)
 failed good (Ok x) e h k f = absurd h
 failed good (Err x) NoTerm h k f = λ other. k f
 failed good (Err x) Memory h k f = λ other. absurd (other h)
@@ -40,7 +42,8 @@ found {P = P} {x = x} (here {x = y} p) e = let f : y ≡ x = cc in subst P f p
 
 -- the tokens from a position to the end, as a slice has them
 pub to_the_end : (tokens : List Token) (from : ℕ) → take (length tokens - from) (drop from tokens) ≡ drop from tokens
-to_the_end tokens from = take_all (length tokens - from) (drop from tokens) (let e : length (drop from tokens) ≡ length tokens - from = length-drop from tokens in omega arith)
+to_the_end tokens from = take_all (length tokens - from) (drop from tokens) (let e : length (drop from tokens) ≡ length tokens - from = length-drop from
+    tokens in omega arith)
 
 record IsWithinCount (tokens rest : List Token) (from : ℕ) : Type 0 where
   onward : from < length tokens - length rest
@@ -62,7 +65,8 @@ begun : (table : Token → Option (Unit {0})) (ts : List Token) → begins_by ta
 begun table [] e = absurd (cc)
 begun table (t ∷ ts) e = go (table t) refl e
   where
-    go : (b : Option (Unit {0})) → table t ≡ b → choose {A = Unit {0} × List Token} (choose b None (λ b. Some (b, ts))) false (λ o. true) ≡ true → BeginsBy table (t ∷ ts) × (0 < length (t ∷ ts))
+    go : (b : Option (Unit {0})) → table t ≡ b → choose {A = Unit {0} × List Token} (choose b None (λ b. Some (b, ts))) false (λ o. true) ≡ true
+        → BeginsBy table (t ∷ ts) × (0 < length (t ∷ ts))
     go None i e = absurd (cc)
     go (Some b) i e = ((ts, first i), omega arith)
 
@@ -90,12 +94,14 @@ abbrev term_at : List Token → Option (Syntax × List Token)
 term_at = expr_at (inner_at BRACKET_DEPTH)
 
 term_complete : {t : Syntax} {ts rest : List Token} → SpellsTerm t ts rest → BeginsBy follows rest → term_at ts ≡ Some (t, rest)
-term_complete d b = expr_complete (SpellsInner BRACKET_DEPTH) (inner_passes BRACKET_DEPTH) (inner_at BRACKET_DEPTH) (inner_complete BRACKET_DEPTH) _ _ _ d (first_below b.1)
+term_complete d b = expr_complete (SpellsInner BRACKET_DEPTH) (inner_passes BRACKET_DEPTH) (inner_at BRACKET_DEPTH) (inner_complete BRACKET_DEPTH) _ _ _ d
+    (first_below b.1)
 
 term_found : (ts : List Token) {t : Syntax} {rest : List Token} → term_at ts ≡ Some (t, rest) → SpellsTerm t ts rest
 term_found ts e = found (expr_sound (SpellsInner BRACKET_DEPTH) (inner_at BRACKET_DEPTH) (inner_sound BRACKET_DEPTH) ts) e
 
-pub term_is_marked : (tokens : List Token) (from : ℕ) {t : Syntax} {rest : List Token} → from ≤ length tokens → term_at (drop from tokens) ≡ Some (t, rest) → begins_by follows rest ≡ true → TermAt tokens from t (length tokens - length rest)
+pub term_is_marked : (tokens : List Token) (from : ℕ) {t : Syntax} {rest : List Token} → from ≤ length tokens → term_at (drop from tokens) ≡ Some (t, rest)
+    → begins_by follows rest ≡ true → TermAt tokens from t (length tokens - length rest)
 term_is_marked tokens from {t} {rest} h e b =
     let spelled : SpellsTerm t (drop from tokens) rest = term_found (drop from tokens) e in
     let s : IsWithinCount tokens rest from = stands tokens rest from h (expr_passes (SpellsInner BRACKET_DEPTH) (inner_passes BRACKET_DEPTH) _ _ _ spelled) in
@@ -110,7 +116,8 @@ term_is_marked tokens from {t} {rest} h e b =
 pub no_term_read : (tokens : List Token) (from : ℕ) → term_at (drop from tokens) ≡ None → NoTermAt tokens from
 no_term_read tokens from e = λ t to s. let f = term_complete s.spelled s.closed in absurd (cc)
 
-pub no_term_ends : (tokens : List Token) (from : ℕ) {t : Syntax} {rest : List Token} → term_at (drop from tokens) ≡ Some (t, rest) → begins_by follows rest ≡ false → NoTermAt tokens from
+pub no_term_ends : (tokens : List Token) (from : ℕ) {t : Syntax} {rest : List Token} → term_at (drop from tokens) ≡ Some (t, rest)
+    → begins_by follows rest ≡ false → NoTermAt tokens from
 no_term_ends tokens from {t} {rest} e b = λ u to s.
     let f : (t, rest) ≡ (u, drop to tokens) = same (sym e ∙ term_complete s.spelled s.closed) in
     let g : begins_by follows rest ≡ true = ap (λ (x : Syntax × List Token). begins_by follows x.1) f ∙ begins_true follows (drop to tokens) s.closed in
@@ -133,7 +140,8 @@ colon_loose _ b e = absurd (cc)
 first_loose : {b : Unit {0}} {ts rest : List Token} → First (is_sign Colon) b ts rest → Loose 1 ts
 first_loose (first {t = t} e) = colon_loose t.kind _ e
 
-pub header_found : (tokens : List Token) (from : ℕ) {h : Header} {rest : List Token} → from ≤ length tokens → header_at (drop from tokens) ≡ Some (h, rest) → begins_by (is_sign Colon) rest ≡ true → HeaderAt tokens from h (length tokens - length rest)
+pub header_found : (tokens : List Token) (from : ℕ) {h : Header} {rest : List Token} → from ≤ length tokens → header_at (drop from tokens) ≡ Some (h, rest)
+    → begins_by (is_sign Colon) rest ≡ true → HeaderAt tokens from h (length tokens - length rest)
 header_found tokens from {h} {rest} l e b =
     let spelled : SpellsHeader h (drop from tokens) rest = found (header_sound (drop from tokens)) e in
     let s : IsWithinCount tokens rest from = stands tokens rest from l (header_passes _ _ _ spelled) in
@@ -148,17 +156,21 @@ header_found tokens from {h} {rest} l e b =
 pub no_header_read : (tokens : List Token) (from : ℕ) → header_at (drop from tokens) ≡ None → NoHeaderAt tokens from
 no_header_read tokens from e = λ h to s. let f = header_complete _ _ _ s.spelled (first_loose s.closed.1) in absurd (cc)
 
-pub no_header_ends : (tokens : List Token) (from : ℕ) {h : Header} {rest : List Token} → header_at (drop from tokens) ≡ Some (h, rest) → begins_by (is_sign Colon) rest ≡ false → NoHeaderAt tokens from
+pub no_header_ends : (tokens : List Token) (from : ℕ) {h : Header} {rest : List Token} → header_at (drop from tokens) ≡ Some (h, rest)
+    → begins_by (is_sign Colon) rest ≡ false → NoHeaderAt tokens from
 no_header_ends tokens from {h} {rest} e b = λ k to s.
     let f : (h, rest) ≡ (k, drop to tokens) = same (sym e ∙ header_complete _ _ _ s.spelled (first_loose s.closed.1)) in
-    let g : begins_by (is_sign Colon) rest ≡ true = ap (λ (x : Header × List Token). begins_by (is_sign Colon) x.1) f ∙ begins_true (is_sign Colon) (drop to tokens) s.closed in
+    let g : begins_by (is_sign Colon) rest ≡ true = ap (λ (x : Header × List Token). begins_by (is_sign Colon) x.1) f
+    ∙ begins_true (is_sign Colon) (drop to tokens) s.closed in
     clash g b
   where
     same : {x y : Header × List Token} → Some x ≡ Some y → x ≡ y
     same e = cc
 
-pub header_one : (h k : Header) (ts r s : List Token) → SpellsHeader h ts r → BeginsBy (is_sign Colon) r → SpellsHeader k ts s → BeginsBy (is_sign Colon) s → (h ≡ k) × (r ≡ s)
-header_one h k ts r s a b c d = let e : (h, r) ≡ (k, s) = same (sym (header_complete _ _ _ a (first_loose b.1)) ∙ header_complete _ _ _ c (first_loose d.1)) in ((λ i. (e i).0), (λ i. (e i).1))
+pub header_one : (h k : Header) (ts r s : List Token) → SpellsHeader h ts r → BeginsBy (is_sign Colon) r → SpellsHeader k ts s → BeginsBy (is_sign Colon) s
+    → (h ≡ k) × (r ≡ s)
+header_one h k ts r s a b c d = let e : (h, r) ≡ (k, s) = same (sym (header_complete _ _ _ a (first_loose b.1)) ∙ header_complete _ _ _ c (first_loose d.1)) in
+    ((λ i. (e i).0), (λ i. (e i).1))
   where
     same : {x y : Header × List Token} → Some x ≡ Some y → x ≡ y
     same e = cc

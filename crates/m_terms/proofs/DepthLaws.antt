@@ -14,10 +14,12 @@ not_below m n h = le-ltb m n h
 below : (m n : ℕ) → m < n → nat_lt m n ≡ true
 below m n h = lt-ltb m n h
 
-pub shallow_turn : (most k : ℕ) (ts : List Token) (i : ℕ) (t : Token) → i < length ts → t ≡ get_or ts i t → depth_behind k t.kind ≤ most → first_too_deep most k (drop i ts) ≡ first_too_deep most (depth_behind k t.kind) (drop (i + 1) ts)
+pub shallow_turn : (most k : ℕ) (ts : List Token) (i : ℕ) (t : Token) → i < length ts → t ≡ get_or ts i t → depth_behind k t.kind ≤ most
+    → first_too_deep most k (drop i ts) ≡ first_too_deep most (depth_behind k t.kind) (drop (i + 1) ts)
 shallow_turn most k ts i t h e s = rw (drop_next ts i t h e, not_below most (depth_behind k t.kind) s) refl
 
-pub deep_turn : (most k : ℕ) (ts : List Token) (i : ℕ) (t : Token) → i < length ts → t ≡ get_or ts i t → most < depth_behind k t.kind → first_too_deep most k (drop i ts) ≡ Some t.place
+pub deep_turn : (most k : ℕ) (ts : List Token) (i : ℕ) (t : Token) → i < length ts → t ≡ get_or ts i t → most < depth_behind k t.kind
+    → first_too_deep most k (drop i ts) ≡ Some t.place
 deep_turn most k ts i t h e s = rw (drop_next ts i t h e, below most (depth_behind k t.kind) s) refl
 
 drop_end : (xs : List Token) (i : ℕ) → length xs ≤ i → drop i xs ≡ []

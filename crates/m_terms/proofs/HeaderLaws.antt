@@ -12,7 +12,8 @@ use Rattle.m_ast.specs.declared.header.Span.{Span}
 use Rattle.m_terms.specs.declared.cursor.Mark.TheVariants.{OfKey, OfSign}
 use Rattle.m_lexer.specs.Chains.{First, first}
 use Rattle.m_terms.specs.Tokens.{is_sign, is_key, kind_is_sign, kind_is_key, Joined, joined}
-use Rattle.m_terms.specs.Headers.{point, point_of, letter, letter_of, letter_at_place, index, SpellsSpan, alone, range, SpellsValues, SpellsPlaces, bare, bracketed, SpellsAssigned, assigned, SpellsWalked, walked, SpellsHeader, by_signs, by_words}
+use Rattle.m_terms.specs.Headers.{point, point_of, letter, letter_of, letter_at_place, index, SpellsSpan, alone, range, SpellsValues, SpellsPlaces, bare}
+use Rattle.m_terms.specs.Headers.{bracketed, SpellsAssigned, assigned, SpellsWalked, walked, SpellsHeader, by_signs, by_words}
 use Rattle.m_lexer.specs.inner.Chains.{open_at, ◌>>=◌}
 use Rattle.m_terms.specs.inner.Reading.{mark_at, joined_at, span_at, values_at, places_at, assigned_at, walked_at, indexes_at, header_from, begins, header_at}
 use Rattle.m_lexer.proofs.ChainSound.{Each, absent, here, bind_each, choose_each, each_from, open_each, Sound}
@@ -85,8 +86,10 @@ pub comma_binds : (t : Token) (b : Unit {0}) (ts : List Token) → is_sign signs
 comma_binds t b ts e = comma_grips t.kind b e
 
 -- R { "," R }, for spans and for members
-pub commas_complete : {A : Type 0} (R : A → List Token → List Token → Type 0) (p : List Token → Option (A × List Token)) → Passes R → Complete (Loose 3) R p → Complete (Loose 2) (Joined (is_sign signs.Comma) R) (joined_at (is_sign signs.Comma) p)
-commas_complete R p passes complete = joined_complete (is_sign signs.Comma) R p (Loose 3) (Loose 2) passes complete comma_binds (λ ts h. omega arith) comma_closed
+pub commas_complete : {A : Type 0} (R : A → List Token → List Token → Type 0) (p : List Token → Option (A × List Token)) → Passes R → Complete (Loose 3) R p
+    → Complete (Loose 2) (Joined (is_sign signs.Comma) R) (joined_at (is_sign signs.Comma) p)
+commas_complete R p passes complete = joined_complete (is_sign signs.Comma) R p (Loose 3) (Loose 2) passes complete comma_binds (λ ts h. omega arith)
+    comma_closed
 
 -- Spans.
 span_sound : Sound SpellsSpan span_at
@@ -174,11 +177,13 @@ unfolding walked_at
 walked_complete _ _ _ (walked d f) h = rw (open_complete d, places_complete _ _ _ f h) refl
 
 -- Headers.
-signs_found : (is : List Index) {ts rest : List Token} → Joined (is_sign signs.Semicolon) SpellsAssigned is ts rest → Each (λ (h : Header × List Token). SpellsHeader h.0 ts h.1) (header_from is >>= λ h. Some (h, rest))
+signs_found : (is : List Index) {ts rest : List Token} → Joined (is_sign signs.Semicolon) SpellsAssigned is ts rest
+    → Each (λ (h : Header × List Token). SpellsHeader h.0 ts h.1) (header_from is >>= λ h. Some (h, rest))
 signs_found [] d = absent
 signs_found (i ∷ is) d = here (by_signs d)
 
-words_found : (is : List Index) {ts rest : List Token} → Joined (is_key keys.Et) SpellsWalked is ts rest → Each (λ (h : Header × List Token). SpellsHeader h.0 ts h.1) (header_from is >>= λ h. Some (h, rest))
+words_found : (is : List Index) {ts rest : List Token} → Joined (is_key keys.Et) SpellsWalked is ts rest
+    → Each (λ (h : Header × List Token). SpellsHeader h.0 ts h.1) (header_from is >>= λ h. Some (h, rest))
 words_found [] d = absent
 words_found (i ∷ is) d = here (by_words d)
 
@@ -207,6 +212,14 @@ words_un (joined (walked d f) c) = refl
 pub header_complete : Complete (Loose 1) SpellsHeader header_at
 unfolding header_at
 header_complete _ _ _ (by_signs d) h =
-    rw (signs_no_un d, joined_complete (is_sign signs.Semicolon) SpellsAssigned assigned_at (Loose 2) (Loose 1) assigned_passes assigned_complete (λ t b ts e. semicolon_grips t.kind b e) (λ ts h. omega arith) semicolon_closed _ _ _ d h) refl
+    rw (
+      signs_no_un d,
+      joined_complete (is_sign signs.Semicolon) SpellsAssigned assigned_at (Loose 2) (Loose 1) assigned_passes assigned_complete
+          (λ t b ts e. semicolon_grips t.kind b e) (λ ts h. omega arith) semicolon_closed _ _ _ d h,
+    ) refl
 header_complete _ _ _ (by_words d) h =
-    rw (words_un d, joined_complete (is_key keys.Et) SpellsWalked walked_at (Loose 2) (Loose 1) walked_passes walked_complete (λ t b ts e. et_grips t.kind b e) (λ ts h. omega arith) et_closed _ _ _ d h) refl
+    rw (
+      words_un d,
+      joined_complete (is_key keys.Et) SpellsWalked walked_at (Loose 2) (Loose 1) walked_passes walked_complete (λ t b ts e. et_grips t.kind b e)
+          (λ ts h. omega arith) et_closed _ _ _ d h,
+    ) refl

@@ -1,5 +1,6 @@
 -- Where no token is too deep, what is spelled at any depth is spelled within the bound.
-use Rattle.std.proofs.Common.{◌≡◌, ◌<◌, ◌≤◌, ◌+◌, ◌-◌, ℕ, zero, suc, Bool, true, false, cond, nat_lt, ◌∙◌, drop, List, [], ◌∷◌, Option, Some, None, refl, sym, subst, arith}
+use Rattle.std.proofs.Common.{◌≡◌, ◌<◌, ◌≤◌, ◌+◌, ◌-◌, ℕ, zero, suc, Bool, true, false, cond, nat_lt, ◌∙◌, drop, List, [], ◌∷◌, Option, Some, None, refl, sym}
+use Rattle.std.proofs.Common.{subst, arith}
 use Rattle.std.proofs.lemmas.Bool.{ltb-false}
 use Rattle.m_places.specs.declared.place.Place.{Place}
 use Rattle.m_places.specs.declared.limits.TheConstants.{BRACKET_DEPTH}
@@ -16,9 +17,14 @@ use Rattle.m_ast.specs.declared.term.Link.{Link}
 use Rattle.m_terms.specs.Depth.{depth_behind, first_too_deep}
 use Rattle.m_lexer.specs.Chains.{First, first, Chain, ended, further}
 use Rattle.m_terms.specs.Tokens.{at, sign, key, is_sign, is_key, kind_is_sign, kind_is_key, Joined, joined}
-use Rattle.m_terms.specs.Headers.{point, point_of, letter, letter_of, letter_at_place, SpellsSpan, SpellsValues, SpellsPlaces, SpellsAssigned, SpellsWalked, SpellsHeader, bare, bracketed, assigned, walked, by_signs, by_words}
+use Rattle.m_terms.specs.Headers.{point, point_of, letter, letter_of, letter_at_place, SpellsSpan, SpellsValues, SpellsPlaces, SpellsAssigned, SpellsWalked}
+use Rattle.m_terms.specs.Headers.{SpellsHeader, bare, bracketed, assigned, walked, by_signs, by_words}
 use Rattle.m_terms.specs.Headers.{alone as one_value, range as values_between}
-use Rattle.m_terms.specs.Grammar.{addition, addition_of, multiplication, multiplication_of, conjunction, conjunction_of, disjunction, disjunction_of, comparison, comparison_of, function_of, link, Gathered, gather, SpellsPrim, number, word, own, read, brackets, either, only, called, called_two, looped, SpellsFactor, plain, minus, SpellsProduct, SpellsSum, SpellsSigned, positive, negative, SpellsMember, amount, name, range, SpellsMembers, SpellsRelation, alone, compared, inside, outside, SpellsNegation, affirmed, negated, SpellsConjunction, SpellsExpr, SpellsInner}
+use Rattle.m_terms.specs.Grammar.{addition, addition_of, multiplication, multiplication_of, conjunction, conjunction_of, disjunction, disjunction_of}
+use Rattle.m_terms.specs.Grammar.{comparison, comparison_of, function_of, link, Gathered, gather, SpellsPrim, number, word, own, read, brackets, either, only}
+use Rattle.m_terms.specs.Grammar.{called, called_two, looped, SpellsFactor, plain, minus, SpellsProduct, SpellsSum, SpellsSigned, positive, negative}
+use Rattle.m_terms.specs.Grammar.{SpellsMember, amount, name, range, SpellsMembers, SpellsRelation, alone, compared, inside, outside, SpellsNegation, affirmed}
+use Rattle.m_terms.specs.Grammar.{negated, SpellsConjunction, SpellsExpr, SpellsInner}
 
 -- no token is too deep, where the depth before the first one is k
 record Clear (k : ℕ) (ts : List Token) : Type 0 where
@@ -32,7 +38,8 @@ record Onward (k : ℕ) (ts : List Token) : Type 0 where
 step : (k : ℕ) (t : Token) (ts : List Token) → Clear k (t ∷ ts) → Onward (depth_behind k t.kind) ts
 step k t ts h = go (nat_lt BRACKET_DEPTH (depth_behind k t.kind)) refl h.none
   where
-    go : (b : Bool) → nat_lt BRACKET_DEPTH (depth_behind k t.kind) ≡ b → cond b (Some t.place) (first_too_deep BRACKET_DEPTH (depth_behind k t.kind) ts) ≡ None → Onward (depth_behind k t.kind) ts
+    go : (b : Bool) → nat_lt BRACKET_DEPTH (depth_behind k t.kind) ≡ b → cond b (Some t.place) (first_too_deep BRACKET_DEPTH (depth_behind k t.kind) ts) ≡ None
+        → Onward (depth_behind k t.kind) ts
     go true e h = absurd (cc)
     go false e h = record { shallow = ltb-false BRACKET_DEPTH (depth_behind k t.kind) e; clear = record { none = h } }
 
@@ -137,11 +144,14 @@ Keeps {A} R = (k : ℕ) (x : A) (ts rest : List Token) → R x ts rest → Clear
 first_keeps : {B : Type 0} (table : Token → Option B) → ((t : Token) (b : B) → table t ≡ Some b → turns t.kind ≡ false) → Keeps (First table)
 first_keeps table quiet k _ _ _ (first {t = t} e) h = pass k t _ (quiet t _ e) h
 
-chain_keeps : {A : Type 0} (opens : Token → Option (Unit {0})) (R : A → List Token → List Token → Type 0) → ((t : Token) (b : Unit {0}) → opens t ≡ Some b → turns t.kind ≡ false) → Keeps R → (k : ℕ) {xs : List A} {ts rest : List Token} → Chain opens (λ _ x. x) R xs ts rest → Clear k ts → Clear k rest
+chain_keeps : {A : Type 0} (opens : Token → Option (Unit {0})) (R : A → List Token → List Token → Type 0)
+    → ((t : Token) (b : Unit {0}) → opens t ≡ Some b → turns t.kind ≡ false) → Keeps R → (k : ℕ) {xs : List A} {ts rest : List Token}
+    → Chain opens (λ _ x. x) R xs ts rest → Clear k ts → Clear k rest
 chain_keeps opens R quiet keeps k ended h = h
 chain_keeps opens R quiet keeps k (further {t = t} o d c) h = chain_keeps opens R quiet keeps k c (keeps k _ _ _ d (pass k t _ (quiet t _ o) h))
 
-joined_keeps : {A : Type 0} (opens : Token → Option (Unit {0})) (R : A → List Token → List Token → Type 0) → ((t : Token) (b : Unit {0}) → opens t ≡ Some b → turns t.kind ≡ false) → Keeps R → Keeps (Joined opens R)
+joined_keeps : {A : Type 0} (opens : Token → Option (Unit {0})) (R : A → List Token → List Token → Type 0)
+    → ((t : Token) (b : Unit {0}) → opens t ≡ Some b → turns t.kind ≡ false) → Keeps R → Keeps (Joined opens R)
 joined_keeps opens R quiet keeps k _ _ _ (joined d c) h = chain_keeps opens R quiet keeps k c (keeps k _ _ _ d h)
 
 point_keeps : Keeps (First point)
@@ -184,7 +194,8 @@ members_keeps : Keeps SpellsMembers
 members_keeps = joined_keeps (is_sign signs.Comma) SpellsMember (λ t b e. comma_still t.kind b e) member_keeps
 
 -- Terms: with inner for what stands one deeper.
-module _ (E F : Syntax → List Token → List Token → Type 0) (k : ℕ) (inner : k < BRACKET_DEPTH → (t : Syntax) (ts rest : List Token) → E t ts rest → Clear (k + 1) ts → F t ts rest × Clear (k + 1) rest) where
+module _ (E F : Syntax → List Token → List Token → Type 0) (k : ℕ) (inner : k < BRACKET_DEPTH → (t : Syntax) (ts rest : List Token) → E t ts rest
+    → Clear (k + 1) ts → F t ts rest × Clear (k + 1) rest) where
   abbrev Grows : (Syntax → List Token → List Token → Type 0) → (Syntax → List Token → List Token → Type 0) → Type 0
   Grows R S = (t : Syntax) (ts rest : List Token) → R t ts rest → Clear k ts → S t ts rest × Clear k rest
 
@@ -229,7 +240,8 @@ module _ (E F : Syntax → List Token → List Token → Type 0) (k : ℕ) (inne
   factor_grows _ _ _ (plain d) h = let r = prim_grows _ _ _ d h in (plain r.0, r.1)
   factor_grows _ _ _ (minus d) h = let r = prim_grows _ _ _ d (pass k _ _ refl h) in (minus r.0, r.1)
 
-  module _ (operator : Token → Option Op) (R S : Syntax → List Token → List Token → Type 0) (quiet : (t : Token) (b : Op) → operator t ≡ Some b → turns t.kind ≡ false) (grows : Grows R S) where
+  module _ (operator : Token → Option Op) (R S : Syntax → List Token → List Token → Type 0) (quiet : (t : Token) (b : Op) → operator t ≡ Some b
+      → turns t.kind ≡ false) (grows : Grows R S) where
     chain_grows : {os : List Link} {ts rest : List Token} → Chain operator link R os ts rest → Clear k ts → Chain operator link S os ts rest × Clear k rest
     chain_grows ended h = (ended, h)
     chain_grows (further {t = t} o d c) h =
@@ -244,7 +256,8 @@ module _ (E F : Syntax → List Token → List Token → Type 0) (k : ℕ) (inne
         (gather r.0 q.0 e, q.1)
 
   sum_grows : Grows (SpellsSum E) (SpellsSum F)
-  sum_grows = gathered_grows addition (SpellsProduct E) (SpellsProduct F) (λ t b e. adds_still t.kind b e) (gathered_grows multiplication (SpellsFactor E) (SpellsFactor F) (λ t b e. multiplies_still t.kind b e) factor_grows)
+  sum_grows = gathered_grows addition (SpellsProduct E) (SpellsProduct F) (λ t b e. adds_still t.kind b e)
+      (gathered_grows multiplication (SpellsFactor E) (SpellsFactor F) (λ t b e. multiplies_still t.kind b e) factor_grows)
 
   relation_grows : Grows (SpellsRelation E) (SpellsRelation F)
   relation_grows _ _ _ (alone d) h = let r = sum_grows _ _ _ d h in (alone r.0, r.1)
@@ -264,9 +277,11 @@ module _ (E F : Syntax → List Token → List Token → Type 0) (k : ℕ) (inne
   negation_grows _ _ _ (negated d) h = let r = relation_grows _ _ _ d (pass k _ _ refl h) in (negated r.0, r.1)
 
   expr_grows : Grows (SpellsExpr E) (SpellsExpr F)
-  expr_grows = gathered_grows disjunction (SpellsConjunction E) (SpellsConjunction F) (λ t b e. disjoins_still t.kind b e) (gathered_grows conjunction (SpellsNegation E) (SpellsNegation F) (λ t b e. conjoins_still t.kind b e) negation_grows)
+  expr_grows = gathered_grows disjunction (SpellsConjunction E) (SpellsConjunction F) (λ t b e. disjoins_still t.kind b e)
+      (gathered_grows conjunction (SpellsNegation E) (SpellsNegation F) (λ t b e. conjoins_still t.kind b e) negation_grows)
 
-grow : (d k j : ℕ) → BRACKET_DEPTH ≤ k + j → (t : Syntax) (ts rest : List Token) → SpellsExpr (SpellsInner d) t ts rest → Clear k ts → SpellsExpr (SpellsInner j) t ts rest × Clear k rest
+grow : (d k j : ℕ) → BRACKET_DEPTH ≤ k + j → (t : Syntax) (ts rest : List Token) → SpellsExpr (SpellsInner d) t ts rest → Clear k ts
+    → SpellsExpr (SpellsInner j) t ts rest × Clear k rest
 unfolding SpellsInner
 grow zero k j e = expr_grows (SpellsInner zero) (SpellsInner j) k (λ l t ts rest x h. absurd x)
 grow (suc d) k zero e = expr_grows (SpellsInner (suc d)) (SpellsInner zero) k (λ l t ts rest x h. absurd (omega arith))
@@ -278,7 +293,8 @@ onward zero k ts h = (k, h)
 onward (suc from) k [] h = (k, h)
 onward (suc from) k (t ∷ ts) h = onward from (depth_behind k t.kind) ts (step k t ts h).clear
 
-pub shallow : (tokens : List Token) (from d : ℕ) (t : Syntax) (rest : List Token) → first_too_deep BRACKET_DEPTH 0 tokens ≡ None → SpellsExpr (SpellsInner d) t (drop from tokens) rest → SpellsTerm t (drop from tokens) rest
+pub shallow : (tokens : List Token) (from d : ℕ) (t : Syntax) (rest : List Token) → first_too_deep BRACKET_DEPTH 0 tokens ≡ None
+    → SpellsExpr (SpellsInner d) t (drop from tokens) rest → SpellsTerm t (drop from tokens) rest
 shallow tokens from d t rest h s =
     let c : (n : ℕ) × Clear n (drop from tokens) = onward from 0 tokens (record { none = h }) in
     (grow d c.0 BRACKET_DEPTH (omega arith) t (drop from tokens) rest s c.1).0

@@ -52,7 +52,8 @@ mark_each m [] = absent
 mark_each (OfSign s) (t ∷ ts) = sign_each s t.kind t.place ts
 mark_each (OfKey k) (t ∷ ts) = key_each k t.kind t.place ts
 
-pub joined_sound : {A : Type 0} (opens : Token → Option (Unit {0})) (R : A → List Token → List Token → Type 0) (p : List Token → Option (A × List Token)) → Sound R p → Sound (Joined opens R) (joined_at opens p)
+pub joined_sound : {A : Type 0} (opens : Token → Option (Unit {0})) (R : A → List Token → List Token → Type 0) (p : List Token → Option (A × List Token))
+    → Sound R p → Sound (Joined opens R) (joined_at opens p)
 unfolding joined_at
 joined_sound opens R p sound ts =
     bind_each (sound ts) (λ x d.

@@ -16,9 +16,15 @@ use Rattle.m_terms.specs.declared.cursor.Mark.TheVariants.{OfKey, OfSign}
 use Rattle.m_lexer.specs.Chains.{First, first}
 use Rattle.m_terms.specs.Tokens.{at, sign, key, kind_is_sign, kind_is_key}
 use Rattle.m_terms.specs.Headers.{SpellsHeader}
-use Rattle.m_terms.specs.Grammar.{one, two, three, addition, addition_of, multiplication, multiplication_of, conjunction, conjunction_of, disjunction, disjunction_of, comparison, comparison_of, function_of, link, gathered, Gathered, gather, SpellsPrim, number, word, own, read, brackets, either, only, called, called_two, looped, SpellsFactor, plain, minus, SpellsProduct, SpellsSum, SpellsMembers, SpellsRelation, alone, compared, inside, outside, SpellsNegation, affirmed, negated, SpellsConjunction, SpellsExpr, SpellsInner}
+use Rattle.m_terms.specs.Grammar.{one, two, three, addition, addition_of, multiplication, multiplication_of, conjunction, conjunction_of, disjunction}
+use Rattle.m_terms.specs.Grammar.{disjunction_of, comparison, comparison_of, function_of, link, gathered, Gathered, gather, SpellsPrim, number, word, own, read}
+use Rattle.m_terms.specs.Grammar.{brackets, either, only, called, called_two, looped, SpellsFactor, plain, minus, SpellsProduct, SpellsSum, SpellsMembers}
+use Rattle.m_terms.specs.Grammar.{SpellsRelation, alone, compared, inside, outside, SpellsNegation, affirmed, negated, SpellsConjunction, SpellsExpr}
+use Rattle.m_terms.specs.Grammar.{SpellsInner}
 use Rattle.m_lexer.specs.inner.Chains.{open_at, choose}
-use Rattle.m_terms.specs.inner.Reading.{is, mark_at, gathered_at, until_at, other_at, choice_at, named_at, called_at, called_two_at, call_at, loop_at, other_word_at, word_at, prim_of, prim_at, factor_at, product_at, sum_at, members_at, inside_at, outside_at, membership_at, relation_at, negation_at, conjunction_at, expr_at, inner_at}
+use Rattle.m_terms.specs.inner.Reading.{is, mark_at, gathered_at, until_at, other_at, choice_at, named_at, called_at, called_two_at, call_at, loop_at}
+use Rattle.m_terms.specs.inner.Reading.{other_word_at, word_at, prim_of, prim_at, factor_at, product_at, sum_at, members_at, inside_at, outside_at}
+use Rattle.m_terms.specs.inner.Reading.{membership_at, relation_at, negation_at, conjunction_at, expr_at, inner_at}
 use Rattle.m_lexer.proofs.ChainSound.{Each, absent, here, bind_each, choose_each, each_from, open_each, Sound, chain_sound}
 use Rattle.m_terms.proofs.Sound.{token, mark_each}
 use Rattle.m_terms.proofs.Passes.{next, later, over, skip, Passes, shrinks_passing, chain_passes}
@@ -65,10 +71,17 @@ module _ (operator : Token → Option Op) (R : Syntax → List Token → List To
   pub gathered_passes : Passes R → Passes (Gathered operator R)
   gathered_passes passes _ _ _ (gather d c e) = chain_passes operator link R passes (passes _ _ _ d) c
 
-  pub gathered_complete : (p : List Token → Option (Syntax × List Token)) (j : ℕ) → Passes R → Complete (Below (suc j)) R p → ((t : Token) (b : Op) (ts : List Token) → operator t ≡ Some b → Below (suc j) (t ∷ ts)) → ((ts : List Token) → Below j ts → open_at operator ts ≡ None) → Complete (Below j) (Gathered operator R) (gathered_at operator p)
+  pub gathered_complete : (p : List Token → Option (Syntax × List Token)) (j : ℕ) → Passes R → Complete (Below (suc j)) R p
+      → ((t : Token) (b : Op) (ts : List Token) → operator t ≡ Some b → Below (suc j) (t ∷ ts)) → ((ts : List Token) → Below j ts → open_at operator ts ≡ None)
+      → Complete (Below j) (Gathered operator R) (gathered_at operator p)
   unfolding gathered_at
   gathered_complete p j passes complete binds closed _ _ _ (gather {mid = mid} d c e) h =
-      rw (complete _ _ _ d (chain_binds operator link R (shrinks_passing R passes) p (Below (suc j)) (Below j) complete binds (λ ts h. omega arith) closed c h), chain_complete operator link R (shrinks_passing R passes) p (Below (suc j)) (Below j) complete binds (λ ts h. omega arith) closed (length mid) [] c h (omega arith), e) refl
+      rw (
+        complete _ _ _ d (chain_binds operator link R (shrinks_passing R passes) p (Below (suc j)) (Below j) complete binds (λ ts h. omega arith) closed c h),
+        chain_complete operator link R (shrinks_passing R passes) p (Below (suc j)) (Below j) complete binds (λ ts h. omega arith) closed (length mid) [] c h
+            (omega arith),
+        e,
+      ) refl
 
 -- Which token goes on with what stands before it.
 multiplies : (k : Kind) (b : Op) → multiplication_of k ≡ Some b → tightness k < 6
@@ -183,7 +196,8 @@ module _ (E : Syntax → List Token → List Token → Type 0) (e : List Token �
       bind_each (mark_each m t.1) (λ r g.
       here (g.0, subst (λ m. E t.0 ts m) g.1 d)))
 
-  other_sound : {a b : Syntax} {p q : Place} {ts us vs : List Token} → E a ts (key keys.Alors q ∷ us) → E b us vs → Each (λ (c : Syntax × List Token). SpellsPrim E (three ops.Choose a b c.0) (key keys.Si p ∷ ts) c.1) (other_at e vs)
+  other_sound : {a b : Syntax} {p q : Place} {ts us vs : List Token} → E a ts (key keys.Alors q ∷ us) → E b us vs
+      → Each (λ (c : Syntax × List Token). SpellsPrim E (three ops.Choose a b c.0) (key keys.Si p ∷ ts) c.1) (other_at e vs)
   unfolding other_at
   other_sound {b = b} {us = us} {vs = vs} d f =
       choose_each (mark_each (OfKey keys.Sinon) vs)
@@ -206,7 +220,8 @@ module _ (E : Syntax → List Token → List Token → Type 0) (e : List Token �
       bind_each (until_sound (OfSign signs.CloseParen) c.1) (λ t a.
       here (subst (λ m. SpellsPrim E (loop h.0 t.0) (key keys.Somme p ∷ m) t.1) (sym g.1) (looped (subst (λ m. SpellsHeader h.0 o.1 m) f.1 d) a.1))))))
 
-  call_sound : (k : AKey) (p : Place) (op : Op) (has_two : Bool) → function_of k ≡ Some (op, has_two) → (ts : List Token) → Each (λ (t : Syntax × List Token). SpellsPrim E t.0 (key k p ∷ ts) t.1) (call_at e (op, has_two) ts)
+  call_sound : (k : AKey) (p : Place) (op : Op) (has_two : Bool) → function_of k ≡ Some (op, has_two) → (ts : List Token)
+      → Each (λ (t : Syntax × List Token). SpellsPrim E t.0 (key k p ∷ ts) t.1) (call_at e (op, has_two) ts)
   unfolding call_at called_at called_two_at
   call_sound k p op false i ts =
       bind_each (mark_each (OfSign signs.OpenParen) ts) (λ o g.
@@ -229,7 +244,8 @@ module _ (E : Syntax → List Token → List Token → Type 0) (e : List Token �
   unfolding word_at
   word_sound k p ts = go (function_of k) refl
     where
-      go : (f : Option (Op × Bool)) → function_of k ≡ f → Each (λ (t : Syntax × List Token). SpellsPrim E t.0 (key k p ∷ ts) t.1) (choose f (other_word_at e k p ts) (λ f. call_at e f ts))
+      go : (f : Option (Op × Bool)) → function_of k ≡ f
+          → Each (λ (t : Syntax × List Token). SpellsPrim E t.0 (key k p ∷ ts) t.1) (choose f (other_word_at e k p ts) (λ f. call_at e f ts))
       go None i = other_word_sound k p ts
       go (Some f) i = call_sound k p f.0 f.1 i ts
 
@@ -258,7 +274,8 @@ module _ (E : Syntax → List Token → List Token → Type 0) (e : List Token �
   sum_sound : Sound (SpellsSum E) (sum_at e)
   sum_sound = gathered_sound addition (SpellsProduct E) (product_at e) (gathered_sound multiplication (SpellsFactor E) (factor_at e) factor_sound)
 
-  members_sound : (ts : List Token) → Each (λ (ms : List Member × List Token). (p : Place) × (us : List Token) × (q : Place) × (ts ≡ sign signs.OpenParen p ∷ us) × SpellsMembers ms.0 us (sign signs.CloseParen q ∷ ms.1)) (members_at ts)
+  members_sound : (ts : List Token) → Each (λ (ms : List Member × List Token). (p : Place) × (us : List Token) × (q : Place)
+      × (ts ≡ sign signs.OpenParen p ∷ us) × SpellsMembers ms.0 us (sign signs.CloseParen q ∷ ms.1)) (members_at ts)
   unfolding members_at
   members_sound ts =
       bind_each (mark_each (OfSign signs.OpenParen) ts) (λ o g.
@@ -266,10 +283,12 @@ module _ (E : Syntax → List Token → List Token → Type 0) (e : List Token �
       bind_each (mark_each (OfSign signs.CloseParen) ms.1) (λ r h.
       here (g.0, o.1, h.0, g.1, subst (λ m. SpellsMembers ms.0 o.1 m) h.1 d))))
 
-  compared_sound : {a : Syntax} {ts mid us : List Token} {op : Op} → SpellsSum E a ts mid → First comparison op mid us → (b : Syntax × List Token) → SpellsSum E b.0 us b.1 → SpellsRelation E (two op a b.0) ts b.1
+  compared_sound : {a : Syntax} {ts mid us : List Token} {op : Op} → SpellsSum E a ts mid → First comparison op mid us → (b : Syntax × List Token)
+      → SpellsSum E b.0 us b.1 → SpellsRelation E (two op a b.0) ts b.1
   compared_sound d (first i) b f = compared d i f
 
-  membership_sound : {a : Syntax} {ts : List Token} (mid : List Token) → SpellsSum E a ts mid → Each (λ (t : Syntax × List Token). SpellsRelation E t.0 ts t.1) (membership_at a mid)
+  membership_sound : {a : Syntax} {ts : List Token} (mid : List Token) → SpellsSum E a ts mid
+      → Each (λ (t : Syntax × List Token). SpellsRelation E t.0 ts t.1) (membership_at a mid)
   unfolding membership_at inside_at outside_at
   membership_sound {a} {ts} mid d =
       choose_each (mark_each (OfKey keys.Dans) mid)
@@ -297,7 +316,8 @@ module _ (E : Syntax → List Token → List Token → Type 0) (e : List Token �
       here (subst (λ m. SpellsNegation E (one ops.Not t.0) m t.1) (sym g.1) (negated d))))
 
   pub expr_sound : Sound (SpellsExpr E) (expr_at e)
-  expr_sound = gathered_sound disjunction (SpellsConjunction E) (conjunction_at e) (gathered_sound conjunction (SpellsNegation E) (negation_at e) negation_sound)
+  expr_sound = gathered_sound disjunction (SpellsConjunction E) (conjunction_at e)
+      (gathered_sound conjunction (SpellsNegation E) (negation_at e) negation_sound)
 
 -- What is left stands after.
 module _ (E : Syntax → List Token → List Token → Type 0) (passes : Passes E) where
@@ -341,7 +361,8 @@ module _ (E : Syntax → List Token → List Token → Type 0) (passes : Passes 
 
   -- What is spelled is read so.
   module _ (e : List Token → Option (Syntax × List Token)) (complete : Complete (Below 1) E e) where
-    until_complete : (m : Mark) (p : Place) {t : Syntax} {ts rest : List Token} → E t ts (token m p ∷ rest) → Below 1 (token m p ∷ rest) → is m (token m p) ≡ Some tt → until_at e m ts ≡ Some (t, rest)
+    until_complete : (m : Mark) (p : Place) {t : Syntax} {ts rest : List Token} → E t ts (token m p ∷ rest) → Below 1 (token m p ∷ rest)
+        → is m (token m p) ≡ Some tt → until_at e m ts ≡ Some (t, rest)
     unfolding until_at
     until_complete m p d h i = rw (complete _ _ _ d h, i) refl
 
@@ -352,10 +373,20 @@ module _ (E : Syntax → List Token → List Token → Type 0) (passes : Passes 
     prim_complete _ _ _ own h = refl
     prim_complete _ _ _ (read d) h = rw (until_complete (OfSign signs.CloseBracket) _ d (lit< tt) refl) refl
     prim_complete _ _ _ (brackets d) h = until_complete (OfSign signs.CloseParen) _ d (lit< tt) refl
-    prim_complete _ _ _ (either a b c) h = rw (until_complete (OfKey keys.Alors) _ a (lit< tt) refl, complete _ _ _ b (lit< tt), until_complete (OfKey keys.Finsi) _ c (lit< tt) refl) refl
+    prim_complete _ _ _ (either a b c) h = rw (
+      until_complete (OfKey keys.Alors) _ a (lit< tt) refl,
+      complete _ _ _ b (lit< tt),
+      until_complete
+          (OfKey keys.Finsi) _ c (lit< tt) refl,
+    ) refl
     prim_complete _ _ _ (only a b) h = rw (until_complete (OfKey keys.Alors) _ a (lit< tt) refl, complete _ _ _ b (lit< tt)) refl
     prim_complete _ _ _ (called i d) h = rw (i, until_complete (OfSign signs.CloseParen) _ d (lit< tt) refl) refl
-    prim_complete _ _ _ (called_two i a b) h = rw (i, until_complete (OfSign signs.Comma) _ a (lit< tt) refl, until_complete (OfSign signs.CloseParen) _ b (lit< tt) refl) refl
+    prim_complete _ _ _ (called_two i a b) h = rw (
+      i,
+      until_complete (OfSign signs.Comma) _ a (lit< tt) refl,
+      until_complete (OfSign signs.CloseParen) _ b
+          (lit< tt) refl,
+    ) refl
     prim_complete _ _ _ (looped g d) h = rw (header_complete _ _ _ g (lit< tt), until_complete (OfSign signs.CloseParen) _ d (lit< tt) refl) refl
 
     prim_no_minus : {t : Syntax} {ts rest : List Token} → SpellsPrim E t ts rest → mark_at (OfSign signs.Minus) ts ≡ None
@@ -368,7 +399,8 @@ module _ (E : Syntax → List Token → List Token → Type 0) (passes : Passes 
     factor_complete _ _ _ (minus d) h = rw (prim_complete _ _ _ d h) refl
 
     product_complete : Complete (Below 5) (SpellsProduct E) (product_at e)
-    product_complete = gathered_complete multiplication (SpellsFactor E) (factor_at e) 5 factor_passes factor_complete (λ t b ts i. multiplies t.kind b i) multiplication_closed
+    product_complete = gathered_complete multiplication (SpellsFactor E) (factor_at e) 5 factor_passes factor_complete (λ t b ts i. multiplies t.kind b i)
+        multiplication_closed
 
     sum_complete : Complete (Below 4) (SpellsSum E) (sum_at e)
     sum_complete = gathered_complete addition (SpellsProduct E) (product_at e) 4 product_passes product_complete (λ t b ts i. adds t.kind b i) addition_closed
@@ -404,10 +436,12 @@ module _ (E : Syntax → List Token → List Token → Type 0) (passes : Passes 
     negation_complete _ _ _ (negated d) h = rw (relation_complete _ _ _ d h) refl
 
     conjunction_complete : Complete (Below 2) (SpellsConjunction E) (conjunction_at e)
-    conjunction_complete = gathered_complete conjunction (SpellsNegation E) (negation_at e) 2 negation_passes negation_complete (λ t b ts i. conjoins t.kind b i) conjunction_closed
+    conjunction_complete = gathered_complete conjunction (SpellsNegation E) (negation_at e) 2 negation_passes negation_complete
+        (λ t b ts i. conjoins t.kind b i) conjunction_closed
 
     pub expr_complete : Complete (Below 1) (SpellsExpr E) (expr_at e)
-    expr_complete = gathered_complete disjunction (SpellsConjunction E) (conjunction_at e) 1 conjunction_passes conjunction_complete (λ t b ts i. disjoins t.kind b i) disjunction_closed
+    expr_complete = gathered_complete disjunction (SpellsConjunction E) (conjunction_at e) 1 conjunction_passes conjunction_complete
+        (λ t b ts i. disjoins t.kind b i) disjunction_closed
 
 -- The knot, by how many brackets may be opened.
 pub inner_sound : (d : ℕ) → Sound (SpellsInner d) (inner_at d)

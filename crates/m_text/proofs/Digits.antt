@@ -35,7 +35,8 @@ own : IsNumeralModel (λ ds. IsTrue (list_all is_digit ds)) (digits_value 10)
 own = numerals_by_value (λ ds. IsTrue (list_all is_digit ds)) holds_digits
 
 -- one digit more
-pub value_more : (ds : List ℕ) (i : ℕ) → IsTrue (list_all is_digit ds) → i < length ds → digits_value 10 (take (i + 1) ds) ≡ digits_value 10 (take i ds) * 10 + (get_or ds i 0 - 48)
+pub value_more : (ds : List ℕ) (i : ℕ) → IsTrue (list_all is_digit ds) → i < length ds
+    → digits_value 10 (take (i + 1) ds) ≡ digits_value 10 (take i ds) * 10 + (get_or ds i 0 - 48)
 value_more ds i h below =
     let more = digits_value_more 10 ds i below in
     let digit = digit_value_digit (get_or ds i 0) (digit_at ds i (own.to ds h) below) in

@@ -66,7 +66,8 @@ all_part P bytes from to r = recursion_from_All P (part bytes from to) (λ k d h
   where
     at : (k d : ℕ) → k < to - from → P (get_or (part bytes from to) k d)
     at k d h =
-        let e : get_or (part bytes from to) k d ≡ get_or bytes (from + k) 0 = get_or-take (to - from) (drop from bytes) k d h ∙ get_or-drop from bytes k d ∙ get_or_default bytes (from + k) d 0 (omega (arith, r.within)) in
+        let e : get_or (part bytes from to) k d ≡ get_or bytes (from + k) 0 = get_or-take (to - from) (drop from bytes) k d h ∙ get_or-drop from bytes k d
+        ∙ get_or_default bytes (from + k) d 0 (omega (arith, r.within)) in
         subst P (sym e) (r.each (from + k) (omega arith) (omega arith))
 
 pub stops_part : (P : ℕ → Type 0) (bytes : List ℕ) (from to : ℕ) → RunsTo P bytes from to → Stops P (drop to bytes)

@@ -5,7 +5,8 @@ use Rattle.m_text.specs.Words.{LongestOf}
 use Rattle.m_text.proofs.Fronts.{longer, same_length}
 
 -- a text is the longest if none of its kind goes on from it
-pub longest_from : (P : List ℕ → Type 0) (bytes t rest : List ℕ) → bytes ≡ t ++ rest → P t → ((c : ℕ) (more v : List ℕ) → rest ≡ c ∷ (more ++ v) → P (t ++ c ∷ more) → ⊥) → LongestOf P bytes t rest
+pub longest_from : (P : List ℕ → Type 0) (bytes t rest : List ℕ) → bytes ≡ t ++ rest → P t
+    → ((c : ℕ) (more v : List ℕ) → rest ≡ c ∷ (more ++ v) → P (t ++ c ∷ more) → ⊥) → LongestOf P bytes t rest
 longest_from P bytes t rest e p none = record { parts = e; piece = p; longest = most }
   where
     most : (u v : List ℕ) → bytes ≡ u ++ v → P u → length u ≤ length t
@@ -22,5 +23,6 @@ one_longest P bytes t r u v a b =
     same_length t r u v (sym a.parts ∙ b.parts) (omega arith)
 
 -- the longest of one kind is the longest of another, where both have the same texts at the start of these bytes
-pub longest_among : (P Q : List ℕ → Type 0) (bytes t rest : List ℕ) → LongestOf P bytes t rest → Q t → ((u others : List ℕ) → bytes ≡ u ++ others → Q u → P u) → LongestOf Q bytes t rest
+pub longest_among : (P Q : List ℕ → Type 0) (bytes t rest : List ℕ) → LongestOf P bytes t rest → Q t → ((u others : List ℕ) → bytes ≡ u ++ others → Q u → P u)
+    → LongestOf Q bytes t rest
 longest_among P Q bytes t rest l q same = record { parts = l.parts; piece = q; longest = λ u others e p. l.longest u others e (same u others e p) }

@@ -1,5 +1,6 @@
 -- How far a text goes on without a byte.
-use Rattle.std.proofs.Common.{◌≡◌, ◌<◌, ◌+◌, ◌==◌, ℕ, suc, false, true, cond, List, [], ◌∷◌, ◌++◌, length, take, drop, get_or, Option, Some, None, refl, sym, ap, ◌∙◌, arith}
+use Rattle.std.proofs.Common.{◌≡◌, ◌<◌, ◌+◌, ◌==◌, ℕ, suc, false, true, cond, List, [], ◌∷◌, ◌++◌, length, take, drop, get_or, Option, Some, None, refl, sym}
+use Rattle.std.proofs.Common.{ap, ◌∙◌, arith}
 use Rattle.std.proofs.Math.Seq.{drop-cons}
 use Rattle.std.proofs.lemmas.List.{take_more, drop_all}
 use Rattle.std.proofs.lemmas.Bool.{ne_eqb, eq-eqb}
@@ -34,7 +35,8 @@ splits_next byte text at h other s =
     s ∙ ap (λ l. onto (take at text) (split_at byte l)) (drop_here text at h) ∙ ap (onto (take at text)) one ∙ onto_first (take at text) x (split_at byte rest)
     ∙ ap (λ l. onto l (split_at byte rest)) (sym (take_more text at 0 h))
 
-pub splits_here : (byte : ℕ) (text : List ℕ) (at : ℕ) → at < length text → get_or text at 0 ≡ byte → Splits byte text at → split_at byte text ≡ (take at text, Some (drop (at + 1) text))
+pub splits_here : (byte : ℕ) (text : List ℕ) (at : ℕ) → at < length text → get_or text at 0 ≡ byte → Splits byte text at
+    → split_at byte text ≡ (take at text, Some (drop (at + 1) text))
 splits_here byte text at h same s =
     let n : (get_or text at 0 == byte) ≡ true = eq-eqb (get_or text at 0) byte same in
     let rest = drop (at + 1) text in

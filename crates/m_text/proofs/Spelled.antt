@@ -88,7 +88,8 @@ longest_whole bytes t rest e h stops short = longest_from IsWordOrNumber bytes t
           | inr q ↦ not_number c more v f outside q
         ]
 
-pub longest_decimal : (bytes whole decimals rest : List ℕ) → bytes ≡ (whole ++ point ∷ decimals) ++ rest → AreDigits whole → AreDigits decimals → Stops IsDigit rest → LongestOf IsWordOrNumber bytes (whole ++ point ∷ decimals) rest
+pub longest_decimal : (bytes whole decimals rest : List ℕ) → bytes ≡ (whole ++ point ∷ decimals) ++ rest → AreDigits whole → AreDigits decimals
+    → Stops IsDigit rest → LongestOf IsWordOrNumber bytes (whole ++ point ∷ decimals) rest
 longest_decimal bytes whole decimals rest e h k stops = longest_from IsWordOrNumber bytes (whole ++ point ∷ decimals) rest e (inr (inr d)) none
   where
     d : IsDecimal (whole ++ point ∷ decimals)
@@ -101,7 +102,8 @@ longest_decimal bytes whole decimals rest e h k stops = longest_from IsWordOrNum
     not_number c more outside (inl q) = point_is_none (inr (inl (at_point IsDigit c more q.1)))
     not_number c more outside (inr q) =
         let g : whole ++ (point ∷ (decimals ++ c ∷ more)) ≡ q.0 ++ point ∷ q.1 = sym (append_assoc whole (point ∷ decimals) (c ∷ more)) ∙ q.4 in
-        let w = one_front IsDigit whole q.0 (point ∷ (decimals ++ c ∷ more)) (point ∷ q.1) h.1 q.2.1 (λ x. point_is_none (inr (inl x))) (λ x. point_is_none (inr (inl x))) g in
+        let w = one_front IsDigit whole q.0 (point ∷ (decimals ++ c ∷ more)) (point ∷ q.1) h.1 q.2.1 (λ x. point_is_none (inr (inl x)))
+        (λ x. point_is_none (inr (inl x))) g in
         let x = w.1 in
         let same : q.1 ≡ decimals ++ c ∷ more = cc in
         outside (all_right IsDigit decimals (c ∷ more) (subst (AllByRecursion IsDigit) same q.3.1)).0
@@ -115,7 +117,8 @@ longest_decimal bytes whole decimals rest e h k stops = longest_from IsWordOrNum
         ]
 
 -- a word runs as far as word bytes do, and one of them is no digit
-pub word_between : (bytes : List ℕ) (from end whole : ℕ) → RunsTo IsWordByte bytes from end → RunsTo IsDigit bytes from whole → whole < end → IsWord (part bytes from end)
+pub word_between : (bytes : List ℕ) (from end whole : ℕ) → RunsTo IsWordByte bytes from end → RunsTo IsDigit bytes from whole → whole < end
+    → IsWord (part bytes from end)
 word_between bytes from end whole r d h = (all_part IsWordByte bytes from end r, not_digits)
   where
     not_digits : AllByRecursion IsDigit (part bytes from end) → ⊥
@@ -124,14 +127,17 @@ word_between bytes from end whole r d h = (all_part IsWordByte bytes from end r,
         let l : whole - from < end - from = omega (arith, d.onward) in
         let m : from + (whole - from) ≡ whole = omega (arith, d.onward) in
         let x = All-from_recursion IsDigit (part bytes from end) all (whole - from) 0 (omega (arith, length-part bytes from end r.onward r.within)) in
-        let y : get_or (part bytes from end) (whole - from) 0 ≡ get_or bytes whole 0 = get_or-take (end - from) (drop from bytes) (whole - from) 0 l ∙ get_or-drop from bytes (whole - from) 0 ∙ ap (λ n. get_or bytes n 0) m in
+        let y : get_or (part bytes from end) (whole - from) 0 ≡ get_or bytes whole 0 = get_or-take (end - from) (drop from bytes) (whole - from) 0 l
+        ∙ get_or-drop from bytes (whole - from) 0 ∙ ap (λ n. get_or bytes n 0) m in
         d.stops k (subst IsDigit y x)
 
-pub word_longest : (bytes : List ℕ) (from end whole : ℕ) → RunsTo IsWordByte bytes from end → RunsTo IsDigit bytes from whole → whole < end → LongestBetween bytes from end
+pub word_longest : (bytes : List ℕ) (from end whole : ℕ) → RunsTo IsWordByte bytes from end → RunsTo IsDigit bytes from whole → whole < end
+    → LongestBetween bytes from end
 word_longest bytes from end whole r d h = record {
   onward = omega (arith, d.onward);
   within = r.within;
-  longest = longest_word (drop from bytes) (part bytes from end) (drop end bytes) (parts bytes from end r.onward) (word_between bytes from end whole r d h) (stops_part IsWordByte bytes from end r);
+  longest = longest_word (drop from bytes) (part bytes from end) (drop end bytes) (parts bytes from end r.onward) (word_between bytes from end whole r d h)
+      (stops_part IsWordByte bytes from end r);
 }
 
 -- bytes from a digit on
@@ -141,8 +147,10 @@ digits_between bytes from to h r = (some, all_part IsDigit bytes from to r)
     some : part bytes from to ≢ []
     some e = let l = length-part bytes from to r.onward r.within in let m = ap length e in omega arith
 
-pub whole_longest : (bytes : List ℕ) (from to : ℕ) → from < to → RunsTo IsDigit bytes from to → RunsTo IsWordByte bytes from to → NoDecimals (drop to bytes) → LongestOf IsWordOrNumber (drop from bytes) (part bytes from to) (drop to bytes)
-whole_longest bytes from to h d w short = longest_whole (drop from bytes) (part bytes from to) (drop to bytes) (parts bytes from to d.onward) (digits_between bytes from to h d) (stops_part IsWordByte bytes from to w) short
+pub whole_longest : (bytes : List ℕ) (from to : ℕ) → from < to → RunsTo IsDigit bytes from to → RunsTo IsWordByte bytes from to → NoDecimals (drop to bytes)
+    → LongestOf IsWordOrNumber (drop from bytes) (part bytes from to) (drop to bytes)
+whole_longest bytes from to h d w short = longest_whole (drop from bytes) (part bytes from to) (drop to bytes) (parts bytes from to d.onward)
+    (digits_between bytes from to h d) (stops_part IsWordByte bytes from to w) short
 
 -- no decimals follow at the end, where no point stands, and where no digit stands after the point
 pub no_point : (bytes : List ℕ) (to : ℕ) → (to < length bytes → get_or bytes to 0 ≢ point) → NoDecimals (drop to bytes)
@@ -153,29 +161,43 @@ no_point bytes to ne c more e k = elim (cases_lt to (length bytes)) [
 
 pub no_digit : (bytes : List ℕ) (to : ℕ) → to < length bytes → (to + 1 < length bytes → IsDigit (get_or bytes (to + 1) 0) → ⊥) → NoDecimals (drop to bytes)
 no_digit bytes to h none c more e k = elim (cases_lt (to + 1) (length bytes)) [
-  | inl g ↦ let d = drop_more bytes to 0 h in let f = drop_more bytes (to + 1) 0 g in let same : c ≡ get_or bytes (to + 1) 0 = cc in none g (subst IsDigit same k)
+  | inl g ↦ let d = drop_more bytes to 0 h in let f = drop_more bytes (to + 1) 0 g in let same : c ≡ get_or bytes (to + 1) 0 = cc in none g
+      (subst IsDigit same k)
   | inr g ↦ let d = drop_more bytes to 0 h in let f = drop_all (to + 1) bytes g in cc
 ]
 
 -- the bytes from one position to a later one, past a third between them
-part_split : (bytes : List ℕ) (from mid to b : ℕ) → from ≤ mid → mid < to → to ≤ length bytes → get_or bytes mid 0 ≡ b → part bytes from to ≡ part bytes from mid ++ b ∷ part bytes (mid + 1) to
+part_split : (bytes : List ℕ) (from mid to b : ℕ) → from ≤ mid → mid < to → to ≤ length bytes → get_or bytes mid 0 ≡ b
+    → part bytes from to ≡ part bytes from mid ++ b ∷ part bytes (mid + 1) to
 part_split bytes from mid to b h k g e =
     let whole : drop from bytes ≡ part bytes from mid ++ drop mid bytes = parts bytes from mid h in
     let at : drop mid bytes ≡ b ∷ drop (mid + 1) bytes = drop_more bytes mid 0 (omega arith) ∙ ap (λ x. x ∷ drop (mid + 1) bytes) e in
     let tail : drop (mid + 1) bytes ≡ part bytes (mid + 1) to ++ drop to bytes = parts bytes (mid + 1) to (omega arith) in
     let front = part bytes from mid in
     let back = part bytes (mid + 1) to in
-    let join : drop from bytes ≡ (front ++ b ∷ back) ++ drop to bytes = whole ∙ ap (λ x. front ++ x) (at ∙ ap (λ x. b ∷ x) tail) ∙ sym (append_assoc front (b ∷ back) (drop to bytes)) in
+    let join : drop from bytes ≡ (front ++ b ∷ back) ++ drop to bytes = whole ∙ ap (λ x. front ++ x) (at ∙ ap (λ x. b ∷ x) tail)
+    ∙ sym (append_assoc front (b ∷ back) (drop to bytes)) in
     let all : drop from bytes ≡ part bytes from to ++ drop to bytes = parts bytes from to (omega arith) in
     append_cancel_right (part bytes from to) (front ++ b ∷ back) (drop to bytes) (sym all ∙ join)
 
-pub decimal_between : (bytes : List ℕ) (from whole to : ℕ) → from < whole → RunsTo IsDigit bytes from whole → whole < length bytes → get_or bytes whole 0 ≡ point → whole + 1 < to → RunsTo IsDigit bytes (whole + 1) to → IsDecimal (part bytes from to)
-decimal_between bytes from whole to h r k e g d = (part bytes from whole, part bytes (whole + 1) to, digits_between bytes from whole h r, digits_between bytes (whole + 1) to g d, part_split bytes from whole to point (omega arith) (omega arith) d.within e)
+pub decimal_between : (bytes : List ℕ) (from whole to : ℕ) → from < whole → RunsTo IsDigit bytes from whole → whole < length bytes
+    → get_or bytes whole 0 ≡ point → whole + 1 < to → RunsTo IsDigit bytes (whole + 1) to → IsDecimal (part bytes from to)
+decimal_between bytes from whole to h r k e g d = (
+  part bytes from whole,
+  part bytes (whole + 1) to,
+  digits_between bytes from whole h r,
+  digits_between bytes
+      (whole + 1) to g d,
+  part_split bytes from whole to point (omega arith) (omega arith) d.within e,
+)
 
-pub decimal_longest : (bytes : List ℕ) (from whole to : ℕ) → from < whole → RunsTo IsDigit bytes from whole → whole < length bytes → get_or bytes whole 0 ≡ point → whole + 1 < to → RunsTo IsDigit bytes (whole + 1) to → LongestOf IsWordOrNumber (drop from bytes) (part bytes from to) (drop to bytes)
+pub decimal_longest : (bytes : List ℕ) (from whole to : ℕ) → from < whole → RunsTo IsDigit bytes from whole → whole < length bytes
+    → get_or bytes whole 0 ≡ point → whole + 1 < to → RunsTo IsDigit bytes (whole + 1) to
+    → LongestOf IsWordOrNumber (drop from bytes) (part bytes from to) (drop to bytes)
 decimal_longest bytes from whole to h r k e g d =
     let split = part_split bytes from whole to point (omega arith) (omega arith) d.within e in
     let t = part bytes from whole ++ point ∷ part bytes (whole + 1) to in
     let eq : drop from bytes ≡ t ++ drop to bytes = parts bytes from to (omega arith) ∙ ap (λ x. x ++ drop to bytes) split in
     subst (λ x. LongestOf IsWordOrNumber (drop from bytes) x (drop to bytes)) (sym split)
-    (longest_decimal (drop from bytes) (part bytes from whole) (part bytes (whole + 1) to) (drop to bytes) eq (digits_between bytes from whole h r) (digits_between bytes (whole + 1) to g d) (stops_part IsDigit bytes (whole + 1) to d))
+    (longest_decimal (drop from bytes) (part bytes from whole) (part bytes (whole + 1) to) (drop to bytes) eq (digits_between bytes from whole h r)
+    (digits_between bytes (whole + 1) to g d) (stops_part IsDigit bytes (whole + 1) to d))

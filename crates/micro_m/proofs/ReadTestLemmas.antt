@@ -44,7 +44,8 @@ mutual
   pub term-is : (t : Tree) (c : ℕ) → term_reads t c ≡ true → TermReads t c
   term-is (lit v) c e = cc e
   term-is (cell d) c e = eqb-true c d e
-  term-is (pick first size index) c e = elim (or_cases (term_reads index c) (pick_reads first size index c) e) [ inl k ↦ inl (term-is index c k) | inr k ↦ inr (pick-is first size index c k) ]
+  term-is (pick first size index) c e = elim (or_cases (term_reads index c) (pick_reads first size index c) e)
+      [ inl k ↦ inl (term-is index c k) | inr k ↦ inr (pick-is first size index c k) ]
   term-is (apply op all) c e = all-is all c e
   term-is (chain a steps) c e = elim (or_cases (term_reads a c) (steps_read steps c) e) [ inl k ↦ inl (term-is a c k) | inr k ↦ inr (steps-is steps c k) ]
 

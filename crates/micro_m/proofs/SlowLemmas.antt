@@ -1,5 +1,6 @@
 -- Why the definition of a cell's value, computed as it stands, ends: each turn leaves room for the greatest term.
-use Rattle.std.proofs.Common.{◌≡◌, ℕ, zero, suc, ◌+◌, ◌*◌, ◌-◌, ◌<◌, ◌≤◌, max, true, false, cond, nat_eq, List, [], ◌∷◌, length, get_or, Some, ap, sym, ◌∙◌, arith}
+use Rattle.std.proofs.Common.{◌≡◌, ℕ, zero, suc, ◌+◌, ◌*◌, ◌-◌, ◌<◌, ◌≤◌, max, true, false, cond, nat_eq, List, [], ◌∷◌, length, get_or, Some, ap, sym, ◌∙◌}
+use Rattle.std.proofs.Common.{arith}
 use Rattle.micro_m.specs.Trees.{Tree, nodes, nodes_all, nodes_along}
 use Rattle.micro_m.specs.Views.{trees_of, steps_of}
 use Rattle.micro_m.specs.declared.base.Base.{Base}

@@ -1,5 +1,6 @@
 -- Arguments of an operator as values, and what a term depends on.
-use Rattle.std.proofs.Common.{◌≡◌, ℕ, zero, suc, ◌+◌, ◌<◌, ◌≤◌, Bool, true, false, cond, ltb, List, [], ◌∷◌, length, get_or, refl, ap, ◌∙◌, inl, inr, arith, ℤ, pos, negsuc}
+use Rattle.std.proofs.Common.{◌≡◌, ℕ, zero, suc, ◌+◌, ◌<◌, ◌≤◌, Bool, true, false, cond, ltb, List, [], ◌∷◌, length, get_or, refl, ap, ◌∙◌, inl, inr, arith, ℤ}
+use Rattle.std.proofs.Common.{pos, negsuc}
 use Rattle.std.proofs.lemmas.Bool.Decides.{nat_tests}
 use Rattle.m_fixed.specs.declared.amount.Value.{Value}
 use Rattle.m_fixed.specs.declared.amount.Value.TheVariants.{Undef, Num, Over}
@@ -12,7 +13,8 @@ use Rattle.micro_m.specs.Values.{Environment, picked_at, picked, picked_value, a
 use Rattle.micro_m.specs.Reads.{PickReads, TermReads, ArgumentsRead, StepsRead}
 
 -- the value of the argument at a place
-pub argument_values-at : (values : Environment) (all : List Tree) (at : ℕ) (x : Tree) → at < length all → x ≡ get_or all at x → term_value values x ≡ get_or (argument_values values (trees_of all)) at Undef
+pub argument_values-at : (values : Environment) (all : List Tree) (at : ℕ) (x : Tree) → at < length all → x ≡ get_or all at x
+    → term_value values x ≡ get_or (argument_values values (trees_of all)) at Undef
 argument_values-at values [] at x h e = absurd (omega arith)
 argument_values-at values (a ∷ all) zero x h e = ap (term_value values) e
 argument_values-at values (a ∷ all) (suc at) x h e = argument_values-at values all at x (omega arith) e
@@ -44,12 +46,14 @@ picked_value-same (Cell c) e f h = h c refl
 picked_value-same (Fixed v) e f h = refl
 
 -- a table of which all cells agree, at one index
-any-same : (first size : ℕ) (e f : Environment) (v w : Value) → ((c : ℕ) → (first ≤ c) × (c < first + size) → e c ≡ f c) → v ≡ w → picked_value e (picked first size v) ≡ picked_value f (picked first size w)
+any-same : (first size : ℕ) (e f : Environment) (v w : Value) → ((c : ℕ) → (first ≤ c) × (c < first + size) → e c ≡ f c) → v ≡ w
+    → picked_value e (picked first size v) ≡ picked_value f (picked first size w)
 any-same first size e f v w h is =
     ap (λ x. picked_value e (picked first size x)) is
     ∙ picked_value-same (picked first size w) e f (λ c p. h c (picked-within first size w c p))
 
-pick-same : (first size : ℕ) (index : Tree) (e f : Environment) → ((c : ℕ) → PickReads first size index c → e c ≡ f c) → term_value e index ≡ term_value f index → picked_value e (picked first size (term_value e index)) ≡ picked_value f (picked first size (term_value f index))
+pick-same : (first size : ℕ) (index : Tree) (e f : Environment) → ((c : ℕ) → PickReads first size index c → e c ≡ f c) → term_value e index ≡ term_value f index
+    → picked_value e (picked first size (term_value e index)) ≡ picked_value f (picked first size (term_value f index))
 pick-same first size (lit v) e f h is = picked_value-same (picked first size v) e f h
 pick-same first size (cell c) e f h is = any-same first size e f (e c) (f c) h is
 pick-same first size (pick g s i) e f h is = any-same first size e f (term_value e (pick g s i)) (term_value f (pick g s i)) h is

@@ -1,5 +1,6 @@
 -- Values with turns on a base without cycles: each chain of reads ends within as many turns as there are definitions.
-use Rattle.std.proofs.Common.{◌≡◌, ℕ, zero, suc, ◌+◌, ◌<◌, ◌≤◌, true, false, cond, nat_eq, List, [], ◌∷◌, length, map, Option, Some, None, refl, ap, sym, ◌∙◌, subst, add-one, arith}
+use Rattle.std.proofs.Common.{◌≡◌, ℕ, zero, suc, ◌+◌, ◌<◌, ◌≤◌, true, false, cond, nat_eq, List, [], ◌∷◌, length, map, Option, Some, None, refl, ap, sym, ◌∙◌}
+use Rattle.std.proofs.Common.{subst, add-one, arith}
 use mathlib.Core.Bool.{◌||◌}
 use Rattle.std.specs.Option.{option_map_or, IsSomeAnd}
 use Rattle.std.proofs.Math.ListN.{length-map}
@@ -33,7 +34,8 @@ reads-among (d ∷ ds) x P r = cases (nat_eq x d.0)
 path-among : (base : Base) (x : ℕ) (ps : List ℕ) → Path base x ps → (q : ℕ) → is_among q ps ≡ true → is_among q (targets_of base) ≡ true
 path-among base x [] path q h = absurd (cc)
 path-among base x (p ∷ ps) path q h = cases (nat_eq q p)
-    (λ (t : nat_eq q p ≡ true). subst (λ n. is_among n (targets_of base) ≡ true) (sym (same q p t)) (reads-among base.definitions p (λ t. TermReads t x) path.0))
+    (λ (t : nat_eq q p ≡ true). subst (λ n. is_among n (targets_of base) ≡ true) (sym (same q p t))
+    (reads-among base.definitions p (λ t. TermReads t x) path.0))
     (λ (f : nat_eq q p ≡ false). path-among base p ps path.1 q (ap (λ b. b || is_among q ps) (sym f) ∙ h))
 
 -- a path of distinct cells is no longer than there are definitions
@@ -44,7 +46,8 @@ path-length base x ps path d =
     omega arith
 
 -- From y through `back` to x, and a path of further cells that leads to y: where x is one of these, it is on a cycle.
-closes : (base : Base) (x y : ℕ) (back ps : List ℕ) → LeadsTo base y back x → Path base y ps → AreDistinctCells (y ∷ back) → AreDistinctCells ps → ((q : ℕ) → is_among q ps ≡ true → is_among q (y ∷ back) ≡ false) → is_among x (y ∷ ps) ≡ true → (cells : List ℕ) × IsCycle base cells
+closes : (base : Base) (x y : ℕ) (back ps : List ℕ) → LeadsTo base y back x → Path base y ps → AreDistinctCells (y ∷ back) → AreDistinctCells ps
+    → ((q : ℕ) → is_among q ps ≡ true → is_among q (y ∷ back) ≡ false) → is_among x (y ∷ ps) ≡ true → (cells : List ℕ) × IsCycle base cells
 closes base x y back [] leads path distinct ds apart here =
     let is : x ≡ y = same x y (cases (nat_eq x y) (λ (t : nat_eq x y ≡ true). t) (λ (f : nat_eq x y ≡ false). absurd (cc))) in
     (y ∷ back, (distinct, subst (λ n. LeadsTo base y back n) is leads))
@@ -76,7 +79,8 @@ abbrev pub Follows : Base → Environment → (ℕ → Environment) → Type 0
 Follows base given e = (n c : ℕ) → e (suc n) c ≡ option_map_or (term_value (e n)) (definition_of base c) (given c)
 
 -- two such maps agree at a cell, if they agree a turn before at all that it reads
-agree-step : (base : Base) (given : Environment) (e f : ℕ → Environment) → Follows base given e → Follows base given f → (m n x : ℕ) → ((y : ℕ) → Reads base x y → e m y ≡ f n y) → e (suc m) x ≡ f (suc n) x
+agree-step : (base : Base) (given : Environment) (e f : ℕ → Environment) → Follows base given e → Follows base given f → (m n x : ℕ)
+    → ((y : ℕ) → Reads base x y → e m y ≡ f n y) → e (suc m) x ≡ f (suc n) x
 agree-step base given e f by_e by_f m n x before =
     option_cases (definition_of base x)
     (λ (none : definition_of base x ≡ None).
@@ -92,7 +96,9 @@ one_less k zero h = absurd (omega arith)
 one_less k (suc j) h = (j, refl, omega arith)
 
 -- Two such maps agree at a cell, once there are as many turns as there are definitions off a path that leads to it.
-pub agree : (base : Base) (given : Environment) (e f : ℕ → Environment) → HasNoCycle base → Follows base given e → Follows base given f → (fuel x : ℕ) (ps : List ℕ) → Path base x ps → AreDistinctCells ps → length base.definitions ≤ length ps + fuel → (m n : ℕ) → fuel ≤ m → fuel ≤ n → e (suc m) x ≡ f (suc n) x
+pub agree : (base : Base) (given : Environment) (e f : ℕ → Environment) → HasNoCycle base → Follows base given e → Follows base given f
+    → (fuel x : ℕ) (ps : List ℕ) → Path base x ps → AreDistinctCells ps → length base.definitions ≤ length ps + fuel → (m n : ℕ) → fuel ≤ m → fuel ≤ n
+    → e (suc m) x ≡ f (suc n) x
 agree base given e f free by_e by_f zero x ps path ds enough m n hm hn =
     agree-step base given e f by_e by_f m n x (λ y r.
     let long : length (x ∷ ps) ≤ length base.definitions = path-length base y (x ∷ ps) (r, path) (off-path base x ps free path ds, ds) in
@@ -110,7 +116,8 @@ value_in-follows base given n c = refl
 
 -- ---- the laws
 
-pub further_turns : (base : Base) (given : Environment) → HasNoCycle base → (turns c : ℕ) → length base.definitions < turns → value_in base given turns c ≡ value_of base given c
+pub further_turns : (base : Base) (given : Environment) → HasNoCycle base → (turns c : ℕ) → length base.definitions < turns
+    → value_in base given turns c ≡ value_of base given c
 further_turns base given free turns c h =
     let i = one_less (length base.definitions) turns h in
     ap (λ k. value_in base given k c) i.1
@@ -120,8 +127,10 @@ further_turns base given free turns c h =
 
 pub values-solve : (base : Base) (given : Environment) → HasNoCycle base → IsSolution base given (value_of base given)
 values-solve base given free c =
-    let more : value_in base given (suc (suc (length base.definitions))) c ≡ value_of base given c = further_turns base given free (suc (suc (length base.definitions))) c (omega arith) in
-    let now : value_in base given (suc (length base.definitions)) ≡ value_of base given = ap (λ k. value_in base given k) (sym (add-one (length base.definitions))) in
+    let more : value_in base given (suc (suc (length base.definitions))) c ≡ value_of base given c = further_turns base given free
+    (suc (suc (length base.definitions))) c (omega arith) in
+    let now : value_in base given (suc (length base.definitions)) ≡ value_of base given = ap (λ k. value_in base given k)
+    (sym (add-one (length base.definitions))) in
     sym more ∙ ap (λ e. option_map_or (term_value e) (definition_of base c) (given c)) now
 
 pub one-solution : (base : Base) (given values : Environment) → HasNoCycle base → IsSolution base given values → (c : ℕ) → values c ≡ value_of base given c

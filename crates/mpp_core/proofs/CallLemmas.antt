@@ -1,5 +1,6 @@
 -- The calls of functions are what the cells of their base read.
-use Rattle.std.proofs.Common.{◌≡◌, ◌≤◌, ◌<◌, ◌+◌, ℕ, zero, suc, Bool, true, false, cond, inl, inr, ◌⊎◌, eqb, List, [], ◌∷◌, ◌++◌, length, map, get_or, All, Option, None, Some, refl, sym, ap, ◌∙◌, subst, arith, slice_get}
+use Rattle.std.proofs.Common.{◌≡◌, ◌≤◌, ◌<◌, ◌+◌, ℕ, zero, suc, Bool, true, false, cond, inl, inr, ◌⊎◌, eqb, List, [], ◌∷◌, ◌++◌, length, map, get_or, All}
+use Rattle.std.proofs.Common.{Option, None, Some, refl, sym, ap, ◌∙◌, subst, arith, slice_get}
 use mathlib.Core.Bool.{◌||◌}
 use Rattle.std.specs.Prelude.{IsSomeAnd}
 use Rattle.std.specs.Option.{option_map}
@@ -41,7 +42,8 @@ second_reads : (first second : List Step) (g : ℕ) → StepsRead (steps_of seco
 second_reads [] second g k = k
 second_reads (s ∷ first) second g k = inr (second_reads first second g k)
 
-both_within : (n : ℕ) (first second : List Step) → StepsAreWithin n (steps_of first) → StepsAreWithin n (steps_of second) → StepsAreWithin n (steps_of (first ++ second))
+both_within : (n : ℕ) (first second : List Step) → StepsAreWithin n (steps_of first) → StepsAreWithin n (steps_of second)
+    → StepsAreWithin n (steps_of (first ++ second))
 both_within n [] second h k = k
 both_within n (s ∷ first) second h k = (h.0, both_within n first second h.1 k)
 
@@ -51,7 +53,8 @@ mutual
   action_reads : (action : Action) (g : ℕ) → StepsRead (steps_of (action_steps action)) g → ActionCalls action g
   action_reads (assign line c term) g k = absurd k
   action_reads (clear line c) g k = absurd k
-  action_reads (branch line condition first second) g k = each (block_reads first g) (block_reads second g) (either_reads (block_steps first) (block_steps second) g k)
+  action_reads (branch line condition first second) g k = each (block_reads first g) (block_reads second g)
+      (either_reads (block_steps first) (block_steps second) g k)
   action_reads (partition line cells block) g k = block_reads block g k
   action_reads (call line names received function) g (inl k) = k
   action_reads (call line names received function) g (inr k) = absurd k
@@ -88,7 +91,8 @@ mutual
 
   block_within : (cells n : ℕ) (block : Block) → BlockIsWithin cells n block → StepsAreWithin n (steps_of (block_steps block))
   block_within cells n no_actions h = tt
-  block_within cells n (an_action action rest) h = both_within n (action_steps action) (block_steps rest) (action_within cells n action h.0) (block_within cells n rest h.1)
+  block_within cells n (an_action action rest) h = both_within n (action_steps action) (block_steps rest) (action_within cells n action h.0)
+      (block_within cells n rest h.1)
 
 -- ---- functions
 
@@ -99,7 +103,8 @@ found : (bodies : List (List Action)) (k f c : ℕ) → c ≡ k + f → definiti
 found [] k f c e = refl
 found (body ∷ bodies) k zero c e = ap (λ b. cond b (Some (body_term body)) (definition_among (calls_from (k + 1) bodies) c)) (eq-eqb c k (omega (arith, e)))
 found (body ∷ bodies) k (suc f) c e =
-    ap (λ b. cond b (Some (body_term body)) (definition_among (calls_from (k + 1) bodies) c)) (ne_eqb c k (λ q. omega (arith, e, q))) ∙ found bodies (k + 1) f c (omega (arith, e))
+    ap (λ b. cond b (Some (body_term body)) (definition_among (calls_from (k + 1) bodies) c)) (ne_eqb c k (λ q. omega (arith, e, q)))
+    ∙ found bodies (k + 1) f c (omega (arith, e))
 
 by_body : (o : Option (List Action)) (g : ℕ) → IsSomeAnd (option_map body_term o) (λ t. TermReads t g) → BlockCalls (block_or_none o) g
 by_body None g k = absurd k
@@ -143,7 +148,8 @@ targets_within : (n k : ℕ) (bodies : List (List Action)) → k + length bodies
 targets_within n k [] h = All-nil (λ c. c < n)
 targets_within n k (body ∷ bodies) h = All-cons (λ c. c < n) k (targets (k + 1) bodies) (omega (arith, h)) (targets_within n (k + 1) bodies (omega (arith, h)))
 
-terms_within : (cells n k : ℕ) (bodies : List (List Action)) → All (λ commands. BlockIsWithin cells n (block_of commands)) bodies → All (IsWithin n) (map (λ d. d.1) (calls_from k bodies))
+terms_within : (cells n k : ℕ) (bodies : List (List Action)) → All (λ commands. BlockIsWithin cells n (block_of commands)) bodies
+    → All (IsWithin n) (map (λ d. d.1) (calls_from k bodies))
 terms_within cells n k [] h = All-nil (IsWithin n)
 terms_within cells n k (body ∷ bodies) h =
     All-cons (IsWithin n) (body_term body) (map (λ d. d.1) (calls_from (k + 1) bodies))
@@ -157,7 +163,8 @@ neither true b p q = absurd (cc)
 
 absent : (c k : ℕ) (bodies : List (List Action)) → c < k → is_among c (targets k bodies) ≡ false
 absent c k [] h = refl
-absent c k (body ∷ bodies) h = neither (eqb c k) (is_among c (targets (k + 1) bodies)) (ne_eqb c k (λ e. omega (arith, e, h))) (absent c (k + 1) bodies (omega (arith, h)))
+absent c k (body ∷ bodies) h = neither (eqb c k) (is_among c (targets (k + 1) bodies)) (ne_eqb c k (λ e. omega (arith, e, h)))
+    (absent c (k + 1) bodies (omega (arith, h)))
 
 distinct : (k : ℕ) (bodies : List (List Action)) → AreDistinctCells (targets k bodies)
 distinct k [] = tt

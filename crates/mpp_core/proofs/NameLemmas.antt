@@ -1,5 +1,6 @@
 -- The variable of a name, and the cells of a kind.
-use Rattle.std.proofs.Common.{◌≡◌, ◌≤◌, ◌+◌, ℕ, ℤ, Bool, true, false, cond, List, [], ◌∷◌, ◌++◌, length, Option, None, Some, refl, sym, subst, ◌∙◌, append_assoc, arith, slice_get}
+use Rattle.std.proofs.Common.{◌≡◌, ◌≤◌, ◌+◌, ℕ, ℤ, Bool, true, false, cond, List, [], ◌∷◌, ◌++◌, length, Option, None, Some, refl, sym, subst, ◌∙◌}
+use Rattle.std.proofs.Common.{append_assoc, arith, slice_get}
 use Rattle.std.specs.Prelude.{IfSome}
 use Rattle.std.proofs.lemmas.List.{append-nil}
 use Rattle.std.specs.Option.{option_and_then}
@@ -28,7 +29,8 @@ at_place vs (Some i) v e = (i, e)
 pub named_at : (d : Declared) (name : List ℕ) (v : Variable) → variable_named d name ≡ Some v → (i : ℕ) × (slice_get d.variables i ≡ Some v)
 named_at d name v e = at_place d.variables (index_of name (names_of d.variables)) v e
 
-pub named_fits : (d : Declared) (name : List ℕ) (count : ℕ) (v : Variable) → IsPlaced d → variable_named d name ≡ Some v → count ≡ length (owners_from 0 d.variables) → v.first_cell + v.cells ≤ count
+pub named_fits : (d : Declared) (name : List ℕ) (count : ℕ) (v : Variable) → IsPlaced d → variable_named d name ≡ Some v
+    → count ≡ length (owners_from 0 d.variables) → v.first_cell + v.cells ≤ count
 named_fits d name count v p e c = let k = named_at d name v e in fits d k.0 count v p k.1 c
 
 pub named_sized : (d : Declared) (name : List ℕ) (v : Variable) → IsPlaced d → variable_named d name ≡ Some v → IfSome (variable_size v.item) (λ s. v.cells ≡ s)
@@ -39,7 +41,8 @@ kind-by : (b : Bool) (cell : ℕ) (before rest : List ℕ) → cond b (before ++
 kind-by true cell before rest = append_assoc before (cell ∷ []) rest
 kind-by false cell before rest = refl
 
-kind-behind : (a : List ℕ) (values : List ℤ) (before : List ℕ) (vs : List Variable) → cells_of_kind (Attribute a values) before vs ≡ before ++ cells_with a values vs
+kind-behind : (a : List ℕ) (values : List ℤ) (before : List ℕ) (vs : List Variable) → cells_of_kind (Attribute a values) before vs ≡ before
+    ++ cells_with a values vs
 kind-behind a values before [] = sym (append-nil before)
 kind-behind a values before (v ∷ vs) =
     kind-behind a values (with_kind (Attribute a values) before v) vs
@@ -53,11 +56,13 @@ ascends-by first cell size false rest e h = ascends-from first (first + size) re
 kind-ascends : (a : List ℕ) (values : List ℤ) (first : ℕ) (items : List VariableItem) → Ascends first (cells_with a values (placed_from first items))
 kind-ascends a values first [] = tt
 kind-ascends a values first (item ∷ items) =
-    ascends-by first first (variable_cells item) (is_of_kind (record { item = item; first_cell = first; cells = variable_cells item }) a values) (cells_with a values (placed_from (first + variable_cells item) items))
+    ascends-by first first (variable_cells item) (is_of_kind (record { item = item; first_cell = first; cells = variable_cells item }) a values)
+    (cells_with a values (placed_from (first + variable_cells item) items))
     refl (kind-ascends a values (first + variable_cells item) items)
 
 -- what an index gives of a kind
-pub kind-is : (d : Declared) (index : KindIndex) (a : List ℕ) (values : List ℤ) → IsPlaced d → IsIndexOf d.variables index → ascending (groups_in index a values) ≡ kind_cells d (Attribute a values)
+pub kind-is : (d : Declared) (index : KindIndex) (a : List ℕ) (values : List ℤ) → IsPlaced d → IsIndexOf d.variables index
+    → ascending (groups_in index a values) ≡ kind_cells d (Attribute a values)
 kind-is d index a values p h =
     same 0 0 (ascending (groups_in index a values)) (cells_with a values d.variables)
     (ascending-ascends (groups_in index a values))

@@ -1,5 +1,6 @@
 -- Cells in ascending order, each once.
-use Rattle.std.proofs.Common.{◌≡◌, ◌<◌, ◌≤◌, ◌+◌, ℕ, zero, suc, inl, inr, ◌⊎◌, Bool, true, false, List, [], ◌∷◌, length, get_or, set, All, refl, sym, ap, ◌∙◌, subst, arith}
+use Rattle.std.proofs.Common.{◌≡◌, ◌<◌, ◌≤◌, ◌+◌, ℕ, zero, suc, inl, inr, ◌⊎◌, Bool, true, false, List, [], ◌∷◌, length, get_or, set, All, refl, sym, ap, ◌∙◌}
+use Rattle.std.proofs.Common.{subst, arith}
 use Rattle.std.specs.Prelude.{nat_lt, ◌==◌, if◌then◌else◌}
 use Rattle.std.specs.List.{AllByRecursion, AllPairs, Contains}
 use Rattle.std.proofs.lemmas.Bool.Decides.{leb_holds, eqb_holds}
@@ -171,11 +172,15 @@ above-from x (y ∷ ys) h = (h 0 0 (omega arith), above-from x ys (λ k d l. h (
 
 rises-from : (xs : List ℕ) → AllPairs (λ x y. x < y) xs → Rises xs
 rises-from [] h = tt
-rises-from (x ∷ xs) h =
-    (above-from x xs (λ k d l. h 0 (suc k) d (omega arith) (omega (arith, l))), rises-from xs (λ i j d a b. h (suc i) (suc j) d (omega (arith, a)) (omega (arith, b))))
+rises-from (x ∷ xs) h = (
+  above-from x xs (λ k d l. h 0 (suc k) d (omega arith) (omega (arith, l))),
+  rises-from xs
+      (λ i j d a b. h (suc i) (suc j) d (omega (arith, a)) (omega (arith, b))),
+)
 
 -- an ascending list with the members of another is that list with each member once
-pub is-once : (cs ds : List ℕ) → AllPairs (λ x y. x < y) ds → ((z : ℕ) → Contains ds z → Contains cs z) → ((z : ℕ) → Contains cs z → Contains ds z) → ds ≡ each_once cs
+pub is-once : (cs ds : List ℕ) → AllPairs (λ x y. x < y) ds → ((z : ℕ) → Contains ds z → Contains cs z) → ((z : ℕ) → Contains cs z → Contains ds z)
+    → ds ≡ each_once cs
 is-once cs ds p f g =
     same-lists ds (each_once cs) (rises-from ds p) (once-rises cs)
     (λ z h. has-once z cs (to-has z cs (f z (from-has z ds h))))
@@ -190,7 +195,8 @@ set-apart (v ∷ vs) zero (suc j) a b n = refl
 set-apart (v ∷ vs) (suc i) zero a b n = refl
 set-apart (v ∷ vs) (suc i) (suc j) a b n = ap (λ l. v ∷ l) (set-apart vs i j a b (λ e. n (ap suc e)))
 
-one-by : (c d : ℕ) (ds : List ℕ) (values : Environment) (env : Env) → with_values (with_cell c ds) values (set env d (values d)) ≡ with_values (c ∷ ds) values (set env d (values d)) → Lies c d → with_values (with_cell c (d ∷ ds)) values env ≡ with_values (c ∷ d ∷ ds) values env
+one-by : (c d : ℕ) (ds : List ℕ) (values : Environment) (env : Env) → with_values (with_cell c ds) values (set env d (values d)) ≡ with_values (c ∷ ds) values
+    (set env d (values d)) → Lies c d → with_values (with_cell c (d ∷ ds)) values env ≡ with_values (c ∷ d ∷ ds) values env
 one-by c d ds values env k (below l e) = ap (λ xs. with_values xs values env) (with-below c d ds e)
 one-by c d ds values env k (here l e f) =
     ap (λ xs. with_values xs values env) (with-here c d ds e f)

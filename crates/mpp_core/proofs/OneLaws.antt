@@ -29,7 +29,8 @@ shows core (UnknownInDriver name line) r = absurd r
 shows core (BadTargetInDriver name line) r = absurd r
 shows core Memory r = absurd r
 
-pub no_core_and_fault : (driver : Driver) (declared : Declared) (core : Core) (fault : CoreFault) → IsCore driver declared core → IsCoreFault driver declared fault → ⊥
+pub no_core_and_fault : (driver : Driver) (declared : Declared) (core : Core) (fault : CoreFault) → IsCore driver declared core
+    → IsCoreFault driver declared fault → ⊥
 no_core_and_fault driver declared core fault a (inl e) = ok_or_err a.named e
 no_core_and_fault driver declared core fault a (inr h) =
     let shown = (shows h.0 fault h.2).2 in
@@ -41,7 +42,8 @@ both_show core other fault another a b =
     let q = shows other another b in
     subst (λ (f : CoreFault). AreOneCoreFault f another) (sym p.1) (subst (λ (g : CoreFault). AreOneCoreFault (DriverRecursion p.0) g) (sym q.1) both_rings)
 
-pub one_fault : (driver : Driver) (declared : Declared) (fault other : CoreFault) → IsCoreFault driver declared fault → IsCoreFault driver declared other → AreOneCoreFault fault other
+pub one_fault : (driver : Driver) (declared : Declared) (fault other : CoreFault) → IsCoreFault driver declared fault → IsCoreFault driver declared other
+    → AreOneCoreFault fault other
 one_fault driver declared fault other (inl e) (inl f) = the_same (err_one e f)
 one_fault driver declared fault other (inl e) (inr h) = absurd (ok_or_err h.1 e)
 one_fault driver declared fault other (inr h) (inl f) = absurd (ok_or_err h.1 f)

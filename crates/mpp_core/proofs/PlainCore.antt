@@ -27,11 +27,13 @@ plain_valid requests d h =
       in_range = record {
         names = refl;
         main = omega arith;
-        bodies = All-cons (λ (commands : List Action). BlockIsWithin all 1 (block_of commands)) (received_alone (received_cells requests d) ∷ []) [] (known, tt) (All-nil (λ (commands : List Action). BlockIsWithin all 1 (block_of commands)));
+        bodies = All-cons (λ (commands : List Action). BlockIsWithin all 1 (block_of commands)) (received_alone (received_cells requests d) ∷ []) [] (known, tt)
+            (All-nil (λ (commands : List Action). BlockIsWithin all 1 (block_of commands)));
       };
       no_ring = no_ring requests d;
     }
 
-pub valid_plain : {E : Type 0} (requests : List ℕ) (d : Declared) (result : Result Core E) → All (λ c. c < length (owners_from 0 d.variables)) requests → IfOk result (λ core. core ≡ plain_core requests d) → IfOk result IsValidCore
+pub valid_plain : {E : Type 0} (requests : List ℕ) (d : Declared) (result : Result Core E) → All (λ c. c < length (owners_from 0 d.variables)) requests
+    → IfOk result (λ core. core ≡ plain_core requests d) → IfOk result IsValidCore
 valid_plain requests d (Ok core) h e = subst IsValidCore (sym e) (plain_valid requests d h)
 valid_plain requests d (Err error) h e = tt

@@ -1,5 +1,6 @@
 -- A driver over cells whose names have no fault has its numbers in range.
-use Rattle.std.proofs.Common.{◌≡◌, ◌≤◌, ◌<◌, ◌+◌, ◌^◌, ℕ, ℤ, suc, Bool, true, false, cond, nat_lt, List, [], ◌∷◌, ◌++◌, length, map, length-append, All, Option, None, Some, Result, Ok, Err, refl, sym, ap, ◌∙◌, subst, arith, slice_get}
+use Rattle.std.proofs.Common.{◌≡◌, ◌≤◌, ◌<◌, ◌+◌, ◌^◌, ℕ, ℤ, suc, Bool, true, false, cond, nat_lt, List, [], ◌∷◌, ◌++◌, length, map, length-append, All, Option}
+use Rattle.std.proofs.Common.{None, Some, Result, Ok, Err, refl, sym, ap, ◌∙◌, subst, arith, slice_get}
 use Rattle.std.specs.Prelude.{◌&&◌, codes, ◌==◌}
 use Rattle.std.specs.List.{AllByRecursion}
 use Rattle.std.specs.Option.{option_map_or, option_map}
@@ -26,7 +27,8 @@ use Rattle.mpp_parser.specs.declared.term.Kind.TheVariants.{Attribute}
 use Rattle.mpp_parser.specs.declared.command.Function.{Function}
 use Rattle.mpp_parser.specs.declared.command.Driver.{Driver}
 use Rattle.driver_core.specs.declared.program.Core.{Core}
-use Rattle.driver_core.specs.Formulas.{Formula, lit as lit_formula, cell as cell_formula, apply as apply_formula, chain as chain_formula, exists as exists_formula}
+use Rattle.driver_core.specs.Formulas.{Formula, lit as lit_formula, cell as cell_formula, apply as apply_formula, chain as chain_formula}
+use Rattle.driver_core.specs.Formulas.{exists as exists_formula}
 use Rattle.driver_core.specs.FormulaView.{formulas_of, steps_of}
 use Rattle.driver_core.specs.declared.term.CStep.{CStep}
 use Rattle.driver_core.specs.Actions.{Action, assign, clear, branch, partition as partition_action, call as call_action, solve}
@@ -34,14 +36,17 @@ use Rattle.driver_core.specs.ActionView.{block_of}
 use Rattle.driver_core.specs.Valid.{FormulaIsWithin, FormulasAreWithin, StepsAreWithin, ActionIsWithin, BlockIsWithin, IsInRange}
 use Rattle.mpp_core.specs.declared.fault.CoreFault.{CoreFault}
 use Rattle.mpp_core.specs.declared.fault.CoreFault.TheVariants.{FunctionTwice}
-use Rattle.mpp_core.specs.Names.{if_resolved, table_cell, cell_at, cell_of_variable, resolved_cell, constant_target, target_of_variable, resolved_target, resolved_targets, with_cell, each_once, with_kind, cells_of_kind, kind_cells, name_in, resolved_name, resolved_names, resolved_main, resolved_function, rules_name}
+use Rattle.mpp_core.specs.Names.{if_resolved, table_cell, cell_at, cell_of_variable, resolved_cell, constant_target, target_of_variable, resolved_target}
+use Rattle.mpp_core.specs.Names.{resolved_targets, with_cell, each_once, with_kind, cells_of_kind, kind_cells, name_in, resolved_name, resolved_names}
+use Rattle.mpp_core.specs.Names.{resolved_main, resolved_function, rules_name}
 use Rattle.mpp_core.specs.Bodies.{resolved_term, resolved_terms, resolved_links, resolved_call, resolved_act, resolved_acts, resolved_bodies}
 use Rattle.mpp_core.specs.Cores.{core_of}
 use Rattle.mpp_core.proofs.NameLemmas.{named_at}
 
 -- ---- things that are said
 
-resolved_by : {A B : Type 0} (next : A → Result B CoreFault) (r : Result A CoreFault) (b : B) → if_resolved next r ≡ Ok b → (a : A) × (r ≡ Ok a) × (next a ≡ Ok b)
+resolved_by : {A B : Type 0} (next : A → Result B CoreFault) (r : Result A CoreFault) (b : B) → if_resolved next r ≡ Ok b
+    → (a : A) × (r ≡ Ok a) × (next a ≡ Ok b)
 resolved_by next (Ok a) b e = (a, refl, e)
 resolved_by next (Err fault) b e = absurd (cc)
 
@@ -62,13 +67,15 @@ all_of P (x ∷ xs) h = All-cons P x xs h.0 (all_of P xs h.1)
 
 -- ---- cells
 
-in_table : (name : List ℕ) (line first size k c all : ℕ) (b : Bool) → nat_lt k size ≡ b → first + size ≤ all → table_cell name line first size k ≡ Ok c → c < all
+in_table : (name : List ℕ) (line first size k c all : ℕ) (b : Bool) → nat_lt k size ≡ b → first + size ≤ all → table_cell name line first size k ≡ Ok c
+    → c < all
 in_table name line first size k c all true t h e =
     let s : ◌≡◌ {A = Result ℕ CoreFault} (Ok (first + k)) (Ok c) = rw t at e in
     omega (arith, h, ltb-true k size t, value_of_ok (first + k) c s)
 in_table name line first size k c all false t h e = let s = rw t at e in absurd (cc)
 
-at_within : (name : List ℕ) (line first cells all c : ℕ) (index size : Option ℕ) → cells ≡ cells_in size → first + cells ≤ all → cell_at name line first index size ≡ Ok c → c < all
+at_within : (name : List ℕ) (line first cells all c : ℕ) (index size : Option ℕ) → cells ≡ cells_in size → first + cells ≤ all
+    → cell_at name line first index size ≡ Ok c → c < all
 at_within name line first cells all c None None e h s = omega (arith, e, h, value_of_ok first c s)
 at_within name line first cells all c None (Some size) e h s = absurd (cc)
 at_within name line first cells all c (Some k) None e h s = absurd (cc)
@@ -80,7 +87,8 @@ cell_within d line c cell p e = option_cases (variable_named d cell.name)
     (λ (v : Variable) (some : variable_named d cell.name ≡ Some v).
     let at = named_at d cell.name v some in
     let m = placed_ends d at.0 v p at.1 in
-    at_within cell.name line v.first_cell v.cells (length (owners_from 0 d.variables)) c cell.index (variable_size v.item) m.cells (omega (arith, m.ends)) (sym (ap (cell_of_variable line cell) some) ∙ e))
+    at_within cell.name line v.first_cell v.cells (length (owners_from 0 d.variables)) c cell.index (variable_size v.item) m.cells (omega (arith, m.ends))
+    (sym (ap (cell_of_variable line cell) some) ∙ e))
 
 no_constant : (name : List ℕ) (line c : ℕ) (index : Option ℕ) → constant_target name line index ≡ Ok c → ⊥
 no_constant name line c None e = cc
@@ -97,9 +105,11 @@ target_within d line c cell p e = option_cases (variable_named d cell.name)
     (λ (v : Variable) (some : variable_named d cell.name ≡ Some v).
     let at = named_at d cell.name v some in
     let m = placed_ends d at.0 v p at.1 in
-    by_role cell.name line v.first_cell v.cells (length (owners_from 0 d.variables)) c cell.index (variable_size v.item) (is_constant v.item.role) m.cells (omega (arith, m.ends)) (sym (ap (target_of_variable line cell) some) ∙ e))
+    by_role cell.name line v.first_cell v.cells (length (owners_from 0 d.variables)) c cell.index (variable_size v.item) (is_constant v.item.role) m.cells
+    (omega (arith, m.ends)) (sym (ap (target_of_variable line cell) some) ∙ e))
 
-targets_within : (d : Declared) (line : ℕ) (before : List ℕ) (cells : List CellName) (stated : List ℕ) → IsPlaced d → AllByRecursion (λ c. c < length (owners_from 0 d.variables)) before
+targets_within : (d : Declared) (line : ℕ) (before : List ℕ) (cells : List CellName) (stated : List ℕ) → IsPlaced d
+    → AllByRecursion (λ c. c < length (owners_from 0 d.variables)) before
     → resolved_targets d line before cells ≡ Ok stated → AllByRecursion (λ c. c < length (owners_from 0 d.variables)) stated
 targets_within d line before [] stated p h e = subst (AllByRecursion (λ c. c < length (owners_from 0 d.variables))) (value_of_ok before stated e) h
 targets_within d line before (cell ∷ cells) stated p h e =
@@ -131,7 +141,8 @@ from_each P [] h = tt
 from_each P (x ∷ xs) h = (h 0 x refl, from_each P xs (λ i y e. h (suc i) y e))
 
 all_stand : (d : Declared) → IsPlaced d → AllByRecursion (IsWithinCount (length (owners_from 0 d.variables))) d.variables
-all_stand d p = from_each (IsWithinCount (length (owners_from 0 d.variables))) d.variables (λ i v e. let m = placed_ends d i v p e in (m.cells, omega (arith, m.ends)))
+all_stand d p = from_each (IsWithinCount (length (owners_from 0 d.variables))) d.variables
+    (λ i v e. let m = placed_ends d i v p e in (m.cells, omega (arith, m.ends)))
 
 both : (a b : Bool) → (a && b) ≡ true → a ≡ true
 both true b e = refl
@@ -142,11 +153,13 @@ input_cells (Input code) e = refl
 input_cells (Computed size) e = absurd (cc)
 input_cells (Constant amount) e = absurd (cc)
 
-put_if : (n cell : ℕ) (b : Bool) (before : List ℕ) → (b ≡ true → cell < n) → AllByRecursion (λ c. c < n) before → AllByRecursion (λ c. c < n) (cond b (before ++ cell ∷ []) before)
+put_if : (n cell : ℕ) (b : Bool) (before : List ℕ) → (b ≡ true → cell < n) → AllByRecursion (λ c. c < n) before
+    → AllByRecursion (λ c. c < n) (cond b (before ++ cell ∷ []) before)
 put_if n cell true before h a = all_push _ before cell a (h refl)
 put_if n cell false before h a = a
 
-kinds_within : (n : ℕ) (attribute : List ℕ) (values : List ℤ) (before : List ℕ) (vs : List Variable) → AllByRecursion (IsWithinCount n) vs → AllByRecursion (λ c. c < n) before
+kinds_within : (n : ℕ) (attribute : List ℕ) (values : List ℤ) (before : List ℕ) (vs : List Variable) → AllByRecursion (IsWithinCount n) vs
+    → AllByRecursion (λ c. c < n) before
     → AllByRecursion (λ c. c < n) (cells_of_kind (Attribute attribute values) before vs)
 kinds_within n attribute values before [] h a = a
 kinds_within n attribute values before (v ∷ vs) h a =
@@ -172,34 +185,42 @@ steps_within n [] h = tt
 steps_within n (s ∷ ss) h = (h.0, steps_within n ss h.1)
 
 mutual
-  term_within : (d : Declared) (line : ℕ) (s : Term) (t : Formula) → IsPlaced d → resolved_term d line s ≡ Ok t → FormulaIsWithin (length (owners_from 0 d.variables)) t
+  term_within : (d : Declared) (line : ℕ) (s : Term) (t : Formula) → IsPlaced d → resolved_term d line s ≡ Ok t
+      → FormulaIsWithin (length (owners_from 0 d.variables)) t
   term_within d line (lit value) t p e = subst (FormulaIsWithin (length (owners_from 0 d.variables))) (value_of_ok (lit_formula value) t e) tt
   term_within d line (named cell) t p e =
       let k = resolved_by (λ c. Ok (cell_formula c)) (resolved_cell d line cell) t e in
       subst (FormulaIsWithin (length (owners_from 0 d.variables))) (value_of_ok (cell_formula k.0) t k.2) (cell_within d line k.0 cell p k.1)
   term_within d line (apply op all) t p e =
       let k = resolved_by (λ arguments. Ok (apply_formula op (formulas_of arguments))) (resolved_terms d line [] all) t e in
-      subst (FormulaIsWithin (length (owners_from 0 d.variables))) (value_of_ok (apply_formula op (formulas_of k.0)) t k.2) (formulas_within _ k.0 (terms_within d line [] all k.0 p tt k.1))
+      subst (FormulaIsWithin (length (owners_from 0 d.variables))) (value_of_ok (apply_formula op (formulas_of k.0)) t k.2)
+      (formulas_within _ k.0 (terms_within d line [] all k.0 p tt k.1))
   term_within d line (chain first links) t p e =
-      let k = resolved_by (λ f. if_resolved (λ steps. Ok (chain_formula f (steps_of steps))) (resolved_links d line [] links)) (resolved_term d line first) t e in
+      let k = resolved_by (λ f. if_resolved (λ steps. Ok (chain_formula f (steps_of steps))) (resolved_links d line [] links)) (resolved_term d line first) t
+      e in
       let m = resolved_by (λ steps. Ok (chain_formula k.0 (steps_of steps))) (resolved_links d line [] links) t k.2 in
-      subst (FormulaIsWithin (length (owners_from 0 d.variables))) (value_of_ok (chain_formula k.0 (steps_of m.0)) t m.2) (term_within d line first k.0 p k.1, steps_within _ m.0 (links_within d line [] links m.0 p tt m.1))
+      subst (FormulaIsWithin (length (owners_from 0 d.variables))) (value_of_ok (chain_formula k.0 (steps_of m.0)) t m.2)
+      (term_within d line first k.0 p k.1, steps_within _ m.0 (links_within d line [] links m.0 p tt m.1))
   term_within d line (exists kind) t p e =
-      subst (FormulaIsWithin (length (owners_from 0 d.variables))) (value_of_ok (exists_formula (kind_cells d kind)) t e) (all_of (λ c. c < length (owners_from 0 d.variables)) (kind_cells d kind) (kind_within d kind p))
+      subst (FormulaIsWithin (length (owners_from 0 d.variables))) (value_of_ok (exists_formula (kind_cells d kind)) t e)
+      (all_of (λ c. c < length (owners_from 0 d.variables)) (kind_cells d kind) (kind_within d kind p))
 
-  terms_within : (d : Declared) (line : ℕ) (before : List Formula) (all : Terms) (ts : List Formula) → IsPlaced d → AllByRecursion (FormulaIsWithin (length (owners_from 0 d.variables))) before
+  terms_within : (d : Declared) (line : ℕ) (before : List Formula) (all : Terms) (ts : List Formula) → IsPlaced d
+      → AllByRecursion (FormulaIsWithin (length (owners_from 0 d.variables))) before
       → resolved_terms d line before all ≡ Ok ts → AllByRecursion (FormulaIsWithin (length (owners_from 0 d.variables))) ts
   terms_within d line before no_terms ts p h e = subst (AllByRecursion (FormulaIsWithin (length (owners_from 0 d.variables)))) (value_of_ok before ts e) h
   terms_within d line before (a_term a rest) ts p h e =
       let k = resolved_by (λ t. resolved_terms d line (before ++ t ∷ []) rest) (resolved_term d line a) ts e in
       terms_within d line (before ++ k.0 ∷ []) rest ts p (all_push _ before k.0 h (term_within d line a k.0 p k.1)) k.2
 
-  links_within : (d : Declared) (line : ℕ) (before : List CStep) (all : Links) (ss : List CStep) → IsPlaced d → AllByRecursion (StepIsWithin (length (owners_from 0 d.variables))) before
+  links_within : (d : Declared) (line : ℕ) (before : List CStep) (all : Links) (ss : List CStep) → IsPlaced d
+      → AllByRecursion (StepIsWithin (length (owners_from 0 d.variables))) before
       → resolved_links d line before all ≡ Ok ss → AllByRecursion (StepIsWithin (length (owners_from 0 d.variables))) ss
   links_within d line before no_links ss p h e = subst (AllByRecursion (StepIsWithin (length (owners_from 0 d.variables)))) (value_of_ok before ss e) h
   links_within d line before (a_link op a rest) ss p h e =
       let k = resolved_by (λ t. resolved_links d line (before ++ record { op = op; term = t } ∷ []) rest) (resolved_term d line a) ss e in
-      links_within d line (before ++ record { op = op; term = k.0 } ∷ []) rest ss p (all_push _ before (record { op = op; term = k.0 }) h (term_within d line a k.0 p k.1)) k.2
+      links_within d line (before ++ record { op = op; term = k.0 } ∷ []) rest ss p
+      (all_push _ before (record { op = op; term = k.0 }) h (term_within d line a k.0 p k.1)) k.2
 
 -- ---- functions
 
@@ -224,9 +245,11 @@ call_by n functions line f received action h k e =
     subst (ActionIsWithin n functions) (value_of_ok _ action e) (all_of (λ c. c < n) (each_once received) (once_within n received h), k)
 
 call_cases : (n line : ℕ) (names : List (List ℕ)) (name received : List ℕ) (action : Action) (b : Bool) → AllByRecursion (λ c. c < n) received
-    → cond b (Ok (solve line (length received) (each_once received))) (if_resolved (λ f. Ok (call_action line (length received) (each_once received) f)) (resolved_function names line name)) ≡ Ok action
+    → cond b (Ok (solve line (length received) (each_once received))) (if_resolved (λ f. Ok (call_action line (length received) (each_once received) f))
+    (resolved_function names line name)) ≡ Ok action
     → ActionIsWithin n (length names) action
-call_cases n line names name received action true h e = subst (ActionIsWithin n (length names)) (value_of_ok _ action e) (all_of (λ c. c < n) (each_once received) (once_within n received h))
+call_cases n line names name received action true h e = subst (ActionIsWithin n (length names)) (value_of_ok _ action e)
+    (all_of (λ c. c < n) (each_once received) (once_within n received h))
 call_cases n line names name received action false h e =
     let k = resolved_by (λ f. Ok (call_action line (length received) (each_once received) f)) (resolved_function names line name) action e in
     call_by n (length names) line k.0 received action h (number_within (index_of name names) _ (length names) k.0 (index_within name names) k.1) k.2
@@ -236,24 +259,36 @@ block_within n functions [] h = tt
 block_within n functions (a ∷ rest) h = (h.0, block_within n functions rest h.1)
 
 mutual
-  act_within : (d : Declared) (names : List (List ℕ)) (a : Act) (action : Action) → IsPlaced d → resolved_act d names a ≡ Ok action → ActionIsWithin (length (owners_from 0 d.variables)) (length names) action
+  act_within : (d : Declared) (names : List (List ℕ)) (a : Act) (action : Action) → IsPlaced d → resolved_act d names a ≡ Ok action
+      → ActionIsWithin (length (owners_from 0 d.variables)) (length names) action
   act_within d names (set line c term) action p e =
       let k = resolved_by (λ cell. if_resolved (λ t. Ok (assign line cell t)) (resolved_term d line term)) (resolved_target d line c) action e in
       let m = resolved_by (λ t. Ok (assign line k.0 t)) (resolved_term d line term) action k.2 in
-      subst (ActionIsWithin (length (owners_from 0 d.variables)) (length names)) (value_of_ok (assign line k.0 m.0) action m.2) (target_within d line k.0 c p k.1, term_within d line term m.0 p m.1)
+      subst (ActionIsWithin (length (owners_from 0 d.variables)) (length names)) (value_of_ok (assign line k.0 m.0) action m.2)
+      (target_within d line k.0 c p k.1, term_within d line term m.0 p m.1)
   act_within d names (del line c) action p e =
       let k = resolved_by (λ cell. Ok (clear line cell)) (resolved_target d line c) action e in
       subst (ActionIsWithin (length (owners_from 0 d.variables)) (length names)) (value_of_ok (clear line k.0) action k.2) (target_within d line k.0 c p k.1)
   act_within d names (when line condition first second) action p e =
-      let k = resolved_by (λ t. if_resolved (λ a. if_resolved (λ b. Ok (branch line t (block_of a) (block_of b))) (resolved_acts d names [] second)) (resolved_acts d names [] first)) (resolved_term d line condition) action e in
-      let m = resolved_by (λ a. if_resolved (λ b. Ok (branch line k.0 (block_of a) (block_of b))) (resolved_acts d names [] second)) (resolved_acts d names [] first) action k.2 in
+      let k = resolved_by (λ t. if_resolved (λ a. if_resolved (λ b. Ok (branch line t (block_of a) (block_of b))) (resolved_acts d names [] second))
+      (resolved_acts d names [] first)) (resolved_term d line condition) action e in
+      let m = resolved_by (λ a. if_resolved (λ b. Ok (branch line k.0 (block_of a) (block_of b))) (resolved_acts d names [] second))
+      (resolved_acts d names [] first) action k.2 in
       let q = resolved_by (λ b. Ok (branch line k.0 (block_of m.0) (block_of b))) (resolved_acts d names [] second) action m.2 in
-      subst (ActionIsWithin (length (owners_from 0 d.variables)) (length names)) (value_of_ok (branch line k.0 (block_of m.0) (block_of q.0)) action q.2)
-      (term_within d line condition k.0 p k.1, block_within _ _ m.0 (acts_within d names [] first m.0 p tt m.1), block_within _ _ q.0 (acts_within d names [] second q.0 p tt q.1))
+      subst (ActionIsWithin (length (owners_from 0 d.variables)) (length names)) (value_of_ok (branch line k.0 (block_of m.0) (block_of q.0)) action q.2) (
+        term_within d line condition k.0 p k.1,
+        block_within _ _ m.0 (acts_within d names [] first m.0 p tt m.1),
+        block_within _ _ q.0
+            (acts_within d names [] second q.0 p tt q.1),
+      )
   act_within d names (partition line kind block) action p e =
       let k = resolved_by (λ a. Ok (partition_action line (kind_cells d kind) (block_of a))) (resolved_acts d names [] block) action e in
-      subst (ActionIsWithin (length (owners_from 0 d.variables)) (length names)) (value_of_ok (partition_action line (kind_cells d kind) (block_of k.0)) action k.2)
-      (all_of (λ c. c < length (owners_from 0 d.variables)) (kind_cells d kind) (kind_within d kind p), block_within _ _ k.0 (acts_within d names [] block k.0 p tt k.1))
+      subst (ActionIsWithin (length (owners_from 0 d.variables)) (length names)) (value_of_ok (partition_action line (kind_cells d kind) (block_of k.0)) action
+      k.2) (
+        all_of (λ c. c < length (owners_from 0 d.variables)) (kind_cells d kind) (kind_within d kind p),
+        block_within _ _ k.0
+            (acts_within d names [] block k.0 p tt k.1),
+      )
   act_within d names (call line cs name) action p e =
       let k = resolved_by (resolved_call names line name) (resolved_targets d line [] cs) action e in
       call_cases (length (owners_from 0 d.variables)) line names name k.0 action (bytes_eq name rules_name) (targets_within d line [] cs k.0 p tt k.1) k.2
@@ -261,7 +296,8 @@ mutual
   acts_within : (d : Declared) (names : List (List ℕ)) (before : List Action) (all : Acts) (stated : List Action) → IsPlaced d
       → AllByRecursion (ActionIsWithin (length (owners_from 0 d.variables)) (length names)) before → resolved_acts d names before all ≡ Ok stated
       → AllByRecursion (ActionIsWithin (length (owners_from 0 d.variables)) (length names)) stated
-  acts_within d names before no_acts stated p h e = subst (AllByRecursion (ActionIsWithin (length (owners_from 0 d.variables)) (length names))) (value_of_ok before stated e) h
+  acts_within d names before no_acts stated p h e = subst (AllByRecursion (ActionIsWithin (length (owners_from 0 d.variables)) (length names)))
+      (value_of_ok before stated e) h
   acts_within d names before (an_act a rest) stated p h e =
       let k = resolved_by (λ action. resolved_acts d names (before ++ action ∷ []) rest) (resolved_act d names a) stated e in
       acts_within d names (before ++ k.0 ∷ []) rest stated p (all_push _ before k.0 h (act_within d names a k.0 p k.1)) k.2
@@ -274,24 +310,29 @@ BodyIsWithin n functions commands = BlockIsWithin n functions (block_of commands
 bodies_within : (d : Declared) (names : List (List ℕ)) (before : List (List Action)) (fs : List Function) (bodies : List (List Action)) → IsPlaced d
     → AllByRecursion (BodyIsWithin (length (owners_from 0 d.variables)) (length names)) before → resolved_bodies d names before fs ≡ Ok bodies
     → AllByRecursion (BodyIsWithin (length (owners_from 0 d.variables)) (length names)) bodies
-bodies_within d names before [] bodies p h e = subst (AllByRecursion (BodyIsWithin (length (owners_from 0 d.variables)) (length names))) (value_of_ok before bodies e) h
+bodies_within d names before [] bodies p h e = subst (AllByRecursion (BodyIsWithin (length (owners_from 0 d.variables)) (length names)))
+    (value_of_ok before bodies e) h
 bodies_within d names before (f ∷ fs) bodies p h e =
     let k = resolved_by (λ body. resolved_bodies d names (before ++ body ∷ []) fs) (resolved_acts d names [] (acts_of f.body)) bodies e in
     bodies_within d names (before ++ k.0 ∷ []) fs bodies p
     (all_push _ before k.0 h (block_within _ _ k.0 (acts_within d names [] (acts_of f.body) k.0 p tt k.1))) k.2
 
-bodies_count : (d : Declared) (names : List (List ℕ)) (before : List (List Action)) (fs : List Function) (bodies : List (List Action)) → resolved_bodies d names before fs ≡ Ok bodies
+bodies_count : (d : Declared) (names : List (List ℕ)) (before : List (List Action)) (fs : List Function) (bodies : List (List Action))
+    → resolved_bodies d names before fs ≡ Ok bodies
     → length bodies ≡ length before + length fs
 bodies_count d names before [] bodies e = let s = ap length (value_of_ok before bodies e) in omega (arith, s)
 bodies_count d names before (f ∷ fs) bodies e =
     let k = resolved_by (λ body. resolved_bodies d names (before ++ body ∷ []) fs) (resolved_acts d names [] (acts_of f.body)) bodies e in
     omega (arith, bodies_count d names (before ++ k.0 ∷ []) fs bodies k.2, length-append before (k.0 ∷ []))
 
-name_count : (b : Bool) (fault : CoreFault) (before stated : List (List ℕ)) (name : List ℕ) → cond b (Err fault) (Ok (before ++ name ∷ [])) ≡ Ok stated → length stated ≡ length before + 1
+name_count : (b : Bool) (fault : CoreFault) (before stated : List (List ℕ)) (name : List ℕ) → cond b (Err fault) (Ok (before ++ name ∷ [])) ≡ Ok stated
+    → length stated ≡ length before + 1
 name_count true fault before stated name e = absurd (cc)
-name_count false fault before stated name e = let s = ap length (value_of_ok (before ++ name ∷ []) stated e) in omega (arith, s, length-append before (name ∷ []))
+name_count false fault before stated name e = let s = ap length (value_of_ok (before ++ name ∷ []) stated e) in omega
+    (arith, s, length-append before (name ∷ []))
 
-names_count : (before : List (List ℕ)) (fs : List Function) (names : List (List ℕ)) → resolved_names before fs ≡ Ok names → length names ≡ length before + length fs
+names_count : (before : List (List ℕ)) (fs : List Function) (names : List (List ℕ)) → resolved_names before fs ≡ Ok names
+    → length names ≡ length before + length fs
 names_count before [] names e = let s = ap length (value_of_ok before names e) in omega (arith, s)
 names_count before (f ∷ fs) names e =
     let k = resolved_by (λ stated. resolved_names stated fs) (resolved_name before f) names e in
@@ -305,9 +346,13 @@ few_names fs names e few = omega (arith, names_count [] fs names e, few)
 pub core_in_range : (driver : Driver) (d : Declared) (core : Core) → IsPlaced d → core_of driver d ≡ Ok core → IsInRange core
 core_in_range driver d core p e =
     let cells = length (owners_from 0 d.variables) in
-    let k = resolved_by (λ names. if_resolved (λ main. if_resolved (λ bodies. Ok (record { cells = cells; names = map name_in driver.functions; bodies = bodies; main = main })) (resolved_bodies d names [] driver.functions)) (resolved_main names)) (resolved_names [] driver.functions) core e in
-    let m = resolved_by (λ main. if_resolved (λ bodies. Ok (record { cells = cells; names = map name_in driver.functions; bodies = bodies; main = main })) (resolved_bodies d k.0 [] driver.functions)) (resolved_main k.0) core k.2 in
-    let b = resolved_by (λ bodies. Ok (record { cells = cells; names = map name_in driver.functions; bodies = bodies; main = m.0 })) (resolved_bodies d k.0 [] driver.functions) core m.2 in
+    let k = resolved_by (λ names. if_resolved
+    (λ main. if_resolved (λ bodies. Ok (record { cells = cells; names = map name_in driver.functions; bodies = bodies; main = main }))
+    (resolved_bodies d names [] driver.functions)) (resolved_main names)) (resolved_names [] driver.functions) core e in
+    let m = resolved_by (λ main. if_resolved (λ bodies. Ok (record { cells = cells; names = map name_in driver.functions; bodies = bodies; main = main }))
+    (resolved_bodies d k.0 [] driver.functions)) (resolved_main k.0) core k.2 in
+    let b = resolved_by (λ bodies. Ok (record { cells = cells; names = map name_in driver.functions; bodies = bodies; main = m.0 }))
+    (resolved_bodies d k.0 [] driver.functions) core m.2 in
     let count = bodies_count d k.0 [] driver.functions b.0 b.1 in
     let named = names_count [] driver.functions k.0 k.1 in
     let same : length k.0 ≡ length b.0 = omega (arith, count, named) in
@@ -315,16 +360,22 @@ core_in_range driver d core p e =
     subst IsInRange (value_of_ok _ core b.2) (record {
       names = omega (arith, count, length-map driver.functions name_in);
       main = omega (arith, main, same);
-      bodies = all_of (BodyIsWithin cells (length b.0)) b.0 (subst (λ n. AllByRecursion (BodyIsWithin cells n) b.0) same (bodies_within d k.0 [] driver.functions b.0 p tt b.1));
+      bodies = all_of (BodyIsWithin cells (length b.0)) b.0
+          (subst (λ n. AllByRecursion (BodyIsWithin cells n) b.0) same (bodies_within d k.0 [] driver.functions b.0 p tt b.1));
     })
 
 -- there are as many names as functions
-pub functions_count : (driver : Driver) (d : Declared) (core : Core) (names : List (List ℕ)) → core_of driver d ≡ Ok core → resolved_names [] driver.functions ≡ Ok names → length names ≡ length core.bodies
+pub functions_count : (driver : Driver) (d : Declared) (core : Core) (names : List (List ℕ)) → core_of driver d ≡ Ok core
+    → resolved_names [] driver.functions ≡ Ok names → length names ≡ length core.bodies
 functions_count driver d core names e stated =
     let cells = length (owners_from 0 d.variables) in
-    let k = resolved_by (λ names. if_resolved (λ main. if_resolved (λ bodies. Ok (record { cells = cells; names = map name_in driver.functions; bodies = bodies; main = main })) (resolved_bodies d names [] driver.functions)) (resolved_main names)) (resolved_names [] driver.functions) core e in
-    let m = resolved_by (λ main. if_resolved (λ bodies. Ok (record { cells = cells; names = map name_in driver.functions; bodies = bodies; main = main })) (resolved_bodies d k.0 [] driver.functions)) (resolved_main k.0) core k.2 in
-    let b = resolved_by (λ bodies. Ok (record { cells = cells; names = map name_in driver.functions; bodies = bodies; main = m.0 })) (resolved_bodies d k.0 [] driver.functions) core m.2 in
+    let k = resolved_by (λ names. if_resolved
+    (λ main. if_resolved (λ bodies. Ok (record { cells = cells; names = map name_in driver.functions; bodies = bodies; main = main }))
+    (resolved_bodies d names [] driver.functions)) (resolved_main names)) (resolved_names [] driver.functions) core e in
+    let m = resolved_by (λ main. if_resolved (λ bodies. Ok (record { cells = cells; names = map name_in driver.functions; bodies = bodies; main = main }))
+    (resolved_bodies d k.0 [] driver.functions)) (resolved_main k.0) core k.2 in
+    let b = resolved_by (λ bodies. Ok (record { cells = cells; names = map name_in driver.functions; bodies = bodies; main = m.0 }))
+    (resolved_bodies d k.0 [] driver.functions) core m.2 in
     let count = bodies_count d k.0 [] driver.functions b.0 b.1 in
     let named = names_count [] driver.functions names stated in
     let same : length names ≡ length b.0 = omega (arith, count, named) in

@@ -6,7 +6,8 @@ use Rattle.mpp_parser.specs.Trees.{Term, lit, named, apply, chain, exists, Terms
 use Rattle.mpp_parser.specs.Commands.{Act, set, del, when, partition, call, Acts, no_acts, an_act}
 use Rattle.mpp_parser.specs.CommandView.{block_of as acts_of}
 use Rattle.mpp_parser.specs.declared.command.Function.{Function}
-use Rattle.driver_core.specs.Formulas.{Formula, lit as lit_formula, cell as cell_formula, apply as apply_formula, chain as chain_formula, exists as exists_formula}
+use Rattle.driver_core.specs.Formulas.{Formula, lit as lit_formula, cell as cell_formula, apply as apply_formula, chain as chain_formula}
+use Rattle.driver_core.specs.Formulas.{exists as exists_formula}
 use Rattle.driver_core.specs.FormulaView.{formulas_of, steps_of}
 use Rattle.driver_core.specs.declared.term.CStep.{CStep}
 use Rattle.driver_core.specs.Actions.{Action, assign, clear, branch, partition as partition_action, call as call_action, solve}
@@ -24,7 +25,8 @@ abbrev mutual
   resolved_term declared line (named c) = if_resolved (λ cell. Ok (cell_formula cell)) (resolved_cell declared line c)
   resolved_term declared line (apply op all) = if_resolved (λ arguments. Ok (apply_formula op (formulas_of arguments))) (resolved_terms declared line [] all)
   resolved_term declared line (chain first links) =
-      if_resolved (λ f. if_resolved (λ steps. Ok (chain_formula f (steps_of steps))) (resolved_links declared line [] links)) (resolved_term declared line first)
+      if_resolved (λ f. if_resolved (λ steps. Ok (chain_formula f (steps_of steps))) (resolved_links declared line [] links))
+      (resolved_term declared line first)
   resolved_term declared line (exists kind) = Ok (exists_formula (kind_cells declared kind))
 
   -- terms one after the other, after those that are said already
@@ -34,7 +36,8 @@ abbrev mutual
 
   pub resolved_links : Declared → ℕ → List CStep → Links → Result (List CStep) CoreFault
   resolved_links declared line before no_links = Ok before
-  resolved_links declared line before (a_link op a rest) = if_resolved (λ t. resolved_links declared line (before ++ record { op = op; term = t } ∷ []) rest) (resolved_term declared line a)
+  resolved_links declared line before (a_link op a rest) = if_resolved (λ t. resolved_links declared line (before ++ record { op = op; term = t } ∷ []) rest)
+      (resolved_term declared line a)
 
 -- ---- commands
 
@@ -49,21 +52,26 @@ resolved_call names line name received =
 -- the targets and then the function.
 abbrev mutual
   pub resolved_act : Declared → List (List ℕ) → Act → Result Action CoreFault
-  resolved_act declared names (set line c term) = if_resolved (λ cell. if_resolved (λ t. Ok (assign line cell t)) (resolved_term declared line term)) (resolved_target declared line c)
+  resolved_act declared names (set line c term) = if_resolved (λ cell. if_resolved (λ t. Ok (assign line cell t)) (resolved_term declared line term))
+      (resolved_target declared line c)
   resolved_act declared names (del line c) = if_resolved (λ cell. Ok (clear line cell)) (resolved_target declared line c)
   resolved_act declared names (when line condition first second) =
-      if_resolved (λ t. if_resolved (λ a. if_resolved (λ b. Ok (branch line t (block_of a) (block_of b))) (resolved_acts declared names [] second)) (resolved_acts declared names [] first)) (resolved_term declared line condition)
-  resolved_act declared names (partition line kind block) = if_resolved (λ a. Ok (partition_action line (kind_cells declared kind) (block_of a))) (resolved_acts declared names [] block)
+      if_resolved (λ t. if_resolved (λ a. if_resolved (λ b. Ok (branch line t (block_of a) (block_of b))) (resolved_acts declared names [] second))
+      (resolved_acts declared names [] first)) (resolved_term declared line condition)
+  resolved_act declared names (partition line kind block) = if_resolved (λ a. Ok (partition_action line (kind_cells declared kind) (block_of a)))
+      (resolved_acts declared names [] block)
   resolved_act declared names (call line cs name) = if_resolved (resolved_call names line name) (resolved_targets declared line [] cs)
 
   -- commands one after the other, after those that are said already
   pub resolved_acts : Declared → List (List ℕ) → List Action → Acts → Result (List Action) CoreFault
   resolved_acts declared names before no_acts = Ok before
-  resolved_acts declared names before (an_act a rest) = if_resolved (λ action. resolved_acts declared names (before ++ action ∷ []) rest) (resolved_act declared names a)
+  resolved_acts declared names before (an_act a rest) = if_resolved (λ action. resolved_acts declared names (before ++ action ∷ []) rest)
+      (resolved_act declared names a)
 
 -- ---- functions
 
 -- the bodies of functions one after the other, after those that are said already
 abbrev pub resolved_bodies : Declared → List (List ℕ) → List (List Action) → List Function → Result (List (List Action)) CoreFault
 resolved_bodies declared names before [] = Ok before
-resolved_bodies declared names before (f ∷ fs) = if_resolved (λ body. resolved_bodies declared names (before ++ body ∷ []) fs) (resolved_acts declared names [] (acts_of f.body))
+resolved_bodies declared names before (f ∷ fs) = if_resolved (λ body. resolved_bodies declared names (before ++ body ∷ []) fs)
+    (resolved_acts declared names [] (acts_of f.body))

@@ -22,7 +22,9 @@ use Rattle.mpp_core.specs.declared.fault.CoreFault.TheVariants.{DriverRecursion}
 abbrev pub core_of : Driver → Declared → Result Core CoreFault
 core_of driver declared =
     if_resolved
-    (λ names. if_resolved (λ main. if_resolved (λ bodies. Ok (record { cells = length (owners_from 0 declared.variables); names = map name_in driver.functions; bodies = bodies; main = main })) (resolved_bodies declared names [] driver.functions)) (resolved_main names))
+    (λ names. if_resolved (λ main. if_resolved
+    (λ bodies. Ok (record { cells = length (owners_from 0 declared.variables); names = map name_in driver.functions; bodies = bodies; main = main }))
+    (resolved_bodies declared names [] driver.functions)) (resolved_main names))
     (resolved_names [] driver.functions)
 
 -- No name of the driver has a fault, this is the driver over cells, and no function reaches itself by calls.
@@ -77,4 +79,10 @@ received_alone cells = solve 1 (length cells) cells
 -- the function `main` with one call of the rules that gives back the requests without the cells of constants
 abbrev pub plain_core : List ℕ → Declared → Core
 plain_core requests declared =
-    record { cells = length (owners_from 0 declared.variables); names = codes "main" ∷ []; bodies = (received_alone (received_cells requests declared) ∷ []) ∷ []; main = 0 }
+    record {
+      cells = length (owners_from 0 declared.variables);
+      names = codes "main" ∷ [];
+      bodies = (received_alone (received_cells requests declared) ∷ [])
+          ∷ [];
+      main = 0;
+    }

@@ -8,7 +8,8 @@ use Rattle.driver_core.specs.Actions.{Action}
 use Rattle.driver_core.specs.Valid.{body_of}
 use Rattle.mpp_inline.specs.inner.Growth.{means, calls}
 
-pub called-body : (core : Core) (base : Base) (sequence : List ℕ) (depth f : ℕ) → (depth ≡ 0 → ⊥) → means core base sequence (depth - 1) (body_of core f) ≡ calls core base sequence depth f
+pub called-body : (core : Core) (base : Base) (sequence : List ℕ) (depth f : ℕ) → (depth ≡ 0 → ⊥)
+    → means core base sequence (depth - 1) (body_of core f) ≡ calls core base sequence depth f
 called-body core base sequence zero f h = absurd (h refl)
 called-body core base sequence (suc n) f h =
     let one : suc n - 1 ≡ n = omega arith in

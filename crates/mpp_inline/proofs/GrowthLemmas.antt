@@ -1,5 +1,6 @@
 -- A flat program that grows: what stays, and what a node or a check adds.
-use Rattle.std.proofs.Common.{◌≡◌, ℕ, zero, suc, ◌+◌, ◌<◌, ◌≤◌, Bool, true, false, nat_lt, List, [], ◌∷◌, ◌++◌, length, get_or, set, None, refl, sym, ap, ◌∙◌, subst, ⊎_elim, arith, length-append}
+use Rattle.std.proofs.Common.{◌≡◌, ℕ, zero, suc, ◌+◌, ◌<◌, ◌≤◌, Bool, true, false, nat_lt, List, [], ◌∷◌, ◌++◌, length, get_or, set, None, refl, sym, ap, ◌∙◌}
+use Rattle.std.proofs.Common.{subst, ⊎_elim, arith, length-append}
 use Rattle.std.specs.List.{AllByRecursion, cons_option}
 use Rattle.std.proofs.Math.ListN.{get_or-map, get_or-append}
 use Rattle.std.proofs.Math.Seq.{get_or-append_seam}
@@ -18,14 +19,18 @@ use Rattle.flat_code.specs.Entries.{node_at}
 use Rattle.flat_code.specs.Runs.{IsNode, AreNodes, entry_of, values_for, node_values, first_stop}
 use Rattle.flat_code.specs.Tidy.{Reads}
 use Rattle.mpp_inline.specs.declared.builder.Builder.{Builder}
-use Rattle.mpp_inline.specs.inner.Growth.{count, faces, face, node_of, at, stop_of, stop_read, note_read, notes_read, so_far, observed_more, denoted, outcome_of, run, IsVerif, IsCheckWithin, IsNoteWithin, IsUsable, MayStand, Sane, Known, Pushed, Checked, CheckedRule, CheckedLine, NotedAt, HasFaces, Longer, Grows, Gives, TermStep}
+use Rattle.mpp_inline.specs.inner.Growth.{count, faces, face, node_of, at, stop_of, stop_read, note_read, notes_read, so_far, observed_more, denoted}
+use Rattle.mpp_inline.specs.inner.Growth.{outcome_of, run, IsVerif, IsCheckWithin, IsNoteWithin, IsUsable, MayStand, Sane, Known, Pushed, Checked, CheckedRule}
+use Rattle.mpp_inline.specs.inner.Growth.{CheckedLine, NotedAt, HasFaces, Longer, Grows, Gives, TermStep}
 use Rattle.m_fixed.specs.declared.operator.Op.TheVariants.{And}
 use Rattle.mpp_inline.specs.Inlined.{IsDriverLine, IsTruthInput}
 use Rattle.mpp_inline.specs.inner.Sizes.{load}
 use Rattle.mpp_inline.proofs.ListLemmas.{all-get, all-set, all-more, all-append, map-same}
-use Rattle.mpp_inline.proofs.RunLemmas.{value-kept, value-new, stop-kept, stop-push, read-or, face_fired, read-fired, read-kept, notes-kept, notes-push, notes-within}
+use Rattle.mpp_inline.proofs.RunLemmas.{value-kept, value-new, stop-kept, stop-push, read-or, face_fired, read-fired, read-kept, notes-kept, notes-push}
+use Rattle.mpp_inline.proofs.RunLemmas.{notes-within}
 use Rattle.mpp_inline.proofs.OutcomeLemmas.{append-none, or-none}
-use Rattle.mpp_inline.proofs.UsableLemmas.{usable-kept, usable-on, checks-kept, notes-fenced, reads-older, reads-node, IsWithinCount, may-stand, last-or, read-as-before}
+use Rattle.mpp_inline.proofs.UsableLemmas.{usable-kept, usable-on, checks-kept, notes-fenced, reads-older, reads-node, IsWithinCount, may-stand, last-or}
+use Rattle.mpp_inline.proofs.UsableLemmas.{read-as-before}
 
 -- ---- labels
 
@@ -34,21 +39,33 @@ pub past-line : (labels : List FaceLabel) (l : ℕ) → length labels ≤ l → 
 past-line labels l h = subst IsDriverLine (sym (get_or_past labels l (DriverLine 0) h)) tt
 
 -- after labels of which the last is a line
-line-last : (labels more : List FaceLabel) (line l : ℕ) → more ≡ labels ++ DriverLine line ∷ [] → length labels ≤ l → IsDriverLine (get_or more l (DriverLine 0))
+line-last : (labels more : List FaceLabel) (line l : ℕ) → more ≡ labels ++ DriverLine line ∷ [] → length labels ≤ l
+    → IsDriverLine (get_or more l (DriverLine 0))
 line-last [] more line zero e h = subst (λ ls. IsDriverLine (get_or ls 0 (DriverLine 0))) (sym e) tt
 line-last [] more line (suc l) e h = subst (λ ls. IsDriverLine (get_or ls (suc l) (DriverLine 0))) (sym e) tt
 line-last (f ∷ labels) more line zero e h = absurd (omega (arith, h))
-line-last (f ∷ labels) more line (suc l) e h = subst (λ ls. IsDriverLine (get_or ls (suc l) (DriverLine 0))) (sym e) (line-last labels (labels ++ DriverLine line ∷ []) line l refl (omega (arith, h)))
+line-last (f ∷ labels) more line (suc l) e h = subst (λ ls. IsDriverLine (get_or ls (suc l) (DriverLine 0))) (sym e)
+    (line-last labels (labels ++ DriverLine line ∷ []) line l refl (omega (arith, h)))
 
 -- a label after older ones: it was new then, or it is new now
-new-then : (m l : ℕ) (first second : FaceLabel) → (b : Bool) → nat_lt l m ≡ b → (l < m → second ≡ first) → IsDriverLine first → (m ≤ l → IsDriverLine second) → IsDriverLine second
+new-then : (m l : ℕ) (first second : FaceLabel) → (b : Bool) → nat_lt l m ≡ b → (l < m → second ≡ first) → IsDriverLine first → (m ≤ l → IsDriverLine second)
+    → IsDriverLine second
 new-then m l first second true e kept old new = subst IsDriverLine (sym (kept (ltb-true l m e))) old
 new-then m l first second false e kept old new = new (ltb-false l m e)
 
 -- ---- longer programs
 
 pub longer-none : {b : Builder} → Sane b → Longer b b
-longer-none {b} s = record { sane = s; inputs = refl; longer = omega arith; keeps_node = λ k h. refl; keeps = λ inputs k h. refl; more_faces = omega arith; keeps_face = λ l h. refl; new_faces = past-line b.labels.items }
+longer-none {b} s = record {
+  sane = s;
+  inputs = refl;
+  longer = omega arith;
+  keeps_node = λ k h. refl;
+  keeps = λ inputs k h. refl;
+  more_faces = omega arith;
+  keeps_face = λ l h. refl;
+  new_faces = past-line b.labels.items;
+}
 
 pub longer-then : {a b c : Builder} → Longer a b → Longer b c → Longer a c
 longer-then {a} {b} {c} p q = record {
@@ -89,7 +106,8 @@ denoted-get {b} inputs env x s =
     ap (λ d. get_or (denoted b inputs env) x d) (sym (s.undef inputs)) ∙ get_or-map (at b inputs) env x 0
 
 -- one node more
-nodes-push : (inputs m : ℕ) (ns : List Node) (n : Node) (k : ℕ) → k ≡ m + length ns → AreNodes inputs m ns → IsNode inputs k n → AreNodes inputs m (ns ++ n ∷ [])
+nodes-push : (inputs m : ℕ) (ns : List Node) (n : Node) (k : ℕ) → k ≡ m + length ns → AreNodes inputs m ns → IsNode inputs k n
+    → AreNodes inputs m (ns ++ n ∷ [])
 nodes-push inputs m [] n k e a h = let f : k ≡ m = omega (arith, e) in (subst (λ j. IsNode inputs j n) f h, tt)
 nodes-push inputs m (d ∷ ns) n k e a h = (a.0, nodes-push inputs (m + 1) ns n k (omega (arith, e)) a.1 h)
 
@@ -112,7 +130,8 @@ pushed-within {b} {c} {n} {k} p other = record {
   own = λ t. other (subst (λ m. IsTruthInput b.inputs m) (ap (node_of c) p.number ∙ pushed-node p) (subst (λ ks. IsTruthInput ks (node_of c k)) p.inputs t));
 }
 
-pub pushed-value : {b c : Builder} {n : Node} {k : ℕ} → Pushed b c n k → (inputs : List Value) → at c inputs k ≡ entry_of (values_for inputs) (node_values inputs b.nodes.items) n
+pub pushed-value : {b c : Builder} {n : Node} {k : ℕ} → Pushed b c n k → (inputs : List Value)
+    → at c inputs k ≡ entry_of (values_for inputs) (node_values inputs b.nodes.items) n
 pushed-value {b} {c} {n} {k} p inputs =
     (λ i. get_or (node_values inputs (p.nodes i)) (p.number i) Undef) ∙ value-new inputs b.nodes.items n
 
@@ -121,11 +140,13 @@ pushed-keeps {b} {c} {n} p inputs j h =
     ap (λ ns. get_or (node_values inputs ns) j Undef) p.nodes ∙ value-kept inputs b.nodes.items n j h
 
 -- a new node reads what it may
-pushed-nodes : {b c : Builder} {n : Node} {k : ℕ} → Pushed b c n k → IsWithinCount b n → Sane b → (q x : ℕ) → q < count c → Reads (node_of c q) x → IsTruthInput c.inputs (node_of c x) → node_of c q ≡ Do And x x x
+pushed-nodes : {b c : Builder} {n : Node} {k : ℕ} → Pushed b c n k → IsWithinCount b n → Sane b → (q x : ℕ) → q < count c → Reads (node_of c q) x
+    → IsTruthInput c.inputs (node_of c x) → node_of c q ≡ Do And x x x
 pushed-nodes {b} {c} {n} p w s q x h = ⊎_elim
     (λ (lt : q < count b).
     λ r. read-as-before b.inputs c.inputs (node_of b q) (node_of c q) (node_of b x) (node_of c x) x p.inputs (pushed-older p q lt)
-    (pushed-older p x (let low : x < 0 + q = reads-older (length b.inputs) 0 b.nodes.items q x s.nodes lt (subst (λ y. Reads y x) (pushed-older p q lt) r) in omega (arith, low, lt)))
+    (pushed-older p x (let low : x < 0 + q = reads-older (length b.inputs) 0 b.nodes.items q x s.nodes lt (subst (λ y. Reads y x) (pushed-older p q lt) r) in
+    omega (arith, low, lt)))
     (s.fenced.nodes q x lt) r)
     (λ (e : q ≡ count b).
     let is : node_of c q ≡ n = ap (node_of c) e ∙ pushed-node p in
@@ -139,11 +160,13 @@ stood-grows {b} {c} {n} p w s =
     let more : count c ≡ count b + 1 = pushed-count p in
     let on : (j : ℕ) → IsUsable b j → IsUsable c j = λ j h. usable-kept p.inputs (omega (arith, more)) (pushed-older p) h in
     let l = length b.labels.items in
-    let old : (j : ℕ) → j < l → get_or c.labels.items j (DriverLine 0) ≡ get_or b.labels.items j (DriverLine 0) = λ j h. ap (λ ls. get_or ls j (DriverLine 0)) p.labels in
+    let old : (j : ℕ) → j < l → get_or c.labels.items j (DriverLine 0) ≡ get_or b.labels.items j (DriverLine 0) = λ j h. ap (λ ls. get_or ls j (DriverLine 0))
+    p.labels in
     record {
       base = record {
         sane = record {
-          nodes = subst (λ ks. AreNodes (length ks) 0 c.nodes.items) (sym p.inputs) (subst (AreNodes (length b.inputs) 0) (sym p.nodes) (nodes-push (length b.inputs) 0 b.nodes.items n (count b) (omega arith) s.nodes w.node));
+          nodes = subst (λ ks. AreNodes (length ks) 0 c.nodes.items) (sym p.inputs)
+              (subst (AreNodes (length b.inputs) 0) (sym p.nodes) (nodes-push (length b.inputs) 0 b.nodes.items n (count b) (omega arith) s.nodes w.node));
           fenced = record {
             nodes = pushed-nodes p w s;
             checks = subst (AllByRecursion (λ d. IsUsable c d.guard × IsUsable c d.condition)) (sym p.checks) (checks-kept on b.checks.items s.fenced.checks);
@@ -151,10 +174,16 @@ stood-grows {b} {c} {n} p w s =
           };
           checks = subst (λ cs. AllByRecursion (λ d. IsCheckWithin (count c) (length c.labels.items) d) cs) (sym p.checks)
               (all-more (λ d. IsCheckWithin (count b) l d) (λ d. IsCheckWithin (count c) (length c.labels.items) d)
-              (λ d h. record { guard = omega (arith, h.guard, more); condition = omega (arith, h.condition, more); label = omega (arith, h.label, ap length p.labels) })
+              (λ d h. record {
+                guard = omega (arith, h.guard, more);
+                condition = omega (arith, h.condition, more);
+                label = omega
+                    (arith, h.label, ap length p.labels);
+              })
               b.checks.items s.checks);
           notes = subst (AllByRecursion (λ d. IsNoteWithin (count c) c.labels.items d)) (sym p.notes)
-              (notes-within b.labels.items c.labels.items (count b) (count c) b.notes.items (omega (arith, more)) (omega (arith, ap length p.labels)) old s.notes);
+              (notes-within b.labels.items c.labels.items (count b) (count c) b.notes.items (omega (arith, more)) (omega (arith, ap length p.labels)) old
+              s.notes);
           three = omega (arith, s.three, more);
           literal = λ k h. on k (s.literal k h);
           undef = λ inputs. pushed-keeps p inputs 0 (omega (arith, s.three)) ∙ s.undef inputs;
@@ -172,7 +201,8 @@ stood-grows {b} {c} {n} p w s =
       reported = λ inputs.
           let stop : stop_of c inputs ≡ stop_of b inputs =
           (λ i. stop_read (p.labels i) (first_stop (node_values inputs c.nodes.items) (p.checks i)))
-          ∙ ap (stop_read b.labels.items) (stop-kept (node_values inputs b.nodes.items) (node_values inputs c.nodes.items) (count b) l b.checks.items (pushed-keeps p inputs) s.checks) in
+          ∙ ap (stop_read b.labels.items) (stop-kept (node_values inputs b.nodes.items) (node_values inputs c.nodes.items) (count b) l b.checks.items
+          (pushed-keeps p inputs) s.checks) in
           let notes : notes_read c.labels.items (at c inputs) c.notes.items ≡ notes_read b.labels.items (at b inputs) b.notes.items =
           ap (notes_read c.labels.items (at c inputs)) p.notes
           ∙ notes-kept b.labels.items c.labels.items (at b inputs) (at c inputs) (count b) b.notes.items old (pushed-keeps p inputs) s.notes in
@@ -209,7 +239,8 @@ faced-line {b} {c} {g} {k} {line} p =
       is = ap (λ ls. get_or ls (faces b) (DriverLine 0)) p.labels ∙ get_or-append_seam b.labels.items (DriverLine line) [] (DriverLine 0);
     }
 
-pub faced-rule : {labels : List Label} {b c : Builder} {g k : ℕ} {only : Bool} (i : ℕ) (d : Label) → HasFaces labels b → i < length labels → CheckedRule b c g k only i → Faced b c i (Verif (get_or labels i d))
+pub faced-rule : {labels : List Label} {b c : Builder} {g k : ℕ} {only : Bool} (i : ℕ) (d : Label) → HasFaces labels b → i < length labels
+    → CheckedRule b c g k only i → Faced b c i (Verif (get_or labels i d))
 faced-rule {labels} {b} {c} i d h lt p = record {
   more = omega (arith, ap length p.labels);
   keeps = λ j k. ap (λ ls. get_or ls j (DriverLine 0)) p.labels;
@@ -221,7 +252,8 @@ faced-rule {labels} {b} {c} i d h lt p = record {
 checked-keeps : {b c : Builder} {g k l : ℕ} {only : Bool} → Checked b c g k only l → (inputs : List Value) (j : ℕ) → at c inputs j ≡ at b inputs j
 checked-keeps p inputs j = ap (λ ns. get_or (node_values inputs ns) j Undef) p.nodes
 
-pub checked-longer : {b c : Builder} {g k l : ℕ} {only : Bool} {f : FaceLabel} → Checked b c g k only l → Faced b c l f → IsUsable b g → IsUsable b k → Sane b → Longer b c
+pub checked-longer : {b c : Builder} {g k l : ℕ} {only : Bool} {f : FaceLabel} → Checked b c g k only l → Faced b c l f → IsUsable b g → IsUsable b k → Sane b
+    → Longer b c
 checked-longer {b} {c} {g} {k} {l} {only} {f} p q hg hk s =
     let same : count c ≡ count b = ap length p.nodes in
     let older : (j : ℕ) → node_of c j ≡ node_of b j = λ j. ap (λ ns. node_at ns j) p.nodes in
@@ -232,8 +264,10 @@ checked-longer {b} {c} {g} {k} {l} {only} {f} p q hg hk s =
       sane = record {
         nodes = subst (λ ks. AreNodes (length ks) 0 c.nodes.items) (sym p.inputs) (subst (AreNodes (length b.inputs) 0) (sym p.nodes) s.nodes);
         fenced = record {
-          nodes = λ j x h. read-as-before b.inputs c.inputs (node_of b j) (node_of c j) (node_of b x) (node_of c x) x p.inputs (older j) (older x) (s.fenced.nodes j x (omega (arith, h, same)));
-          checks = subst (AllByRecursion Own) (sym p.checks) (all-append Own b.checks.items _ (checks-kept on b.checks.items s.fenced.checks) ((on g hg, on k hk), tt));
+          nodes = λ j x h. read-as-before b.inputs c.inputs (node_of b j) (node_of c j) (node_of b x) (node_of c x) x p.inputs (older j) (older x)
+              (s.fenced.nodes j x (omega (arith, h, same)));
+          checks = subst (AllByRecursion Own) (sym p.checks) (all-append Own b.checks.items _ (checks-kept on b.checks.items s.fenced.checks)
+              ((on g hg, on k hk), tt));
           notes = subst (AllByRecursion (λ d. IsUsable c d.0)) (sym p.notes) (notes-fenced on b.notes.items s.fenced.notes);
         };
         checks = subst (AllByRecursion Within) (sym p.checks)
@@ -259,7 +293,8 @@ checked-longer {b} {c} {g} {k} {l} {only} {f} p q hg hk s =
       new_faces = q.further;
     }
 
-checked-stop : {b c : Builder} {g k l : ℕ} {only : Bool} {f : FaceLabel} → Checked b c g k only l → Faced b c l f → Sane b → (inputs : List Value) → stop_of c inputs ≡ option_or (stop_of b inputs) (face_fired (at b inputs g) only f (at b inputs k))
+checked-stop : {b c : Builder} {g k l : ℕ} {only : Bool} {f : FaceLabel} → Checked b c g k only l → Faced b c l f → Sane b → (inputs : List Value)
+    → stop_of c inputs ≡ option_or (stop_of b inputs) (face_fired (at b inputs g) only f (at b inputs k))
 checked-stop {b} {c} {g} {k} {l} {only} {f} p q s inputs =
     let vs = node_values inputs b.nodes.items in
     let d : Check = record { guard = g; condition = k; over_only = only; label = l } in
@@ -270,7 +305,8 @@ checked-stop {b} {c} {g} {k} {l} {only} {f} p q s inputs =
     ((read-fired c.labels.items (at b inputs g) only l (at b inputs k)
     ∙ ap (λ h. face_fired (at b inputs g) only h (at b inputs k)) q.is) i))
 
-pub checked-reported : {b c : Builder} {g k l : ℕ} {only : Bool} {f : FaceLabel} → Checked b c g k only l → Faced b c l f → Sane b → (inputs : List Value) → so_far c inputs ≡ observed_more (so_far b inputs) (face_fired (at b inputs g) only f (at b inputs k)) []
+pub checked-reported : {b c : Builder} {g k l : ℕ} {only : Bool} {f : FaceLabel} → Checked b c g k only l → Faced b c l f → Sane b → (inputs : List Value)
+    → so_far c inputs ≡ observed_more (so_far b inputs) (face_fired (at b inputs g) only f (at b inputs k)) []
 checked-reported {b} {c} {g} {k} {l} {only} {f} p q s inputs =
     let stop = checked-stop p q s inputs in
     let notes : notes_read c.labels.items (at c inputs) c.notes.items ≡ notes_read b.labels.items (at b inputs) b.notes.items ++ [] =
@@ -296,7 +332,8 @@ noted-longer {b} {c} {k} {l} p hk hl v s =
       sane = record {
         nodes = subst (λ ks. AreNodes (length ks) 0 c.nodes.items) (sym p.inputs) (subst (AreNodes (length b.inputs) 0) (sym p.nodes) s.nodes);
         fenced = record {
-          nodes = λ j x h. read-as-before b.inputs c.inputs (node_of b j) (node_of c j) (node_of b x) (node_of c x) x p.inputs (older j) (older x) (s.fenced.nodes j x (omega (arith, h, same)));
+          nodes = λ j x h. read-as-before b.inputs c.inputs (node_of b j) (node_of c j) (node_of b x) (node_of c x) x p.inputs (older j) (older x)
+              (s.fenced.nodes j x (omega (arith, h, same)));
           checks = subst (AllByRecursion (λ d. IsUsable c d.guard × IsUsable c d.condition)) (sym p.checks) (checks-kept on b.checks.items s.fenced.checks);
           notes = subst (AllByRecursion Own) (sym p.notes) (all-append Own b.notes.items _ (notes-fenced on b.notes.items s.fenced.notes) (on k hk, tt));
         };
@@ -323,16 +360,20 @@ noted-longer {b} {c} {k} {l} p hk hl v s =
       new_faces = λ j h. subst (λ ls. IsDriverLine (get_or ls j (DriverLine 0))) (sym p.labels) (past-line b.labels.items j h);
     }
 
-pub noted-reported : {b c : Builder} {k l : ℕ} → NotedAt b c k l → (inputs : List Value) → so_far c inputs ≡ observed_more (so_far b inputs) None (cons_option (note_read (face b l) (at b inputs k)) [])
+pub noted-reported : {b c : Builder} {k l : ℕ} → NotedAt b c k l → (inputs : List Value)
+    → so_far c inputs ≡ observed_more (so_far b inputs) None (cons_option (note_read (face b l) (at b inputs k)) [])
 noted-reported {b} {c} {k} {l} p inputs =
     let stop : stop_of c inputs ≡ option_or (stop_of b inputs) None =
     (λ i. stop_read (p.labels i) (first_stop (node_values inputs (p.nodes i)) (p.checks i))) ∙ sym (or-none _) in
-    let notes : notes_read c.labels.items (at c inputs) c.notes.items ≡ notes_read b.labels.items (at b inputs) b.notes.items ++ cons_option (note_read (face b l) (at b inputs k)) [] =
-    (λ i. notes_read (p.labels i) (λ j. get_or (node_values inputs (p.nodes i)) j Undef) (p.notes i)) ∙ notes-push b.labels.items (at b inputs) b.notes.items (k, l) in
+    let notes : notes_read c.labels.items (at c inputs) c.notes.items ≡ notes_read b.labels.items (at b inputs) b.notes.items
+    ++ cons_option (note_read (face b l) (at b inputs k)) [] =
+    (λ i. notes_read (p.labels i) (λ j. get_or (node_values inputs (p.nodes i)) j Undef) (p.notes i))
+    ∙ notes-push b.labels.items (at b inputs) b.notes.items (k, l) in
     λ i. record { stop = stop i; notes = notes i }
 
 -- nodes with a value
-pub gives-pushed : {b c : Builder} {n : Node} {k : ℕ} (value : List Value → Value) → Pushed b c n k → MayStand b n → (IsTruthInput b.inputs n → ⊥) → Sane b → ((inputs : List Value) → entry_of (values_for inputs) (node_values inputs b.nodes.items) n ≡ value inputs) → Gives b c value k
+pub gives-pushed : {b c : Builder} {n : Node} {k : ℕ} (value : List Value → Value) → Pushed b c n k → MayStand b n → (IsTruthInput b.inputs n → ⊥) → Sane b
+    → ((inputs : List Value) → entry_of (values_for inputs) (node_values inputs b.nodes.items) n ≡ value inputs) → Gives b c value k
 gives-pushed value p w other s e = record { grows = pushed-grows p w s; within = pushed-within p other; value = λ inputs. pushed-value p inputs ∙ e inputs }
 
 pub gives-lit : {b c : Builder} {k : ℕ} (v : Value) → Pushed b c (Lit v) k → Sane b → Gives b c (λ inputs. v) k
@@ -358,7 +399,8 @@ cell-step {b} {env} x s k = record {
 }
 
 -- an entry of an environment is written
-pub denoted-set : {b c : Builder} {env : List ℕ} (inputs : List Value) (x k : ℕ) (v : Value) → Longer b c → Known b env → at c inputs k ≡ v → denoted c inputs (set env x k) ≡ set (denoted b inputs env) x v
+pub denoted-set : {b c : Builder} {env : List ℕ} (inputs : List Value) (x k : ℕ) (v : Value) → Longer b c → Known b env → at c inputs k ≡ v
+    → denoted c inputs (set env x k) ≡ set (denoted b inputs env) x v
 denoted-set {b} {c} {env} inputs x k v l kn e =
     map-set (at c inputs) env x k ∙ (λ i. set (denoted-on inputs l kn i) x (e i))
 
@@ -370,10 +412,26 @@ checked-more : {b c : Builder} {g k l : ℕ} {o : Bool} → Checked b c g k o l 
 checked-more {b} {c} {g} {k} {l} {o} p = ap length p.checks ∙ length-append b.checks.items (record { guard = g; condition = k; over_only = o; label = l } ∷ [])
 
 pub line-load : {b c : Builder} {g k line : ℕ} → CheckedLine b c g k line → load c ≡ load b + 2
-line-load {b} {c} {g} {k} {line} p = omega (arith, ap length p.base.nodes, checked-more p.base, ap length p.labels, ap length p.base.notes, length-append b.labels.items (DriverLine line ∷ []))
+line-load {b} {c} {g} {k} {line} p = omega (
+  arith,
+  ap length p.base.nodes,
+  checked-more p.base,
+  ap length p.labels,
+  ap length p.base.notes,
+  length-append
+      b.labels.items (DriverLine line ∷ []),
+)
 
 pub rule-load : {b c : Builder} {g k l : ℕ} {o : Bool} → CheckedRule b c g k o l → load c ≡ load b + 1
 rule-load p = omega (arith, ap length p.base.nodes, checked-more p.base, ap length p.labels, ap length p.base.notes)
 
 pub noted-load : {b c : Builder} {k l : ℕ} → NotedAt b c k l → load c ≡ load b + 1
-noted-load {b} {c} {k} {l} p = omega (arith, ap length p.nodes, ap length p.checks, ap length p.labels, ap length p.notes, length-append b.notes.items ((k, l) ∷ []))
+noted-load {b} {c} {k} {l} p = omega (
+  arith,
+  ap length p.nodes,
+  ap length p.checks,
+  ap length p.labels,
+  ap length p.notes,
+  length-append b.notes.items
+      ((k, l) ∷ []),
+)

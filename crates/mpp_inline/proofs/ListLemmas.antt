@@ -1,5 +1,6 @@
 -- Lists by cells, and maps of them.
-use Rattle.std.proofs.Common.{◌≡◌, ℕ, zero, suc, ◌+◌, ◌<◌, ◌≤◌, Bool, true, false, eqb, List, [], ◌∷◌, ◌++◌, map, length, get_or, set, take, drop, refl, sym, ap, ◌∙◌, subst, ⊎_elim, arith}
+use Rattle.std.proofs.Common.{◌≡◌, ℕ, zero, suc, ◌+◌, ◌<◌, ◌≤◌, Bool, true, false, eqb, List, [], ◌∷◌, ◌++◌, map, length, get_or, set, take, drop, refl, sym}
+use Rattle.std.proofs.Common.{ap, ◌∙◌, subst, ⊎_elim, arith}
 use mathlib.Core.Bool.{◌||◌}
 use Rattle.std.specs.List.{AllByRecursion}
 use Rattle.std.proofs.Math.ListN.{get_or-map}
@@ -36,7 +37,8 @@ pub all-picked : (P : ℕ → Type 0) (d : ℕ) (xs from : List ℕ) → P d →
 all-picked P d [] from z a = tt
 all-picked P d (x ∷ xs) from z a = (all-get P from x d z a, all-picked P d xs from z a)
 
-pub all-written : (P : ℕ → Type 0) (ps : List (ℕ × ℕ)) (into : List ℕ) → AllByRecursion (λ p. P p.1) ps → AllByRecursion P into → AllByRecursion P (written ps into)
+pub all-written : (P : ℕ → Type 0) (ps : List (ℕ × ℕ)) (into : List ℕ) → AllByRecursion (λ p. P p.1) ps → AllByRecursion P into
+    → AllByRecursion P (written ps into)
 all-written P [] into a b = b
 all-written P (p ∷ ps) into a b = all-written P ps (set into p.0 p.1) a.1 (all-set P into p.0 p.1 a.0 b)
 
@@ -73,7 +75,8 @@ pub blanked-map : {A B : Type 0} (f : A → B) (d : A) (xs : List ℕ) (into : L
 blanked-map f d [] into = refl
 blanked-map f d (x ∷ xs) into = blanked-map f d xs (set into x d) ∙ ap (blanked (f d) xs) (map-set f into x d)
 
-pub received-map : {A B : Type 0} (f : A → B) (d : A) (xs : List ℕ) (from into : List A) → map f (received d xs from into) ≡ received (f d) xs (map f from) (map f into)
+pub received-map : {A B : Type 0} (f : A → B) (d : A) (xs : List ℕ) (from into : List A)
+    → map f (received d xs from into) ≡ received (f d) xs (map f from) (map f into)
 received-map f d xs from into = written-map f (picked d xs from) into ∙ ap (λ ps. written ps (map f into)) (picked-map f d xs from)
 
 -- values received by cells, and cells made undefined
@@ -100,7 +103,8 @@ or-false false b e = (refl, e)
 
 pub among-append : (x : ℕ) (xs ys : List ℕ) → is_among x (xs ++ ys) ≡ (is_among x xs || is_among x ys)
 among-append x [] ys = refl
-among-append x (y ∷ xs) ys = elim (eqb x y) as (λ b. (b || is_among x (xs ++ ys)) ≡ ((b || is_among x xs) || is_among x ys)) [ true ↦ refl | false ↦ among-append x xs ys ]
+among-append x (y ∷ xs) ys = elim (eqb x y) as (λ b. (b || is_among x (xs ++ ys)) ≡ ((b || is_among x xs) || is_among x ys))
+    [ true ↦ refl | false ↦ among-append x xs ys ]
 
 pub same-none : (xs env : List ℕ) → SameBut xs env env
 same-none xs env = record { size = refl; same = λ x h. refl }
@@ -161,7 +165,8 @@ some-first xs env = record { size = refl; among = λ x h. h; same = λ x h. refl
 
 pub some-next : (xs ys whole e f g : List ℕ) → SameButSome (xs ++ ys) whole e f → SameBut xs f g → SameButSome ys whole e g
 some-next xs ys whole e f g s t =
-    let parts : (x : ℕ) → is_among x whole ≡ false → (is_among x xs ≡ false) × (is_among x ys ≡ false) = λ x h. or-false (is_among x xs) (is_among x ys) (sym (among-append x xs ys) ∙ s.among x h) in
+    let parts : (x : ℕ) → is_among x whole ≡ false → (is_among x xs ≡ false) × (is_among x ys ≡ false) = λ x h. or-false (is_among x xs) (is_among x ys)
+    (sym (among-append x xs ys) ∙ s.among x h) in
     record {
       size = t.size ∙ s.size;
       among = λ x h. (parts x h).1;

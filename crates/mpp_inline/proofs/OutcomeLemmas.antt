@@ -41,7 +41,8 @@ then-then (goes ns e) f g = behind-then ns (f e) g
 then-then (stops cause) f g = refl
 
 -- a change of the environment alone
-set-by : (s : Option Cause) (ns : List Label) (e : Env) (f : Env → Env) → unless_stopped s (goes ns (f e)) ≡ then_do (unless_stopped s (goes ns e)) (λ x. goes [] (f x))
+set-by : (s : Option Cause) (ns : List Label) (e : Env) (f : Env → Env) → unless_stopped s (goes ns (f e)) ≡ then_do (unless_stopped s (goes ns e))
+    (λ x. goes [] (f x))
 set-by None ns e f = sym (goes-last (goes ns (f e)))
 set-by (Some cause) ns e f = refl
 
@@ -49,28 +50,36 @@ pub set-goes : (s : SoFar) (e : Env) (f : Env → Env) → outcome_of s (f e) �
 set-goes s e f = set-by s.stop s.notes e f
 
 -- a stage between a change of the environment and another
-wrap-by : (s : Option Cause) (ns : List Label) (e : Env) (before : Env → Env) (does : Env → RunState) (after : Env → Env → Env) → then_do (then_do (unless_stopped s (goes ns (before e))) does) (λ f. goes [] (after e f)) ≡ then_do (unless_stopped s (goes ns e)) (λ x. then_do (does (before x)) (λ f. goes [] (after x f)))
+wrap-by : (s : Option Cause) (ns : List Label) (e : Env) (before : Env → Env) (does : Env → RunState) (after : Env → Env → Env)
+    → then_do (then_do (unless_stopped s (goes ns (before e))) does) (λ f. goes [] (after e f)) ≡ then_do (unless_stopped s (goes ns e))
+    (λ x. then_do (does (before x)) (λ f. goes [] (after x f)))
 wrap-by None ns e before does after = behind-then ns (does (before e)) (λ f. goes [] (after e f))
 wrap-by (Some cause) ns e before does after = refl
 
-pub wrap : (s : SoFar) (e : Env) (before : Env → Env) (does : Env → RunState) (after : Env → Env → Env) → then_do (then_do (outcome_of s (before e)) does) (λ f. goes [] (after e f)) ≡ then_do (outcome_of s e) (λ x. then_do (does (before x)) (λ f. goes [] (after x f)))
+pub wrap : (s : SoFar) (e : Env) (before : Env → Env) (does : Env → RunState) (after : Env → Env → Env)
+    → then_do (then_do (outcome_of s (before e)) does) (λ f. goes [] (after e f)) ≡ then_do (outcome_of s e)
+    (λ x. then_do (does (before x)) (λ f. goes [] (after x f)))
 wrap s e before does after = wrap-by s.stop s.notes e before does after
 
 -- two steps, of which the first and then the second are one
-both-by : (s : Option Cause) (ns : List Label) (e : Env) (first second both : Env → RunState) → then_do (first e) second ≡ both e → then_do (then_do (unless_stopped s (goes ns e)) first) second ≡ then_do (unless_stopped s (goes ns e)) both
+both-by : (s : Option Cause) (ns : List Label) (e : Env) (first second both : Env → RunState) → then_do (first e) second ≡ both e
+    → then_do (then_do (unless_stopped s (goes ns e)) first) second ≡ then_do (unless_stopped s (goes ns e)) both
 both-by None ns e first second both h = behind-then ns (first e) second ∙ ap (behind ns) h
 both-by (Some cause) ns e first second both h = refl
 
-pub both-steps : (s : SoFar) (e : Env) (first second both : Env → RunState) → then_do (first e) second ≡ both e → then_do (then_do (outcome_of s e) first) second ≡ then_do (outcome_of s e) both
+pub both-steps : (s : SoFar) (e : Env) (first second both : Env → RunState) → then_do (first e) second ≡ both e
+    → then_do (then_do (outcome_of s e) first) second ≡ then_do (outcome_of s e) both
 both-steps s e first second both h = both-by s.stop s.notes e first second both h
 
 -- a stop or notes more
-found-by : (s : Option Cause) (ns : List Label) (e : Env) (cause : Option Cause) (more : List Label) (next : Env → RunState) → unless_stopped cause (goes more e) ≡ next e → unless_stopped (option_or s cause) (goes (ns ++ more) e) ≡ then_do (unless_stopped s (goes ns e)) next
+found-by : (s : Option Cause) (ns : List Label) (e : Env) (cause : Option Cause) (more : List Label) (next : Env → RunState)
+    → unless_stopped cause (goes more e) ≡ next e → unless_stopped (option_or s cause) (goes (ns ++ more) e) ≡ then_do (unless_stopped s (goes ns e)) next
 found-by None ns e None more next h = sym (behind-goes ns more e) ∙ ap (behind ns) h
 found-by None ns e (Some cause) more next h = sym (behind-stops ns cause) ∙ ap (behind ns) h
 found-by (Some first) ns e cause more next h = refl
 
-pub found-run : (s : SoFar) (e : Env) (cause : Option Cause) (more : List Label) (next : Env → RunState) → unless_stopped cause (goes more e) ≡ next e → outcome_of (observed_more s cause more) e ≡ then_do (outcome_of s e) next
+pub found-run : (s : SoFar) (e : Env) (cause : Option Cause) (more : List Label) (next : Env → RunState) → unless_stopped cause (goes more e) ≡ next e
+    → outcome_of (observed_more s cause more) e ≡ then_do (outcome_of s e) next
 found-run s e cause more next h = found-by s.stop s.notes e cause more next h
 
 pub more-none : (s : SoFar) → observed_more s None [] ≡ s

@@ -17,7 +17,8 @@ use Rattle.driver_core.specs.ActionView.{block_of}
 use Rattle.driver_core.specs.Valid.{body_among}
 use Rattle.driver_core.specs.Weights.{names_changed, names_changed_in, action_weight, block_weight, body_weight, base_weight, weight_of}
 use Rattle.driver_core.specs.Answers.{answer_of, start_of, observation_by}
-use Rattle.driver_core.specs.Meaning.{Env, RunState, goes, then_do, with_values, without, formula_value, chosen_block, failure_cause, unless_stopped, rules_run, run_of, action_run, block_run, called}
+use Rattle.driver_core.specs.Meaning.{Env, RunState, goes, then_do, with_values, without, formula_value, chosen_block, failure_cause, unless_stopped, rules_run}
+use Rattle.driver_core.specs.Meaning.{run_of, action_run, block_run, called}
 use Rattle.mpp_inline.specs.Inlined.{IsInlined}
 use Rattle.mpp_inline.specs.inner.Ruleless.{IsRuleless, left, left_behind, body_left, left_in, core_left}
 use Rattle.mpp_inline.proofs.OutcomeLemmas.{goes-last, then-then}
@@ -44,13 +45,16 @@ value-given base given c e =
 pub rules-rest : (base : Base) → IsRuleless base → (xs : List ℕ) (e : Env) → rules_run base xs e ≡ goes [] e
 rules-rest base r xs e =
     let given = value_of base (environment e) in
-    ap (λ cs. unless_stopped (option_and_then (failure_cause base.labels) (failure_among base.labels given cs)) (goes (notes_among base.labels given cs) (with_values xs given e))) r.checks
+    ap (λ cs. unless_stopped (option_and_then (failure_cause base.labels) (failure_among base.labels given cs))
+    (goes (notes_among base.labels given cs) (with_values xs given e))) r.checks
     ∙ ap (goes []) (with-same xs given (environment e) e (λ c. value-given base (environment e) c r.definitions) ∙ own-values xs e)
 
 -- ---- blocks
 
-module _ (rules : List ℕ → Env → RunState) (b b' : ℕ → Env → RunState) (rest-of : (xs : List ℕ) (e : Env) → rules xs e ≡ goes [] e) (same : (f : ℕ) (e : Env) → b' f e ≡ b f e) where
-  append-run : (xs ys : List Action) (e : Env) → block_run rules b' (block_of (xs ++ ys)) e ≡ then_do (block_run rules b' (block_of xs) e) (block_run rules b' (block_of ys))
+module _ (rules : List ℕ → Env → RunState) (b b' : ℕ → Env → RunState) (rest-of : (xs : List ℕ) (e : Env) → rules xs e ≡ goes [] e) (same : (f : ℕ) (e : Env)
+    → b' f e ≡ b f e) where
+  append-run : (xs ys : List Action) (e : Env) → block_run rules b' (block_of (xs ++ ys)) e ≡ then_do (block_run rules b' (block_of xs) e)
+      (block_run rules b' (block_of ys))
   append-run [] ys e = refl
   append-run (x ∷ xs) ys e =
       (λ i. then_do (action_run rules b' x e) (λ f. append-run xs ys f i))
@@ -61,7 +65,8 @@ module _ (rules : List ℕ → Env → RunState) (b b' : ℕ → Env → RunStat
     one-left (assign line c t) e = refl
     one-left (clear line c) e = refl
     one-left (branch line t x y) e =
-        goes-last (chosen_block line (formula_value (environment e) t) (block_run rules b' (block_of (left_behind [] x)) e) (block_run rules b' (block_of (left_behind [] y)) e))
+        goes-last (chosen_block line (formula_value (environment e) t) (block_run rules b' (block_of (left_behind [] x)) e)
+        (block_run rules b' (block_of (left_behind [] y)) e))
         ∙ (λ i. chosen_block line (formula_value (environment e) t) (all-left [] x e i) (all-left [] y e i))
     one-left (partition line xs x) e =
         goes-last (then_do (block_run rules b' (block_of (left_behind [] x)) (without xs e)) (λ f. goes [] (with_values xs (environment e) f)))
@@ -71,7 +76,8 @@ module _ (rules : List ℕ → Env → RunState) (b b' : ℕ → Env → RunStat
         ∙ ap (λ o. then_do o (λ g. goes [] (with_values xs (environment g) e))) (same f e)
     one-left (solve line names xs) e = sym (rest-of xs e)
 
-    all-left : (before : List Action) (x : Block) (e : Env) → block_run rules b' (block_of (left_behind before x)) e ≡ then_do (block_run rules b' (block_of before) e) (block_run rules b x)
+    all-left : (before : List Action) (x : Block) (e : Env)
+        → block_run rules b' (block_of (left_behind before x)) e ≡ then_do (block_run rules b' (block_of before) e) (block_run rules b x)
     all-left before no_actions e = sym (goes-last (block_run rules b' (block_of before) e))
     all-left before (an_action a rest) e =
         all-left (before ++ left a) rest e
@@ -87,11 +93,13 @@ body-left [] (suc f) = refl
 body-left (b ∷ bs) zero = refl
 body-left (b ∷ bs) (suc f) = body-left bs f
 
-called-left : (rules : List ℕ → Env → RunState) (bodies : List (List Action)) → ((xs : List ℕ) (e : Env) → rules xs e ≡ goes [] e) → (turns f : ℕ) (e : Env) → called rules (left_in bodies) turns f e ≡ called rules bodies turns f e
+called-left : (rules : List ℕ → Env → RunState) (bodies : List (List Action)) → ((xs : List ℕ) (e : Env) → rules xs e ≡ goes [] e) → (turns f : ℕ) (e : Env)
+    → called rules (left_in bodies) turns f e ≡ called rules bodies turns f e
 called-left rules bodies rest-of zero f e = refl
 called-left rules bodies rest-of (suc turns) f e =
     ap (λ x. block_run rules (called rules (left_in bodies) turns) x e) (body-left bodies f)
-    ∙ all-left rules (called rules bodies turns) (called rules (left_in bodies) turns) rest-of (called-left rules bodies rest-of turns) [] (body_among bodies f) e
+    ∙ all-left rules (called rules bodies turns) (called rules (left_in bodies) turns) rest-of (called-left rules bodies rest-of turns) [] (body_among bodies f)
+    e
 
 run-left : (core : Core) (base : Base) (e : Env) → IsRuleless base → run_of (core_left core) base e ≡ run_of core base e
 run-left core base e r =
@@ -118,7 +126,8 @@ mutual
   fewer before (an_action a rest) = omega (arith, fewer (before ++ left a) rest, fewer-append before (left a), fewer-one a)
 
 module _ (rules cells : ℕ) (b b' : ℕ → ℕ) (less : (f : ℕ) → b' f ≤ b f) where
-  append-weight : (xs ys : List Action) → block_weight rules cells b' (block_of (xs ++ ys)) ≡ block_weight rules cells b' (block_of xs) + block_weight rules cells b' (block_of ys)
+  append-weight : (xs ys : List Action) → block_weight rules cells b' (block_of (xs ++ ys)) ≡ block_weight rules cells b' (block_of xs) + block_weight rules
+      cells b' (block_of ys)
   append-weight [] ys = omega arith
   append-weight (x ∷ xs) ys = omega (arith, append-weight xs ys)
 
@@ -131,17 +140,20 @@ module _ (rules cells : ℕ) (b b' : ℕ → ℕ) (less : (f : ℕ) → b' f ≤
     lighter-one (call line names xs f) = omega (arith, less f)
     lighter-one (solve line names xs) = omega arith
 
-    lighter : (before : List Action) (x : Block) → block_weight rules cells b' (block_of (left_behind before x)) ≤ block_weight rules cells b' (block_of before) + block_weight rules cells b x
+    lighter : (before : List Action) (x : Block) → block_weight rules cells b' (block_of (left_behind before x)) ≤ block_weight rules cells b' (block_of before)
+        + block_weight rules cells b x
     lighter before no_actions = omega arith
     lighter before (an_action a rest) = omega (arith, lighter (before ++ left a) rest, append-weight before (left a), lighter-one a)
 
-body-lighter : (rules cells : ℕ) (bodies : List (List Action)) (turns f : ℕ) → body_weight rules cells (left_in bodies) turns f ≤ body_weight rules cells bodies turns f
+body-lighter : (rules cells : ℕ) (bodies : List (List Action)) (turns f : ℕ) → body_weight rules cells (left_in bodies) turns f ≤ body_weight rules cells bodies
+    turns f
 body-lighter rules cells bodies zero f = omega arith
 body-lighter rules cells bodies (suc turns) f =
     omega (
       arith,
       ap (block_weight rules cells (body_weight rules cells (left_in bodies) turns)) (body-left bodies f),
-      lighter rules cells (body_weight rules cells bodies turns) (body_weight rules cells (left_in bodies) turns) (body-lighter rules cells bodies turns) [] (body_among bodies f),
+      lighter rules cells (body_weight rules cells bodies turns) (body_weight rules cells (left_in bodies) turns) (body-lighter rules cells bodies turns) []
+          (body_among bodies f),
     )
 
 -- what is left of a driver costs no more
@@ -153,7 +165,9 @@ left-lighter core base =
     omega (arith, same, body-lighter r base.cells core.bodies (suc (length core.bodies)) core.main)
 
 -- the flat program of what is left is that of the driver
-pub inlined-left : (core made : Core) (base : Base) (declared : Declared) (requests : List ℕ) (flat : Flat) (labels : List FaceLabel) (notes : List ℕ) → IsRuleless base → made ≡ core_left core → IsInlined made base declared requests flat labels notes → IsInlined core base declared requests flat labels notes
+pub inlined-left : (core made : Core) (base : Base) (declared : Declared) (requests : List ℕ) (flat : Flat) (labels : List FaceLabel) (notes : List ℕ)
+    → IsRuleless base → made ≡ core_left core → IsInlined made base declared requests flat labels notes
+    → IsInlined core base declared requests flat labels notes
 inlined-left core made base declared requests flat labels notes r is h = record {
   answer = λ inputs typed.
       h.answer inputs typed

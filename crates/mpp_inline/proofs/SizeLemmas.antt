@@ -1,5 +1,6 @@
 -- Sizes of parts, and calls one level less deep.
-use Rattle.std.proofs.Common.{◌≡◌, ℕ, zero, suc, ◌+◌, ◌-◌, ◌<◌, ◌≤◌, Bool, true, false, List, [], ◌∷◌, ◌++◌, map, length, get_or, set, eqb, All, refl, sym, ap, ◌∙◌, subst, arith, replicate, length-append}
+use Rattle.std.proofs.Common.{◌≡◌, ℕ, zero, suc, ◌+◌, ◌-◌, ◌<◌, ◌≤◌, Bool, true, false, List, [], ◌∷◌, ◌++◌, map, length, get_or, set, eqb, All, refl, sym, ap}
+use Rattle.std.proofs.Common.{◌∙◌, subst, arith, replicate, length-append}
 use mathlib.Core.Bool.{◌||◌}
 use Rattle.std.specs.Prelude.{slice_get, Some}
 use Rattle.std.specs.List.{sum_by}
@@ -44,13 +45,15 @@ weight-at w (y ∷ xs) zero x h e = ap w (sym e)
 weight-at w (y ∷ xs) (suc n) x h e = weight-at w xs n x (omega (arith, h)) e
 
 -- three arguments weigh no more than all
-pub three-trees : (ts : List Tree) → get_or (map tree_weight ts) 0 0 + get_or (map tree_weight ts) 1 0 + get_or (map tree_weight ts) 2 0 ≤ trees_weight (trees_of ts)
+pub three-trees : (ts : List Tree) → get_or (map tree_weight ts) 0 0 + get_or (map tree_weight ts) 1 0 + get_or (map tree_weight ts) 2 0 ≤ trees_weight
+    (trees_of ts)
 three-trees [] = omega arith
 three-trees (a ∷ []) = omega arith
 three-trees (a ∷ b ∷ []) = omega arith
 three-trees (a ∷ b ∷ c ∷ ts) = omega arith
 
-pub three-formulas : (ts : List Formula) → get_or (map formula_weight ts) 0 0 + get_or (map formula_weight ts) 1 0 + get_or (map formula_weight ts) 2 0 ≤ formulas_weight (formulas_of ts)
+pub three-formulas : (ts : List Formula) → get_or (map formula_weight ts) 0 0 + get_or (map formula_weight ts) 1 0 + get_or (map formula_weight ts) 2 0
+    ≤ formulas_weight (formulas_of ts)
 three-formulas [] = omega arith
 three-formulas (a ∷ []) = omega arith
 three-formulas (a ∷ b ∷ []) = omega arith
@@ -98,12 +101,14 @@ total-is : (ds : List Definition) → total (map definition_weight ds) ≡ sum_b
 total-is [] = refl
 total-is (d ∷ ds) = omega (arith, total-is ds, sum_by-cons definition_weight d ds)
 
-definition-at : (ds : List Definition) (p : ℕ) → p < length ds → tree_weight (get_or (map (λ (d : Definition). d.1) ds) p (lit_tree Undef)) + 1 ≡ get_or (map definition_weight ds) p 0
+definition-at : (ds : List Definition) (p : ℕ) → p < length ds → tree_weight (get_or (map (λ (d : Definition). d.1) ds) p (lit_tree Undef)) + 1 ≡ get_or
+    (map definition_weight ds) p 0
 definition-at [] p h = absurd (omega (arith, h))
 definition-at (d ∷ ds) zero h = refl
 definition-at (d ∷ ds) (suc p) h = definition-at ds p (omega (arith, h))
 
-positions-are : (base : Base) (ps : List ℕ) → All (λ p. p < length base.definitions) ps → positions_weight base ps ≡ summed (map definition_weight base.definitions) ps
+positions-are : (base : Base) (ps : List ℕ) → All (λ p. p < length base.definitions) ps
+    → positions_weight base ps ≡ summed (map definition_weight base.definitions) ps
 positions-are base [] a = refl
 positions-are base (p ∷ ps) a =
     omega (arith, definition-at base.definitions p (a 0 p (omega arith)), positions-are base ps (λ k d h. a (suc k) d (omega (arith, h))))
@@ -149,7 +154,8 @@ some-turns whole (Return cells outer) = omega arith
 
 -- ---- the first cells
 
-pub placed-cells : (n : ℕ) (vs : List Variable) → vs ≡ placed_from n (map (λ (v : Variable). v.item) vs) → (i : ℕ) (v : Variable) → slice_get vs i ≡ Some v → v.cells ≡ variable_cells v.item
+pub placed-cells : (n : ℕ) (vs : List Variable) → vs ≡ placed_from n (map (λ (v : Variable). v.item) vs) → (i : ℕ) (v : Variable) → slice_get vs i ≡ Some v
+    → v.cells ≡ variable_cells v.item
 placed-cells n [] e zero v is = cc
 placed-cells n [] e (suc i) v is = cc
 placed-cells n (x ∷ xs) e zero v is =

@@ -1,5 +1,6 @@
 -- Stages: the run so far against the meaning so far.
-use Rattle.std.proofs.Common.{length, ◌≡◌, ℕ, ◌<◌, Bool, true, false, cond, List, [], ◌∷◌, get_or, set, slice_get, Option, Some, None, ◌⊎◌, inl, inr, ⊎_elim, not, refl, sym, ap, ◌∙◌, subst, arith, pos}
+use Rattle.std.proofs.Common.{length, ◌≡◌, ℕ, ◌<◌, Bool, true, false, cond, List, [], ◌∷◌, get_or, set, slice_get, Option, Some, None, ◌⊎◌, inl, inr, ⊎_elim}
+use Rattle.std.proofs.Common.{not, refl, sym, ap, ◌∙◌, subst, arith, pos}
 use mathlib.Core.Bool.{◌&&◌}
 use Rattle.std.specs.List.{cons_option}
 use Rattle.std.specs.Prelude.{option_and_then, option_map}
@@ -21,12 +22,16 @@ use Rattle.observables.specs.Answers.{Cause, failed, over}
 use Rattle.driver_core.specs.Meaning.{Env, RunState, goes, then_do, chosen_block, with_values, failure_cause, unless_stopped}
 use Rattle.mpp_inline.specs.declared.builder.Builder.{Builder}
 use Rattle.mpp_inline.specs.inner.Cells.{picked, written, received}
-use Rattle.mpp_inline.specs.inner.Growth.{faces, face, at, IsUsable, SoFar, so_far, observed_more, note_read, IsVerif, denoted, outcome_of, run, Sane, Known, Placed, Ready, CheckedRule, CheckedLine, NotedAt, Pushed, Checked, Longer, Grows, TermStep, Computed, Stage, Opened, over_judged, judged, Held, Merged, entries}
+use Rattle.mpp_inline.specs.inner.Growth.{faces, face, at, IsUsable, SoFar, so_far, observed_more, note_read, IsVerif, denoted, outcome_of, run, Sane, Known}
+use Rattle.mpp_inline.specs.inner.Growth.{Placed, Ready, CheckedRule, CheckedLine, NotedAt, Pushed, Checked, Longer, Grows, TermStep, Computed, Stage, Opened}
+use Rattle.mpp_inline.specs.inner.Growth.{over_judged, judged, Held, Merged, entries}
 use Rattle.mpp_inline.proofs.OutcomeLemmas.{goes-last, then-then, set-goes, wrap, both-steps, found-run, more-none, more-more}
 use Rattle.mpp_inline.proofs.ListLemmas.{all-picked, all-written, written-map, received-map, with-received}
 use Rattle.mpp_inline.proofs.RunLemmas.{face_judged, face_fired}
 use Rattle.mpp_inline.proofs.UsableLemmas.{usable-on}
-use Rattle.mpp_inline.proofs.GrowthLemmas.{longer-none, longer-then, grows-none, grows-then, known-on, denoted-on, run-on, known-get, known-set, pushed-within, pushed-value, pushed-grows, checked-longer, checked-reported, noted-longer, noted-reported, denoted-set, faces-on, Faced, faced-line, faced-rule}
+use Rattle.mpp_inline.proofs.GrowthLemmas.{longer-none, longer-then, grows-none, grows-then, known-on, denoted-on, run-on, known-get, known-set, pushed-within}
+use Rattle.mpp_inline.proofs.GrowthLemmas.{pushed-value, pushed-grows, checked-longer, checked-reported, noted-longer, noted-reported, denoted-set, faces-on}
+use Rattle.mpp_inline.proofs.GrowthLemmas.{Faced, faced-line, faced-rule}
 
 -- the two operators of guards
 pub choose-value : (a b c : Value) → op_value Choose a b c ≡ chosen a b c
@@ -41,13 +46,15 @@ truth-value a b c = refl
 pub stage-first : {b : Builder} {env : List ℕ} {g : ℕ} (does : Env → RunState) → Placed b env g → Stage b b g env env does does
 stage-first does r = record { base = longer-none r.sane; known = r.known; taken = λ inputs h. refl; idle = λ inputs h. refl }
 
-pub stage-ready : {labels : List Label} {b c : Builder} {env env' : List ℕ} {g : ℕ} {rest whole : Env → RunState} → Ready labels b env g → Stage b c g env env' rest whole → Ready labels c env' g
+pub stage-ready : {labels : List Label} {b c : Builder} {env env' : List ℕ} {g : ℕ} {rest whole : Env → RunState} → Ready labels b env g
+    → Stage b c g env env' rest whole → Ready labels c env' g
 stage-ready r s = record {
   placed = record { sane = s.base.sane; known = s.known; guard = usable-on s.base r.placed.guard };
   labelled = faces-on s.base r.labelled;
 }
 
-pub stage-next : {labels : List Label} {b c d : Builder} {e f h : List ℕ} {g : ℕ} {does rest whole : Env → RunState} → Ready labels b e g → Stage b c g e f (λ x. then_do (does x) rest) whole → (Ready labels c f g → Stage c d g f h (λ x. goes [] x) does) → Stage b d g e h rest whole
+pub stage-next : {labels : List Label} {b c d : Builder} {e f h : List ℕ} {g : ℕ} {does rest whole : Env → RunState} → Ready labels b e g
+    → Stage b c g e f (λ x. then_do (does x) rest) whole → (Ready labels c f g → Stage c d g f h (λ x. goes [] x) does) → Stage b d g e h rest whole
 stage-next {labels} {b} {c} {d} {e} {f} {h} {g} {does} {rest} {whole} r s t =
     let n = t (stage-ready r s) in
     record {
@@ -62,7 +69,8 @@ stage-next {labels} {b} {c} {d} {e} {f} {h} {g} {does} {rest} {whole} r s t =
     }
 
 -- a change of the environment alone
-pub stage-simple : {b c : Builder} {env env' : List ℕ} {g : ℕ} (f : Env → Env) → Placed b env g → Grows b c → Known c env' → ((inputs : List Value) → denoted c inputs env' ≡ f (denoted b inputs env)) → Stage b c g env env' (λ e. goes [] e) (λ e. goes [] (f e))
+pub stage-simple : {b c : Builder} {env env' : List ℕ} {g : ℕ} (f : Env → Env) → Placed b env g → Grows b c → Known c env'
+    → ((inputs : List Value) → denoted c inputs env' ≡ f (denoted b inputs env)) → Stage b c g env env' (λ e. goes [] e) (λ e. goes [] (f e))
 stage-simple {b} {c} {env} {env'} {g} f r grows kn e = record {
   base = grows.base;
   known = kn;
@@ -73,7 +81,8 @@ stage-simple {b} {c} {env} {env'} {g} f r grows kn e = record {
   idle = λ inputs h. grows.reported inputs;
 }
 
-pub set-stage : {b c : Builder} {env : List ℕ} {g k : ℕ} (t : Environment → Value) (x : ℕ) → (Sane b → Known b env → TermStep b c env t k) → Placed b env g → Stage b c g env (set env x k) (λ e. goes [] e) (λ e. goes [] (set e x (t (environment e))))
+pub set-stage : {b c : Builder} {env : List ℕ} {g k : ℕ} (t : Environment → Value) (x : ℕ) → (Sane b → Known b env → TermStep b c env t k) → Placed b env g
+    → Stage b c g env (set env x k) (λ e. goes [] e) (λ e. goes [] (set e x (t (environment e))))
 set-stage {b} {c} {env} {g} {k} t x f r =
     let s = f r.sane r.known in
     let l = s.grows.base in
@@ -87,8 +96,10 @@ del-stage {b} {env} {g} x r =
     (λ inputs. denoted-set inputs x 0 Undef (longer-none r.sane) r.known (r.sane.undef inputs))
 
 -- a stop and notes that a condition's value gives
-found-stage : {b d : Builder} {env : List ℕ} {g : ℕ} (t : Environment → Value) (j : Value → Env → RunState) (cause : Value → Option Cause) (more : Value → List Label) → ((v : Value) (x : Env) → unless_stopped (cause v) (goes (more v) x) ≡ j v x) → Longer b d → Placed b env g →
-    ((inputs : List Value) → at b inputs g ≡ Num (pos 1000000) → so_far d inputs ≡ observed_more (so_far b inputs) (cause (t (environment (denoted b inputs env)))) (more (t (environment (denoted b inputs env))))) →
+found-stage : {b d : Builder} {env : List ℕ} {g : ℕ} (t : Environment → Value) (j : Value → Env → RunState) (cause : Value → Option Cause) (more : Value
+    → List Label) → ((v : Value) (x : Env) → unless_stopped (cause v) (goes (more v) x) ≡ j v x) → Longer b d → Placed b env g →
+    ((inputs : List Value) → at b inputs g ≡ Num (pos 1000000)
+    → so_far d inputs ≡ observed_more (so_far b inputs) (cause (t (environment (denoted b inputs env)))) (more (t (environment (denoted b inputs env))))) →
     ((inputs : List Value) → at b inputs g ≡ Num (pos 0) → so_far d inputs ≡ so_far b inputs) →
     Stage b d g env env (λ e. goes [] e) (λ e. j (t (environment e)) e)
 found-stage {b} {d} {env} {g} t j cause more same long r taken idle = record {
@@ -104,16 +115,21 @@ found-stage {b} {d} {env} {g} t j cause more same long r taken idle = record {
 }
 
 -- a condition and its check
-check-reported : {b c d : Builder} (env : List ℕ) {g k l : ℕ} {only : Bool} {f : FaceLabel} (t : Environment → Value) → TermStep b c env t k → Checked c d g k only l → Faced c d l f → IsUsable b g → (inputs : List Value) → so_far d inputs ≡ observed_more (so_far b inputs) (face_fired (at b inputs g) only f (t (environment (denoted b inputs env)))) []
+check-reported : {b c d : Builder} (env : List ℕ) {g k l : ℕ} {only : Bool} {f : FaceLabel} (t : Environment → Value) → TermStep b c env t k
+    → Checked c d g k only l → Faced c d l f → IsUsable b g → (inputs : List Value)
+    → so_far d inputs ≡ observed_more (so_far b inputs) (face_fired (at b inputs g) only f (t (environment (denoted b inputs env)))) []
 check-reported {b} {c} {d} env {g} {k} {l} {only} {f} t s p q h inputs =
     checked-reported p q s.grows.base.sane inputs
     ∙ (λ i. observed_more (s.grows.reported inputs i) (face_fired (s.grows.base.keeps inputs g h i) only f (s.value inputs i)) [])
 
-check-longer : {b c d : Builder} (env : List ℕ) {g k l : ℕ} {only : Bool} {f : FaceLabel} (t : Environment → Value) → TermStep b c env t k → Checked c d g k only l → Faced c d l f → IsUsable b g → Longer b d
+check-longer : {b c d : Builder} (env : List ℕ) {g k l : ℕ} {only : Bool} {f : FaceLabel} (t : Environment → Value) → TermStep b c env t k
+    → Checked c d g k only l → Faced c d l f → IsUsable b g → Longer b d
 check-longer {b} {c} {d} env {g} t s p q h =
     longer-then s.grows.base (checked-longer p q (usable-on s.grows.base h) s.within s.grows.base.sane)
 
-pub check-stage : {b c d : Builder} {env : List ℕ} {g k l : ℕ} {only : Bool} {f : FaceLabel} (t : Environment → Value) (j : Value → Env → RunState) → ((v : Value) (x : Env) → unless_stopped (face_judged only f v) (goes [] x) ≡ j v x) → (Sane b → Known b env → TermStep b c env t k) → Checked c d g k only l → Faced c d l f → Placed b env g → Stage b d g env env (λ e. goes [] e) (λ e. j (t (environment e)) e)
+pub check-stage : {b c d : Builder} {env : List ℕ} {g k l : ℕ} {only : Bool} {f : FaceLabel} (t : Environment → Value) (j : Value → Env → RunState)
+    → ((v : Value) (x : Env) → unless_stopped (face_judged only f v) (goes [] x) ≡ j v x) → (Sane b → Known b env → TermStep b c env t k)
+    → Checked c d g k only l → Faced c d l f → Placed b env g → Stage b d g env env (λ e. goes [] e) (λ e. j (t (environment e)) e)
 check-stage {b} {c} {d} {env} {g} {k} {l} {only} {f} t j same step p q r =
     let s = step r.sane r.known in
     let reported = check-reported env t s p q r.guard in
@@ -131,14 +147,17 @@ false-true e = cc
 true-false : true ≡ false → ⊥
 true-false e = cc
 
-stopped-number : (labels : List Label) (number : ℕ) (label : Label) → slice_get labels number ≡ Some label → (stopping zero : Bool) (e : Env) → stopping ≡ true →
+stopped-number : (labels : List Label) (number : ℕ) (label : Label) → slice_get labels number ≡ Some label → (stopping zero : Bool) (e : Env) → stopping ≡ true
+    →
     unless_stopped (cond zero None (Some (failed label))) (goes [] e)
-    ≡ unless_stopped (option_and_then (failure_cause labels) (cond (not zero && stopping) (Some (Failed number)) None)) (goes (cons_option (cond (not zero && not stopping) (slice_get labels number) None) []) e)
+    ≡ unless_stopped (option_and_then (failure_cause labels) (cond (not zero && stopping) (Some (Failed number)) None))
+    (goes (cons_option (cond (not zero && not stopping) (slice_get labels number) None) []) e)
 stopped-number labels number label is true true e h = refl
 stopped-number labels number label is true false e h = sym (ap (λ o. unless_stopped (option_map failed o) (goes [] e)) is)
 stopped-number labels number label is false zero e h = absurd (false-true h)
 
-pub verif-face : (labels : List Label) (number : ℕ) (label : Label) → slice_get labels number ≡ Some label → is_stopping (kind_at labels number) ≡ true → (v : Value) (e : Env) → unless_stopped (face_judged false (Verif label) v) (goes [] e) ≡ judged labels number v e
+pub verif-face : (labels : List Label) (number : ℕ) (label : Label) → slice_get labels number ≡ Some label → is_stopping (kind_at labels number) ≡ true
+    → (v : Value) (e : Env) → unless_stopped (face_judged false (Verif label) v) (goes [] e) ≡ judged labels number v e
 verif-face labels number label is kind Undef e = refl
 verif-face labels number label is kind (Num z) e = stopped-number labels number label is (is_stopping (kind_at labels number)) (is_zero z) e kind
 verif-face labels number label is kind Over e = sym (ap (λ o. unless_stopped (option_map over o) (goes [] e)) is)
@@ -149,15 +168,18 @@ note_by label v = cons_option (note_read (Verif label) (truth_of v)) []
 
 noted-number : (labels : List Label) (number : ℕ) (label : Label) → slice_get labels number ≡ Some label → (stopping zero : Bool) (e : Env) → stopping ≡ false →
     goes (cons_option (note_read (Verif label) (Num (truth (not zero)))) []) e
-    ≡ unless_stopped (option_and_then (failure_cause labels) (cond (not zero && stopping) (Some (Failed number)) None)) (goes (cons_option (cond (not zero && not stopping) (slice_get labels number) None) []) e)
+    ≡ unless_stopped (option_and_then (failure_cause labels) (cond (not zero && stopping) (Some (Failed number)) None))
+    (goes (cons_option (cond (not zero && not stopping) (slice_get labels number) None) []) e)
 noted-number labels number label is false true e h = refl
 noted-number labels number label is false false e h = sym (ap (λ o. goes (cons_option o []) e) is)
 noted-number labels number label is true zero e h = absurd (true-false h)
 
-noted-face : (labels : List Label) (number : ℕ) (label : Label) → slice_get labels number ≡ Some label → is_stopping (kind_at labels number) ≡ false → (v : Value) (e : Env) → unless_stopped (face_judged true (Verif label) v) (goes (note_by label v) e) ≡ judged labels number v e
+noted-face : (labels : List Label) (number : ℕ) (label : Label) → slice_get labels number ≡ Some label → is_stopping (kind_at labels number) ≡ false
+    → (v : Value) (e : Env) → unless_stopped (face_judged true (Verif label) v) (goes (note_by label v) e) ≡ judged labels number v e
 noted-face labels number label is kind Undef e = refl
 noted-face labels number label is kind (Num z) e = noted-number labels number label is (is_stopping (kind_at labels number)) (is_zero z) e kind
-noted-face labels number label is kind Over e = sym (ap (λ o. unless_stopped (option_map over o) (goes (cons_option (cond (false && not (is_stopping (kind_at labels number))) o None) []) e)) is)
+noted-face labels number label is kind Over e = sym
+    (ap (λ o. unless_stopped (option_map over o) (goes (cons_option (cond (false && not (is_stopping (kind_at labels number))) o None) []) e)) is)
 
 pub line-face : (line : ℕ) (v : Value) (e : Env) → unless_stopped (face_judged true (DriverLine line) v) (goes [] e) ≡ over_judged line v e
 line-face line Undef e = refl
@@ -165,14 +187,20 @@ line-face line (Num z) e = refl
 line-face line Over e = refl
 
 -- a check of the rules
-pub rule-stage : {labels : List Label} {b c e : Builder} {env : List ℕ} {g k : ℕ} (d : Check) (label : Label) → d.1 < length labels → is_stopping (kind_at labels d.1) ≡ true → (Sane b → Known b env → TermStep b c env (λ x. term_value x d.0) k) → CheckedRule c e g k false d.1 → Ready labels b env g → Stage b e g env env (λ x. goes [] x) (λ x. judged labels d.1 (term_value (environment x) d.0) x)
+pub rule-stage : {labels : List Label} {b c e : Builder} {env : List ℕ} {g k : ℕ} (d : Check) (label : Label) → d.1 < length labels
+    → is_stopping (kind_at labels d.1) ≡ true → (Sane b → Known b env → TermStep b c env (λ x. term_value x d.0) k) → CheckedRule c e g k false d.1
+    → Ready labels b env g → Stage b e g env env (λ x. goes [] x) (λ x. judged labels d.1 (term_value (environment x) d.0) x)
 rule-stage {labels} d label lt kind step p r =
-    check-stage (λ x. term_value x d.0) (judged labels d.1) (verif-face labels d.1 (get_or labels d.1 label) (slice_get-get_or labels d.1 label lt) kind) step p.base
+    check-stage (λ x. term_value x d.0) (judged labels d.1) (verif-face labels d.1 (get_or labels d.1 label) (slice_get-get_or labels d.1 label lt) kind) step
+    p.base
     (faced-rule d.1 label (faces-on (step r.placed.sane r.placed.known).grows.base r.labelled) lt p)
     r.placed
 
 -- a check of the rules that is noted: the check, the truth of its condition, the choice of it by the guard, and the note
-pub noted-stage : {labels : List Label} {b c d0 d1 d2 e : Builder} {env : List ℕ} {g k i j : ℕ} (d : Check) (label : Label) → d.1 < length labels → is_stopping (kind_at labels d.1) ≡ false → (Sane b → Known b env → TermStep b c env (λ x. term_value x d.0) k) → CheckedRule c d0 g k true d.1 → Pushed d0 d1 (Do Truth k k k) i → Pushed d1 d2 (Do Choose g i 1) j → NotedAt d2 e j d.1 → Ready labels b env g → Stage b e g env env (λ x. goes [] x) (λ x. judged labels d.1 (term_value (environment x) d.0) x)
+pub noted-stage : {labels : List Label} {b c d0 d1 d2 e : Builder} {env : List ℕ} {g k i j : ℕ} (d : Check) (label : Label) → d.1 < length labels
+    → is_stopping (kind_at labels d.1) ≡ false → (Sane b → Known b env → TermStep b c env (λ x. term_value x d.0) k) → CheckedRule c d0 g k true d.1
+    → Pushed d0 d1 (Do Truth k k k) i → Pushed d1 d2 (Do Choose g i 1) j → NotedAt d2 e j d.1 → Ready labels b env g
+    → Stage b e g env env (λ x. goes [] x) (λ x. judged labels d.1 (term_value (environment x) d.0) x)
 noted-stage {labels} {b} {c} {d0} {d1} {d2} {e} {env} {g} {k} {i} {j} d label lt kind step p q1 q2 n r =
     let own = get_or labels d.1 label in
     let t : Environment → Value = λ x. term_value x d.0 in
@@ -198,19 +226,29 @@ noted-stage {labels} {b} {c} {d0} {d1} {d2} {e} {env} {g} {k} {i} {j} d label lt
     ((g1.base.keeps inputs g g_in ∙ l0.keeps inputs g r.placed.guard) x)
     ((pushed-value q1 inputs ∙ truth-value _ _ _ ∙ ap truth_of (ap (λ ns. get_or (node_values inputs ns) k Undef) p.base.nodes ∙ s.value inputs)) x)
     (g1.base.sane.zero inputs x)) in
-    let reported : (inputs : List Value) → so_far e inputs ≡ observed_more (observed_more (so_far b inputs) (face_fired (at b inputs g) true (Verif own) (t (environment (denoted b inputs env)))) []) None (cons_option (note_read (Verif own) (chosen (at b inputs g) (truth_of (t (environment (denoted b inputs env)))) (Num (pos 0)))) []) = λ inputs.
+    let reported : (inputs : List Value) → so_far e inputs ≡ observed_more
+    (observed_more (so_far b inputs) (face_fired (at b inputs g) true (Verif own) (t (environment (denoted b inputs env)))) []) None
+    (cons_option (note_read (Verif own) (chosen (at b inputs g) (truth_of (t (environment (denoted b inputs env)))) (Num (pos 0)))) []) = λ inputs.
     noted-reported n inputs
-    ∙ (λ x. observed_more ((grows.reported inputs ∙ check-reported env t s p.base faced r.placed.guard inputs) x) None (cons_option (note_read (is x) (value inputs x)) [])) in
-    let under_guard : List Value → Value → SoFar = λ inputs v. observed_more (observed_more (so_far b inputs) (face_fired v true (Verif own) (t (environment (denoted b inputs env)))) []) None (cons_option (note_read (Verif own) (chosen v (truth_of (t (environment (denoted b inputs env)))) (Num (pos 0)))) []) in
-    found-stage t (judged labels d.1) (face_judged true (Verif own)) (note_by own) (noted-face labels d.1 own (slice_get-get_or labels d.1 label lt) kind) long r.placed
-    (λ inputs h. reported inputs ∙ ap (under_guard inputs) h ∙ more-more (so_far b inputs) (face_judged true (Verif own) (t (environment (denoted b inputs env)))) (note_by own (t (environment (denoted b inputs env)))))
+    ∙ (λ x. observed_more ((grows.reported inputs ∙ check-reported env t s p.base faced r.placed.guard inputs) x) None
+    (cons_option (note_read (is x) (value inputs x)) [])) in
+    let under_guard : List Value → Value → SoFar = λ inputs v. observed_more
+    (observed_more (so_far b inputs) (face_fired v true (Verif own) (t (environment (denoted b inputs env)))) []) None
+    (cons_option (note_read (Verif own) (chosen v (truth_of (t (environment (denoted b inputs env)))) (Num (pos 0)))) []) in
+    found-stage t (judged labels d.1) (face_judged true (Verif own)) (note_by own) (noted-face labels d.1 own (slice_get-get_or labels d.1 label lt) kind) long
+    r.placed
+    (λ inputs h. reported inputs ∙ ap (under_guard inputs) h
+    ∙ more-more (so_far b inputs) (face_judged true (Verif own) (t (environment (denoted b inputs env))))
+    (note_by own (t (environment (denoted b inputs env)))))
     (λ inputs h. reported inputs ∙ ap (under_guard inputs) h ∙ more-more (so_far b inputs) None [] ∙ more-none (so_far b inputs))
 
 -- definitions
 pub computed-first : {b : Builder} {env : List ℕ} (f : Env → Env) → Sane b → Known b env → Computed b b env env f f
 computed-first f s k = record { grows = grows-none s; known = k; value = λ inputs. refl }
 
-pub computed-next : {b c d : Builder} {env env' : List ℕ} {k : ℕ} {rest whole : Env → Env} (t : Environment → Value) (x : ℕ) → Computed b c env env' (λ e. rest (set e x (t (environment e)))) whole → (Sane c → Known c env' → TermStep c d env' t k) → Computed b d env (set env' x k) rest whole
+pub computed-next : {b c d : Builder} {env env' : List ℕ} {k : ℕ} {rest whole : Env → Env} (t : Environment → Value) (x : ℕ)
+    → Computed b c env env' (λ e. rest (set e x (t (environment e)))) whole → (Sane c → Known c env' → TermStep c d env' t k)
+    → Computed b d env (set env' x k) rest whole
 computed-next {b} {c} {d} {env} {env'} {k} {rest} {whole} t x s f =
     let n = f s.grows.base.sane s.known in
     let l = n.grows.base in
@@ -221,7 +259,10 @@ computed-next {b} {c} {d} {env} {env'} {k} {rest} {whole} t x s f =
     }
 
 -- a stage between a change of the environment and another
-pub wrapped : {b c d : Builder} {env env1 env2 env3 : List ℕ} {g : ℕ} {does : Env → RunState} (before : Env → Env) (after : Env → Env → Env) → Placed b env g → Grows b c → ((inputs : List Value) → denoted c inputs env1 ≡ before (denoted b inputs env)) → Stage c d g env1 env2 (λ e. goes [] e) does → Known d env3 → ((inputs : List Value) → denoted d inputs env3 ≡ after (denoted b inputs env) (denoted d inputs env2)) → Stage b d g env env3 (λ e. goes [] e) (λ e. then_do (does (before e)) (λ f. goes [] (after e f)))
+pub wrapped : {b c d : Builder} {env env1 env2 env3 : List ℕ} {g : ℕ} {does : Env → RunState} (before : Env → Env) (after : Env → Env → Env) → Placed b env g
+    → Grows b c → ((inputs : List Value) → denoted c inputs env1 ≡ before (denoted b inputs env)) → Stage c d g env1 env2 (λ e. goes [] e) does → Known d env3
+    → ((inputs : List Value) → denoted d inputs env3 ≡ after (denoted b inputs env) (denoted d inputs env2))
+    → Stage b d g env env3 (λ e. goes [] e) (λ e. then_do (does (before e)) (λ f. goes [] (after e f)))
 wrapped {b} {c} {d} {env} {env1} {env2} {env3} {g} {does} before after r grows first s kn last = record {
   base = longer-then grows.base s.base;
   known = kn;
@@ -243,15 +284,23 @@ known-received {b} xs from env s f k = record {
   all = all-written (IsUsable b) (picked 0 xs from) env (all-picked (IsUsable b) 0 xs from (s.literal 0 (omega arith)) f.all) k.all;
 }
 
-pub denoted-received : {b : Builder} (inputs : List Value) (xs from env : List ℕ) → Sane b → denoted b inputs (received 0 xs from env) ≡ with_values xs (environment (denoted b inputs from)) (denoted b inputs env)
+pub denoted-received : {b : Builder} (inputs : List Value) (xs from env : List ℕ) → Sane b
+    → denoted b inputs (received 0 xs from env) ≡ with_values xs (environment (denoted b inputs from)) (denoted b inputs env)
 denoted-received {b} inputs xs from env s =
     received-map (at b inputs) 0 xs from env ∙ ap (λ v. received v xs (denoted b inputs from) (denoted b inputs env)) (s.undef inputs)
     ∙ sym (with-received xs (denoted b inputs from) (denoted b inputs env))
 
-pub rules-stage : {labels : List Label} {b c d : Builder} {env env' : List ℕ} {g : ℕ} {does : Env → RunState} {first : Env → Env} (xs : List ℕ) → (Sane b → Known b env → Computed b c env env' (λ e. e) first) → (Ready labels c env' g → Stage c d g env' env' (λ e. goes [] e) does) → Ready labels b env g → Stage b d g env (received 0 xs env' env) (λ e. goes [] e) (λ e. then_do (does (first e)) (λ f. goes [] (with_values xs (environment f) e)))
+pub rules-stage : {labels : List Label} {b c d : Builder} {env env' : List ℕ} {g : ℕ} {does : Env → RunState} {first : Env → Env} (xs : List ℕ)
+    → (Sane b → Known b env → Computed b c env env' (λ e. e) first) → (Ready labels c env' g → Stage c d g env' env' (λ e. goes [] e) does)
+    → Ready labels b env g → Stage b d g env (received 0 xs env' env) (λ e. goes [] e)
+    (λ e. then_do (does (first e)) (λ f. goes [] (with_values xs (environment f) e)))
 rules-stage {labels} {b} {c} {d} {env} {env'} {g} {does} {first} xs defs checks r =
     let k = defs r.placed.sane r.placed.known in
-    let s = checks (record { placed = record { sane = k.grows.base.sane; known = k.known; guard = usable-on k.grows.base r.placed.guard }; labelled = faces-on k.grows.base r.labelled }) in
+    let s = checks (record {
+      placed = record { sane = k.grows.base.sane; known = k.known; guard = usable-on k.grows.base r.placed.guard };
+      labelled = faces-on
+          k.grows.base r.labelled;
+    }) in
     let l = longer-then k.grows.base s.base in
     wrapped first (λ e f. with_values xs (environment f) e) r.placed k.grows k.value s
     (known-received xs env' env l.sane s.known (known-on l r.placed.known))
@@ -280,7 +329,8 @@ first-number : (c : Bool) (e : Env) (a b : Env → RunState) → Num (truth (not
 first-number true e a b h = absurd (not-both (Num (pos 0)) refl h)
 first-number false e a b h = refl
 
-judged-first : (line : ℕ) (v : Value) (e : Env) (a b : Env → RunState) → truth_of v ≡ Num (pos 1000000) → then_do (over_judged line v e) a ≡ chosen_block line v (a e) (b e)
+judged-first : (line : ℕ) (v : Value) (e : Env) (a b : Env → RunState) → truth_of v ≡ Num (pos 1000000)
+    → then_do (over_judged line v e) a ≡ chosen_block line v (a e) (b e)
 judged-first line Undef e a b h = absurd (not-both (Num (pos 0)) refl h)
 judged-first line (Num z) e a b h = first-number (is_zero z) e a b h
 judged-first line Over e a b h = absurd (not-both (Num (pos 0)) refl h)
@@ -289,21 +339,30 @@ second-number : (c : Bool) (e : Env) (a b : Env → RunState) → Num (truth (no
 second-number true e a b h = refl
 second-number false e a b h = absurd (not-both (Num (pos 1000000)) h refl)
 
-judged-second : (line : ℕ) (v : Value) (e : Env) (a b : Env → RunState) → truth_of v ≡ Num (pos 0) → then_do (over_judged line v e) b ≡ chosen_block line v (a e) (b e)
+judged-second : (line : ℕ) (v : Value) (e : Env) (a b : Env → RunState) → truth_of v ≡ Num (pos 0)
+    → then_do (over_judged line v e) b ≡ chosen_block line v (a e) (b e)
 judged-second line Undef e a b h = refl
 judged-second line (Num z) e a b h = second-number (is_zero z) e a b h
 judged-second line Over e a b h = refl
 
-pub chosen-first : (s : SoFar) (e : Env) (line : ℕ) (t : Environment → Value) (a b : Env → RunState) → truth_of (t (environment e)) ≡ Num (pos 1000000) → then_do (then_do (outcome_of s e) (λ x. over_judged line (t (environment x)) x)) a ≡ then_do (outcome_of s e) (λ x. chosen_block line (t (environment x)) (a x) (b x))
+pub chosen-first : (s : SoFar) (e : Env) (line : ℕ) (t : Environment → Value) (a b : Env → RunState) → truth_of (t (environment e)) ≡ Num (pos 1000000)
+    → then_do (then_do (outcome_of s e) (λ x. over_judged line (t (environment x)) x)) a ≡ then_do (outcome_of s e)
+    (λ x. chosen_block line (t (environment x)) (a x) (b x))
 chosen-first s e line t a b h =
-    both-steps s e (λ x. over_judged line (t (environment x)) x) a (λ x. chosen_block line (t (environment x)) (a x) (b x)) (judged-first line (t (environment e)) e a b h)
+    both-steps s e (λ x. over_judged line (t (environment x)) x) a (λ x. chosen_block line (t (environment x)) (a x) (b x))
+    (judged-first line (t (environment e)) e a b h)
 
-pub chosen-second : (s : SoFar) (e : Env) (line : ℕ) (t : Environment → Value) (a b : Env → RunState) → truth_of (t (environment e)) ≡ Num (pos 0) → then_do (then_do (outcome_of s e) (λ x. over_judged line (t (environment x)) x)) b ≡ then_do (outcome_of s e) (λ x. chosen_block line (t (environment x)) (a x) (b x))
+pub chosen-second : (s : SoFar) (e : Env) (line : ℕ) (t : Environment → Value) (a b : Env → RunState) → truth_of (t (environment e)) ≡ Num (pos 0)
+    → then_do (then_do (outcome_of s e) (λ x. over_judged line (t (environment x)) x)) b ≡ then_do (outcome_of s e)
+    (λ x. chosen_block line (t (environment x)) (a x) (b x))
 chosen-second s e line t a b h =
-    both-steps s e (λ x. over_judged line (t (environment x)) x) b (λ x. chosen_block line (t (environment x)) (a x) (b x)) (judged-second line (t (environment e)) e a b h)
+    both-steps s e (λ x. over_judged line (t (environment x)) x) b (λ x. chosen_block line (t (environment x)) (a x) (b x))
+    (judged-second line (t (environment e)) e a b h)
 
 -- the guards of a choice, once its condition is there
-pub open-branches : {b c c1 c2 d : Builder} {env : List ℕ} {g line v k i j : ℕ} {t : Environment → Value} → (Sane b → Known b env → TermStep b c env t v) → CheckedLine c c1 g v line → {c3 : Builder} → Pushed c1 c2 (Do Truth v v v) k → Pushed c2 c3 (Do Choose k g 1) i → Pushed c3 d (Do Choose k 1 g) j → Placed b env g → Opened b d env g line t (record { truth = k; first = i; second = j })
+pub open-branches : {b c c1 c2 d : Builder} {env : List ℕ} {g line v k i j : ℕ} {t : Environment → Value} → (Sane b → Known b env → TermStep b c env t v)
+    → CheckedLine c c1 g v line → {c3 : Builder} → Pushed c1 c2 (Do Truth v v v) k → Pushed c2 c3 (Do Choose k g 1) i → Pushed c3 d (Do Choose k 1 g) j
+    → Placed b env g → Opened b d env g line t (record { truth = k; first = i; second = j })
 open-branches {b} {c} {c1} {c2} {d} {env} {g} {line} {v} {k} {i} {j} {t} step p {c3} q1 q2 q3 r =
     let ts = step r.sane r.known in
     let s0 = check-stage t (over_judged line) (line-face line) step p.base (faced-line p) r in
@@ -349,7 +408,8 @@ open-branches {b} {c} {c1} {c2} {d} {env} {g} {line} {v} {k} {i} {j} {t} step p 
 pub merge-first : {b : Builder} {env : List ℕ} {truth : ℕ} (ps : List (ℕ × ℕ)) → Placed b env truth → Merged b b truth ps ps env env
 merge-first ps r = record { grows = grows-none r.sane; known = r.known; first = λ inputs h. refl; second = λ inputs h. refl }
 
-pub merge-skip : {b c : Builder} {env env' : List ℕ} {truth : ℕ} {p : ℕ × ℕ} {ps whole : List (ℕ × ℕ)} → IsUsable b p.1 → p.1 ≡ get_or env' p.0 0 → Merged b c truth (p ∷ ps) whole env env' → Merged b c truth ps whole env env'
+pub merge-skip : {b c : Builder} {env env' : List ℕ} {truth : ℕ} {p : ℕ × ℕ} {ps whole : List (ℕ × ℕ)} → IsUsable b p.1 → p.1 ≡ get_or env' p.0 0
+    → Merged b c truth (p ∷ ps) whole env env' → Merged b c truth ps whole env env'
 merge-skip {b} {c} {env} {env'} {truth} {p} {ps} {whole} within same m = record {
   grows = m.grows;
   known = m.known;
@@ -362,7 +422,8 @@ merge-skip {b} {c} {env} {env'} {truth} {p} {ps} {whole} within same m = record 
   second = m.second;
 }
 
-pub merge-write : {b c d : Builder} {env env' : List ℕ} {truth k : ℕ} {p : ℕ × ℕ} {ps whole : List (ℕ × ℕ)} → Placed b env truth → IsUsable b p.1 → Merged b c truth (p ∷ ps) whole env env' → Pushed c d (Do Choose truth p.1 (get_or env' p.0 0)) k → Merged b d truth ps whole env (set env' p.0 k)
+pub merge-write : {b c d : Builder} {env env' : List ℕ} {truth k : ℕ} {p : ℕ × ℕ} {ps whole : List (ℕ × ℕ)} → Placed b env truth → IsUsable b p.1
+    → Merged b c truth (p ∷ ps) whole env env' → Pushed c d (Do Choose truth p.1 (get_or env' p.0 0)) k → Merged b d truth ps whole env (set env' p.0 k)
 merge-write {b} {c} {d} {env} {env'} {truth} {k} {p} {ps} {whole} r within m q =
     let l = m.grows.base in
     let t_in = usable-on l r.guard in
@@ -370,7 +431,8 @@ merge-write {b} {c} {d} {env} {env'} {truth} {k} {p} {ps} {whole} r within m q =
     let x_in = known-get p.0 l.sane m.known in
     let grows = pushed-grows q (t_in, p_in, x_in) l.sane in
     let value : (inputs : List Value) → at d inputs k ≡ chosen (at b inputs truth) (at b inputs p.1) (at c inputs (get_or env' p.0 0)) = λ inputs.
-    pushed-value q inputs ∙ choose-value _ _ _ ∙ (λ i. chosen (l.keeps inputs truth r.guard i) (l.keeps inputs p.1 within i) (at c inputs (get_or env' p.0 0))) in
+    pushed-value q inputs ∙ choose-value _ _ _
+    ∙ (λ i. chosen (l.keeps inputs truth r.guard i) (l.keeps inputs p.1 within i) (at c inputs (get_or env' p.0 0))) in
     record {
       grows = grows-then m.grows grows;
       known = known-set p.0 k (pushed-within q (λ t. t)) (known-on grows.base m.known);

@@ -1,5 +1,6 @@
 -- Tables read at an index: a choice for each cell comes to the cell that the index means.
-use Rattle.std.proofs.Common.{◌≡◌, ℕ, zero, suc, ◌+◌, ◌*◌, ◌/◌, ◌<◌, ◌≤◌, Bool, true, false, cond, ltb, leb, List, get_or, ⊎_elim, refl, sym, ap, ◌∙◌, arith, ℤ, pos, negsuc, subst}
+use Rattle.std.proofs.Common.{◌≡◌, ℕ, zero, suc, ◌+◌, ◌*◌, ◌/◌, ◌<◌, ◌≤◌, Bool, true, false, cond, ltb, leb, List, get_or, ⊎_elim, refl, sym, ap, ◌∙◌, arith, ℤ}
+use Rattle.std.proofs.Common.{pos, negsuc, subst}
 use Rattle.std.specs.Prelude.{neg_ℤ, int_le, unsigned_abs}
 use Rattle.std.specs.Ordering.{int_eq}
 use Rattle.std.proofs.lemmas.Bool.{cases_lt}
@@ -64,11 +65,13 @@ among values first q (suc n) other = among values first q n (cond (int_eq q (pos
 
 among-undef : (values : Environment) (first n : ℕ) → among_cells values first Undef n Undef ≡ Undef
 among-undef values first zero = refl
-among-undef values first (suc n) = ap (λ v. among_cells values first Undef n (chosen v (values (first + n)) Undef)) (at-undef (pos (n * 1000000))) ∙ among-undef values first n
+among-undef values first (suc n) = ap (λ v. among_cells values first Undef n (chosen v (values (first + n)) Undef)) (at-undef (pos (n * 1000000)))
+    ∙ among-undef values first n
 
 among-over : (values : Environment) (first n : ℕ) → among_cells values first Over n Over ≡ Over
 among-over values first zero = refl
-among-over values first (suc n) = ap (λ v. among_cells values first Over n (chosen v (values (first + n)) Over)) (at-over (pos (n * 1000000))) ∙ among-over values first n
+among-over values first (suc n) = ap (λ v. among_cells values first Over n (chosen v (values (first + n)) Over)) (at-over (pos (n * 1000000)))
+    ∙ among-over values first n
 
 among-num : (values : Environment) (first n : ℕ) (z : ℤ) (other : Value) → among_cells values first (Num z) n other ≡ among values first (cut z) n other
 among-num values first zero z other = refl
@@ -127,7 +130,8 @@ outside-num : (z : ℤ) → outside (Num z) ≡ cond (int_le z (negsuc 999999)) 
 outside-num z = ap (λ v. chosen v (Num (pos 0)) Undef) (le-num z (negsuc 999999)) ∙ chosen-truth (int_le z (negsuc 999999)) (Num (pos 0)) Undef
 
 picked-place : (values : Environment) (first size k : ℕ) → picked_value values (picked_at first size (pos k)) ≡ cond (ltb k size) (values (first + k)) Undef
-picked-place values first size k = elim (ltb k size) as (λ b. picked_value values (cond b (Cell (first + k)) (Fixed Undef)) ≡ cond b (values (first + k)) Undef) [ true ↦ refl | false ↦ refl ]
+picked-place values first size k = elim (ltb k size) as (λ b. picked_value values (cond b (Cell (first + k)) (Fixed Undef)) ≡ cond b (values (first + k)) Undef)
+    [ true ↦ refl | false ↦ refl ]
 
 leb-of : (m : ℕ) → 999999 ≤ m → leb 999999 m ≡ true
 leb-of m h = grind (arith, nat_tests)
@@ -136,7 +140,8 @@ leb-not : (m : ℕ) → m < 999999 → leb 999999 m ≡ false
 leb-not m h = grind (arith, nat_tests)
 
 -- a negative index: above -1 it means the first cell, and else none
-negative : (values : Environment) (first size m d : ℕ) → suc m / 1000000 ≡ d → among values first (neg_ℤ (pos d)) size (cond (leb 999999 m) (Num (pos 0)) Undef) ≡ picked_value values (picked_at first size (neg_ℤ (pos d)))
+negative : (values : Environment) (first size m d : ℕ) → suc m / 1000000 ≡ d → among values first (neg_ℤ (pos d)) size (cond (leb 999999 m) (Num (pos 0)) Undef)
+    ≡ picked_value values (picked_at first size (neg_ℤ (pos d)))
 negative values first size m zero e =
     ap (λ b. among values first (pos 0) size (cond b (Num (pos 0)) Undef)) (leb-not m (omega (arith, e)))
     ∙ among-place values first size 0 Undef ∙ sym (picked-place values first size 0)
@@ -145,8 +150,10 @@ negative values first size m (suc j) e =
     ∙ among-below values first size j (Num (pos 0))
 
 pub table-value : (values : Environment) (first size : ℕ) (v : Value) → among_cells values first v size (outside v) ≡ picked_value values (picked first size v)
-table-value values first size Undef = ap (λ v. among_cells values first Undef size (chosen v (Num (pos 0)) Undef)) (le-undef (negsuc 999999)) ∙ among-undef values first size
-table-value values first size Over = ap (λ v. among_cells values first Over size (chosen v (Num (pos 0)) Undef)) (le-over (negsuc 999999)) ∙ among-over values first size
+table-value values first size Undef = ap (λ v. among_cells values first Undef size (chosen v (Num (pos 0)) Undef)) (le-undef (negsuc 999999))
+    ∙ among-undef values first size
+table-value values first size Over = ap (λ v. among_cells values first Over size (chosen v (Num (pos 0)) Undef)) (le-over (negsuc 999999))
+    ∙ among-over values first size
 table-value values first size (Num (pos m)) =
     ap (among_cells values first (Num (pos m)) size) (outside-num (pos m))
     ∙ among-num values first size (pos m) Undef
@@ -158,7 +165,9 @@ table-value values first size (Num (negsuc m)) =
 
 -- ---- a table as nodes
 
-pub table-first : {b c : Builder} {k : ℕ} (env : List ℕ) (index first size : ℕ) → Gives b c (λ inputs. outside (at b inputs index)) k → Along b c (λ inputs v. among_cells (environment (denoted b inputs env)) first (at b inputs index) size v) (λ inputs. picked_value (environment (denoted b inputs env)) (picked first size (at b inputs index))) k
+pub table-first : {b c : Builder} {k : ℕ} (env : List ℕ) (index first size : ℕ) → Gives b c (λ inputs. outside (at b inputs index)) k
+    → Along b c (λ inputs v. among_cells (environment (denoted b inputs env)) first (at b inputs index) size v)
+    (λ inputs. picked_value (environment (denoted b inputs env)) (picked first size (at b inputs index))) k
 table-first {b} {c} {k} env index first size g = record {
   grows = g.grows;
   within = g.within;
@@ -167,7 +176,12 @@ table-first {b} {c} {k} env index first size g = record {
       ∙ table-value (environment (denoted b inputs env)) first size (at b inputs index);
 }
 
-pub table-next : {b c d : Builder} {x cell k : ℕ} {whole : List Value → Value} (env : List ℕ) (index first n : ℕ) → Along b c (λ inputs v. among_cells (environment (denoted b inputs env)) first (at b inputs index) (suc n) v) whole x → (Sane c → IsUsable c index → IsUsable c cell → IsUsable c x → Gives c d (λ inputs. chosen (op_value At (at c inputs index) (Num (pos (n * 1000000))) Undef) (at c inputs cell) (at c inputs x)) k) → cell ≡ get_or env (first + n) 0 → Sane b → Known b env → IsUsable b index → Along b d (λ inputs v. among_cells (environment (denoted b inputs env)) first (at b inputs index) n v) whole k
+pub table-next : {b c d : Builder} {x cell k : ℕ} {whole : List Value → Value} (env : List ℕ) (index first n : ℕ)
+    → Along b c (λ inputs v. among_cells (environment (denoted b inputs env)) first (at b inputs index) (suc n) v) whole x
+    → (Sane c → IsUsable c index → IsUsable c cell → IsUsable c x
+    → Gives c d (λ inputs. chosen (op_value At (at c inputs index) (Num (pos (n * 1000000))) Undef) (at c inputs cell) (at c inputs x)) k)
+    → cell ≡ get_or env (first + n) 0 → Sane b → Known b env → IsUsable b index
+    → Along b d (λ inputs v. among_cells (environment (denoted b inputs env)) first (at b inputs index) n v) whole k
 table-next {b} {c} {d} {x} {cell} {k} {whole} env index first n a step is s kn hi =
     let l = a.grows.base in
     let known : IsUsable b (get_or env (first + n) 0) = known-get (first + n) s kn in
@@ -185,7 +199,9 @@ table-next {b} {c} {d} {x} {cell} {k} {whole} env index first n a step is s kn h
     }
 
 -- one cell
-pub cell-chosen : {b b1 b2 c : Builder} {index meant test cell other k : ℕ} {v : Value} → Pushed b b1 (Lit v) meant → Pushed b1 b2 (Do At index meant 0) test → Pushed b2 c (Do Choose test cell other) k → Sane b → IsUsable b index → IsUsable b cell → IsUsable b other → Gives b c (λ inputs. chosen (op_value At (at b inputs index) v Undef) (at b inputs cell) (at b inputs other)) k
+pub cell-chosen : {b b1 b2 c : Builder} {index meant test cell other k : ℕ} {v : Value} → Pushed b b1 (Lit v) meant → Pushed b1 b2 (Do At index meant 0) test
+    → Pushed b2 c (Do Choose test cell other) k → Sane b → IsUsable b index → IsUsable b cell → IsUsable b other
+    → Gives b c (λ inputs. chosen (op_value At (at b inputs index) v Undef) (at b inputs cell) (at b inputs other)) k
 cell-chosen {b} {b1} {b2} {c} {index} {meant} {test} {cell} {other} {k} {v} p1 p2 p3 s hi hc ho =
     let s1 = gives-lit v p1 s in
     let l1 = s1.grows.base in
@@ -197,11 +213,13 @@ cell-chosen {b} {b1} {b2} {c} {index} {meant} {test} {cell} {other} {k} {v} p1 p
       within = s3.within;
       value = λ inputs.
           s3.value inputs ∙ choose-value _ _ _
-          ∙ (λ i. chosen ((s2.value inputs ∙ (λ j. op_value At (l1.keeps inputs index hi j) (s1.value inputs j) (l1.sane.undef inputs j))) i) (l12.keeps inputs cell hc i) (l12.keeps inputs other ho i));
+          ∙ (λ i. chosen ((s2.value inputs ∙ (λ j. op_value At (l1.keeps inputs index hi j) (s1.value inputs j) (l1.sane.undef inputs j))) i)
+          (l12.keeps inputs cell hc i) (l12.keeps inputs other ho i));
     }
 
 -- no cell
-pub outside-chosen : {b b1 b2 c : Builder} {index limit below k : ℕ} → Pushed b b1 (Lit (Num (negsuc 999999))) limit → Pushed b1 b2 (Do Le index limit 0) below → Pushed b2 c (Do Choose below 1 0) k → Sane b → IsUsable b index → Gives b c (λ inputs. outside (at b inputs index)) k
+pub outside-chosen : {b b1 b2 c : Builder} {index limit below k : ℕ} → Pushed b b1 (Lit (Num (negsuc 999999))) limit → Pushed b1 b2 (Do Le index limit 0) below
+    → Pushed b2 c (Do Choose below 1 0) k → Sane b → IsUsable b index → Gives b c (λ inputs. outside (at b inputs index)) k
 outside-chosen {b} {b1} {b2} {c} {index} {limit} {below} {k} p1 p2 p3 s hi =
     let s1 = gives-lit (Num (negsuc 999999)) p1 s in
     let l1 = s1.grows.base in
@@ -213,5 +231,6 @@ outside-chosen {b} {b1} {b2} {c} {index} {limit} {below} {k} p1 p2 p3 s hi =
       within = s3.within;
       value = λ inputs.
           s3.value inputs ∙ choose-value _ _ _
-          ∙ (λ i. chosen ((s2.value inputs ∙ (λ j. op_value Le (l1.keeps inputs index hi j) (s1.value inputs j) (l1.sane.undef inputs j))) i) (l12.sane.zero inputs i) (l12.sane.undef inputs i));
+          ∙ (λ i. chosen ((s2.value inputs ∙ (λ j. op_value Le (l1.keeps inputs index hi j) (s1.value inputs j) (l1.sane.undef inputs j))) i)
+          (l12.sane.zero inputs i) (l12.sane.undef inputs i));
     }

@@ -21,7 +21,11 @@ use Rattle.mpp_inline.proofs.GrowthLemmas.{grows-none, grows-then, longer-then, 
 pub do-step : {b c : Builder} {op : Op} {i j k n : ℕ} → Pushed b c (Do op i j k) n → IsUsable b i → IsUsable b j → IsUsable b k → Sane b → Gives b c (λ inputs. op_value op (at b inputs i) (at b inputs j) (at b inputs k)) n
 do-step {b} {c} {op} {i} {j} {k} p hi hj hk s = gives-pushed (λ inputs. op_value op (at b inputs i) (at b inputs j) (at b inputs k)) p (hi, hj, hk) (λ t. t) s (λ inputs. refl)
 
-pub applied-step : {b b1 b2 b3 c : Builder} {env : List ℕ} {i j k n : ℕ} (op : Op) (values : Environment → List Value) → (Sane b → Known b env → TermStep b b1 env (λ e. get_or (values e) 0 Undef) i) → (Sane b1 → Known b1 env → TermStep b1 b2 env (λ e. get_or (values e) 1 Undef) j) → (Sane b2 → Known b2 env → TermStep b2 b3 env (λ e. get_or (values e) 2 Undef) k) → Pushed b3 c (Do op i j k) n → Sane b → Known b env → TermStep b c env (λ e. applied op (values e)) n
+pub applied-step : {b b1 b2 b3 c : Builder} {env : List ℕ} {i j k n : ℕ} (op : Op) (values : Environment → List Value)
+    → (Sane b → Known b env → TermStep b b1 env (λ e. get_or (values e) 0 Undef) i)
+    → (Sane b1 → Known b1 env → TermStep b1 b2 env (λ e. get_or (values e) 1 Undef) j)
+    → (Sane b2 → Known b2 env → TermStep b2 b3 env (λ e. get_or (values e) 2 Undef) k) → Pushed b3 c (Do op i j k) n → Sane b → Known b env
+    → TermStep b c env (λ e. applied op (values e)) n
 applied-step {b} {b1} {b2} {b3} {c} {env} {i} {j} {k} {n} op values f1 f2 f3 p s kn =
     let s1 = f1 s kn in
     let l1 = s1.grows.base in
@@ -53,7 +57,9 @@ zero-step value s e = record { grows = grows-none s; within = s.literal 1 (omega
 pub fold-first : {b : Builder} (rest : List Value → Value → Value) (k : ℕ) → Sane b → IsUsable b k → Along b b rest (λ inputs. rest inputs (at b inputs k)) k
 fold-first rest k s h = record { grows = grows-none s; within = h; value = λ inputs. refl }
 
-pub fold-next : {b c d e : Builder} {env : List ℕ} {x k n : ℕ} {op : Op} {whole : List Value → Value} (t : Environment → Value) (rest : List Value → Value → Value) → Along b c (λ inputs v. rest inputs (op_value op v (t (environment (denoted b inputs env))) Undef)) whole x → (Sane c → Known c env → TermStep c d env t k) → Pushed d e (Do op x k 0) n → Known b env → Along b e rest whole n
+pub fold-next : {b c d e : Builder} {env : List ℕ} {x k n : ℕ} {op : Op} {whole : List Value → Value} (t : Environment → Value) (rest : List Value → Value
+    → Value) → Along b c (λ inputs v. rest inputs (op_value op v (t (environment (denoted b inputs env))) Undef)) whole x
+    → (Sane c → Known c env → TermStep c d env t k) → Pushed d e (Do op x k 0) n → Known b env → Along b e rest whole n
 fold-next {b} {c} {d} {e} {env} {x} {k} {n} {op} {whole} t rest a step p kn =
     let l = a.grows.base in
     let s = step l.sane (known-on l kn) in
@@ -64,12 +70,16 @@ fold-next {b} {c} {d} {e} {env} {x} {k} {n} {op} {whole} t rest a step p kn =
       within = pushed-within p (λ t. t);
       value = λ inputs.
           ap (rest inputs) (pushed-value p inputs
-          ∙ (λ i. op_value op (ld.keeps inputs x a.within i) ((s.value inputs ∙ ap (λ y. t (environment y)) (denoted-on inputs l kn)) i) (ld.sane.undef inputs i)))
+          ∙ (λ i. op_value op (ld.keeps inputs x a.within i) ((s.value inputs ∙ ap (λ y. t (environment y)) (denoted-on inputs l kn)) i)
+          (ld.sane.undef inputs i)))
           ∙ a.value inputs;
     }
 
 -- what goes on from a term's node
-pub chain-step : {b c d : Builder} {env : List ℕ} {x k : ℕ} (t : Environment → Value) (f : Environment → Value → Value) → (Sane b → Known b env → TermStep b c env t x) → (Sane c → Known c env → IsUsable c x → Gives c d (λ inputs. f (environment (denoted c inputs env)) (at c inputs x)) k) → Sane b → Known b env → TermStep b d env (λ e. f e (t e)) k
+pub chain-step : {b c d : Builder} {env : List ℕ} {x k : ℕ} (t : Environment → Value) (f : Environment → Value → Value)
+    → (Sane b → Known b env → TermStep b c env t x)
+    → (Sane c → Known c env → IsUsable c x → Gives c d (λ inputs. f (environment (denoted c inputs env)) (at c inputs x)) k) → Sane b → Known b env
+    → TermStep b d env (λ e. f e (t e)) k
 chain-step {b} {c} {d} {env} {x} {k} t f first next s kn =
     let a = first s kn in
     let l = a.grows.base in
@@ -81,12 +91,14 @@ chain-step {b} {c} {d} {env} {x} {k} t f first next s kn =
     }
 
 -- the arguments of an operator of the driver
-pub formula_values-at : (values : Environment) (all : List Formula) (place : ℕ) (x : Formula) → place < length all → x ≡ get_or all place x → formula_value values x ≡ get_or (formula_values values (formulas_of all)) place Undef
+pub formula_values-at : (values : Environment) (all : List Formula) (place : ℕ) (x : Formula) → place < length all → x ≡ get_or all place x
+    → formula_value values x ≡ get_or (formula_values values (formulas_of all)) place Undef
 formula_values-at values [] place x h e = absurd (omega arith)
 formula_values-at values (a ∷ all) zero x h e = ap (formula_value values) e
 formula_values-at values (a ∷ all) (suc place) x h e = formula_values-at values all place x (omega arith) e
 
-pub formula_values-past : (values : Environment) (all : List Formula) (place : ℕ) → length all ≤ place → Undef ≡ get_or (formula_values values (formulas_of all)) place Undef
+pub formula_values-past : (values : Environment) (all : List Formula) (place : ℕ) → length all ≤ place
+    → Undef ≡ get_or (formula_values values (formulas_of all)) place Undef
 formula_values-past values [] place h = refl
 formula_values-past values (a ∷ all) zero h = absurd (omega arith)
 formula_values-past values (a ∷ all) (suc place) h = formula_values-past values all place (omega arith)

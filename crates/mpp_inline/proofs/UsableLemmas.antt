@@ -1,5 +1,6 @@
 -- Usable nodes, as a flat program grows.
-use Rattle.std.proofs.Common.{◌≡◌, ℕ, zero, suc, ◌+◌, ◌<◌, ◌≤◌, Bool, true, false, nat_lt, List, [], ◌∷◌, length, ◌⊎◌, inl, inr, ⊎_elim, refl, sym, ap, ◌∙◌, subst, arith}
+use Rattle.std.proofs.Common.{◌≡◌, ℕ, zero, suc, ◌+◌, ◌<◌, ◌≤◌, Bool, true, false, nat_lt, List, [], ◌∷◌, length, ◌⊎◌, inl, inr, ⊎_elim, refl, sym, ap, ◌∙◌}
+use Rattle.std.proofs.Common.{subst, arith}
 use Rattle.std.specs.List.{AllByRecursion}
 use Rattle.std.proofs.lemmas.Bool.{ltb-true, ltb-false}
 use Rattle.m_fixed.specs.declared.operator.Op.TheVariants.{And}
@@ -16,7 +17,8 @@ use Rattle.mpp_inline.specs.inner.Growth.{count, node_of, IsUsable, MayStand, Lo
 use Rattle.mpp_inline.proofs.ListLemmas.{all-more}
 
 -- a node stays usable where the older nodes stay
-pub usable-kept : {b c : Builder} {k : ℕ} → c.inputs ≡ b.inputs → count b ≤ count c → ((j : ℕ) → j < count b → node_of c j ≡ node_of b j) → IsUsable b k → IsUsable c k
+pub usable-kept : {b c : Builder} {k : ℕ} → c.inputs ≡ b.inputs → count b ≤ count c → ((j : ℕ) → j < count b → node_of c j ≡ node_of b j) → IsUsable b k
+    → IsUsable c k
 usable-kept {b} {c} {k} same more kept h = record {
   there = omega (arith, more, h.there);
   own = λ t. h.own (subst (λ ks. IsTruthInput ks (node_of b k)) same (subst (IsTruthInput c.inputs) (kept k h.there) t));
@@ -26,10 +28,13 @@ pub usable-on : {b c : Builder} {k : ℕ} → Longer b c → IsUsable b k → Is
 usable-on l h = usable-kept l.inputs l.longer l.keeps_node h
 
 -- what checks and notes read stays usable
-pub checks-kept : {b c : Builder} → ((k : ℕ) → IsUsable b k → IsUsable c k) → (cs : List Check) → AllByRecursion (λ d. IsUsable b d.guard × IsUsable b d.condition) cs → AllByRecursion (λ d. IsUsable c d.guard × IsUsable c d.condition) cs
-checks-kept {b} {c} on cs a = all-more (λ d. IsUsable b d.guard × IsUsable b d.condition) (λ d. IsUsable c d.guard × IsUsable c d.condition) (λ d h. (on d.guard h.0, on d.condition h.1)) cs a
+pub checks-kept : {b c : Builder} → ((k : ℕ) → IsUsable b k → IsUsable c k) → (cs : List Check)
+    → AllByRecursion (λ d. IsUsable b d.guard × IsUsable b d.condition) cs → AllByRecursion (λ d. IsUsable c d.guard × IsUsable c d.condition) cs
+checks-kept {b} {c} on cs a = all-more (λ d. IsUsable b d.guard × IsUsable b d.condition) (λ d. IsUsable c d.guard × IsUsable c d.condition)
+    (λ d h. (on d.guard h.0, on d.condition h.1)) cs a
 
-pub notes-fenced : {b c : Builder} → ((k : ℕ) → IsUsable b k → IsUsable c k) → (ns : List (ℕ × ℕ)) → AllByRecursion (λ d. IsUsable b d.0) ns → AllByRecursion (λ d. IsUsable c d.0) ns
+pub notes-fenced : {b c : Builder} → ((k : ℕ) → IsUsable b k → IsUsable c k) → (ns : List (ℕ × ℕ)) → AllByRecursion (λ d. IsUsable b d.0) ns
+    → AllByRecursion (λ d. IsUsable c d.0) ns
 notes-fenced {b} {c} on ns a = all-more (λ d. IsUsable b d.0) (λ d. IsUsable c d.0) (λ d h. on d.0 h) ns a
 
 -- older nodes read older nodes
@@ -65,7 +70,11 @@ may-stand {b} (Do op i j k) h = record {
 
 -- the And of a node that is there
 pub and-stands : {b : Builder} (k : ℕ) → k < count b → IsWithinCount b (Do And k k k)
-and-stands k h = record { node = (h, h, h); read = λ x r t. ap (λ y. Do And y y y) (⊎_elim (λ (e : x ≡ k). sym e) (⊎_elim (λ (e : x ≡ k). sym e) (λ (e : x ≡ k). sym e)) r) }
+and-stands k h = record {
+  node = (h, h, h);
+  read = λ x r t. ap (λ y. Do And y y y)
+      (⊎_elim (λ (e : x ≡ k). sym e) (⊎_elim (λ (e : x ≡ k). sym e) (λ (e : x ≡ k). sym e)) r);
+}
 
 -- what a node reads is before it
 pub reads-node : (inputs m : ℕ) (d : Node) (x : ℕ) → IsNode inputs m d → Reads d x → x < m
@@ -85,5 +94,6 @@ last-or m p h = by (nat_lt p m) refl
     by false e = inr (let up : m ≤ p = ltb-false p m e in omega (arith, up, h))
 
 -- a node reads as before, where what it reads was there
-pub read-as-before : (ks ks' : List InputType) (n n' m m' : Node) (x : ℕ) → ks' ≡ ks → n' ≡ n → m' ≡ m → (Reads n x → IsTruthInput ks m → n ≡ Do And x x x) → Reads n' x → IsTruthInput ks' m' → n' ≡ Do And x x x
+pub read-as-before : (ks ks' : List InputType) (n n' m m' : Node) (x : ℕ) → ks' ≡ ks → n' ≡ n → m' ≡ m → (Reads n x → IsTruthInput ks m → n ≡ Do And x x x)
+    → Reads n' x → IsTruthInput ks' m' → n' ≡ Do And x x x
 read-as-before ks ks' n n' m m' x e f g h r t = f ∙ h (subst (λ y. Reads y x) f r) (subst (λ y. IsTruthInput ks y) g (subst (λ y. IsTruthInput y m') e t))

@@ -18,20 +18,25 @@ use Rattle.mpp_inline.specs.declared.branches.Branches.{Branches}
 use Rattle.mpp_inline.specs.declared.work.Work.{Work}
 use Rattle.mpp_inline.specs.declared.work.Work.TheVariants.{Run, Under, Restore, Return}
 use Rattle.mpp_inline.specs.inner.Cells.{picked, written, received, blanked}
-use Rattle.mpp_inline.specs.inner.Growth.{IsUsable, at, so_far, denoted, outcome_of, run, entries, Sane, Known, Held, Placed, Ready, Longer, TermStep, Computed, Stage, Opened, Merged, SameBut, over_judged, calls}
-use Rattle.mpp_inline.specs.inner.Work.{under, Point, point, Whole, does, does_one, done, finish, ahead, block_ahead, IsBit, Guarding, Kept, Standing, Moves, Step}
-use Rattle.mpp_inline.proofs.ListLemmas.{all-more, all-append, all-picked, all-written, all-blanked, picked-map, written-map, blanked-map, restored, same-none, same-back, same-blanked, with-received, without-blanked}
+use Rattle.mpp_inline.specs.inner.Growth.{IsUsable, at, so_far, denoted, outcome_of, run, entries, Sane, Known, Held, Placed, Ready, Longer, TermStep, Computed}
+use Rattle.mpp_inline.specs.inner.Growth.{Stage, Opened, Merged, SameBut, over_judged, calls}
+use Rattle.mpp_inline.specs.inner.Work.{under, Point, point, Whole, does, does_one, done, finish, ahead, block_ahead, IsBit, Guarding, Kept, Standing, Moves}
+use Rattle.mpp_inline.specs.inner.Work.{Step}
+use Rattle.mpp_inline.proofs.ListLemmas.{all-more, all-append, all-picked, all-written, all-blanked, picked-map, written-map, blanked-map, restored, same-none}
+use Rattle.mpp_inline.proofs.ListLemmas.{same-back, same-blanked, with-received, without-blanked}
 use Rattle.mpp_inline.proofs.UsableLemmas.{usable-on}
 use Rattle.mpp_inline.proofs.GrowthLemmas.{longer-none, longer-then, known-on, denoted-on, faces-on}
 use Rattle.mpp_inline.proofs.OutcomeLemmas.{goes-last, then-then, set-goes, wrap}
-use Rattle.mpp_inline.proofs.StageLemmas.{set-stage, del-stage, rules-stage, truth-cases, both-zero, chosen-first, chosen-second, known-received, denoted-received}
+use Rattle.mpp_inline.proofs.StageLemmas.{set-stage, del-stage, rules-stage, truth-cases, both-zero, chosen-first, chosen-second, known-received}
+use Rattle.mpp_inline.proofs.StageLemmas.{denoted-received}
 
 -- a guard of 0 or 1
 pub under-none : (v : Value) (o : RunState) → under v o (λ e. goes [] e) ≡ o
 under-none v o = elim (is_one v) as (λ b. cond b (then_do o (λ e. goes [] e)) o ≡ o) [ true ↦ goes-last o | false ↦ refl ]
 
 pub under-under : (v : Value) (o : RunState) (f g : Env → RunState) → under v (under v o f) g ≡ under v o (λ e. then_do (f e) g)
-under-under v o f g = elim (is_one v) as (λ b. cond b (then_do (cond b (then_do o f) o) g) (cond b (then_do o f) o) ≡ cond b (then_do o (λ e. then_do (f e) g)) o) [ true ↦ then-then o f g | false ↦ refl ]
+under-under v o f g = elim (is_one v) as (λ b. cond b (then_do (cond b (then_do o f) o) g) (cond b (then_do o f) o) ≡ cond b (then_do o (λ e. then_do (f e) g))
+    o) [ true ↦ then-then o f g | false ↦ refl ]
 
 pub bit-of : {v w : Value} → v ≡ w → IsBit w → IsBit v
 bit-of e b = subst IsBit (sym e) b
@@ -43,7 +48,8 @@ bit-chosen t x y b p q = ⊎_elim
     b
 
 -- a change by writes that count where the guard is 1
-pub step-written : {b d f : Builder} {env env1 env2 : List ℕ} {g : ℕ} {next : Env → RunState} (given : List (ℕ × ℕ)) → Placed b env g → Stage b d g env env1 (λ e. goes [] e) next → env1 ≡ written given env → Merged d f g [] given env env2 → Step b f g env env2 next
+pub step-written : {b d f : Builder} {env env1 env2 : List ℕ} {g : ℕ} {next : Env → RunState} (given : List (ℕ × ℕ)) → Placed b env g
+    → Stage b d g env env1 (λ e. goes [] e) next → env1 ≡ written given env → Merged d f g [] given env env2 → Step b f g env env2 next
 step-written {b} {d} {f} {env} {env1} {env2} {g} {next} given r s is m =
     let there : (inputs : List Value) → at d inputs g ≡ at b inputs g = λ inputs. s.base.keeps inputs g r.guard in
     record {
@@ -54,7 +60,8 @@ step-written {b} {d} {f} {env} {env1} {env2} {g} {next} given r s is m =
           (λ i. outcome_of ((m.grows.reported inputs ∙ s.idle inputs h) i) ((m.second inputs (there inputs ∙ h) ∙ denoted-on inputs s.base r.known) i))
           ∙ sym (ap (λ v. under v (run b inputs env) next) h))
           (λ (h : at b inputs g ≡ Num (pos 1000000)).
-          (λ i. outcome_of (m.grows.reported inputs i) ((m.first inputs (there inputs ∙ h) ∙ sym (written-map (at d inputs) given env) ∙ ap (denoted d inputs) (sym is)) i))
+          (λ i. outcome_of (m.grows.reported inputs i) ((m.first inputs (there inputs ∙ h) ∙ sym (written-map (at d inputs) given env)
+          ∙ ap (denoted d inputs) (sym is)) i))
           ∙ sym (goes-last (run d inputs env1)) ∙ s.taken inputs h
           ∙ sym (ap (λ v. under v (run b inputs env) next) h))
           bit;
@@ -64,17 +71,22 @@ step-written {b} {d} {f} {env} {env1} {env2} {g} {next} given r s is m =
 held-picked : {b : Builder} (xs env : List ℕ) → Sane b → Known b env → Held b (picked 0 xs env)
 held-picked {b} xs env s k = record { all = all-picked (IsUsable b) 0 xs env (s.literal 0 (omega arith)) k.all }
 
-pub set-step : {b c d : Builder} {env env' : List ℕ} {g k : ℕ} (t : Environment → Value) (x : ℕ) → (Sane b → Known b env → TermStep b c env t k) → (Placed c env g → IsUsable c k → Merged c d g [] ((x, k) ∷ []) env env') → Placed b env g → Step b d g env env' (λ e. goes [] (set e x (t (environment e))))
+pub set-step : {b c d : Builder} {env env' : List ℕ} {g k : ℕ} (t : Environment → Value) (x : ℕ) → (Sane b → Known b env → TermStep b c env t k)
+    → (Placed c env g → IsUsable c k → Merged c d g [] ((x, k) ∷ []) env env') → Placed b env g
+    → Step b d g env env' (λ e. goes [] (set e x (t (environment e))))
 set-step {b} {c} {d} {env} {env'} {g} {k} t x term write r =
     let t' = term r.sane r.known in
     let l = t'.grows.base in
-    step-written ((x, k) ∷ []) r (set-stage t x term r) refl (write (record { sane = l.sane; known = known-on l r.known; guard = usable-on l r.guard }) t'.within)
+    step-written ((x, k) ∷ []) r (set-stage t x term r) refl (write (record { sane = l.sane; known = known-on l r.known; guard = usable-on l r.guard })
+    t'.within)
 
-pub del-step : {b d : Builder} {env env' : List ℕ} {g : ℕ} (x : ℕ) → (Placed b env g → IsUsable b 0 → Merged b d g [] ((x, 0) ∷ []) env env') → Placed b env g → Step b d g env env' (λ e. goes [] (set e x Undef))
+pub del-step : {b d : Builder} {env env' : List ℕ} {g : ℕ} (x : ℕ) → (Placed b env g → IsUsable b 0 → Merged b d g [] ((x, 0) ∷ []) env env') → Placed b env g
+    → Step b d g env env' (λ e. goes [] (set e x Undef))
 del-step {b} {d} {env} {env'} {g} x write r = step-written ((x, 0) ∷ []) r (del-stage x r) refl (write r (r.sane.literal 0 (omega arith)))
 
 -- each of these cells chosen, and then some cells taken from them
-merged-received : {d f : Builder} {env env1 env2 : List ℕ} {g : ℕ} (xs ds : List ℕ) → Placed d env g → SameBut ds env env1 → Merged d f g [] (picked 0 ds env1) env env2 → Merged d f g [] (picked 0 xs env1) env (received 0 xs env2 env)
+merged-received : {d f : Builder} {env env1 env2 : List ℕ} {g : ℕ} (xs ds : List ℕ) → Placed d env g → SameBut ds env env1
+    → Merged d f g [] (picked 0 ds env1) env env2 → Merged d f g [] (picked 0 xs env1) env (received 0 xs env2 env)
 merged-received {d} {f} {env} {env1} {env2} {g} xs ds r frame m =
     let l = m.grows.base in
     let last : (inputs : List Value) → denoted f inputs (received 0 xs env2 env) ≡ with_values xs (environment (denoted f inputs env2)) (denoted d inputs env) =
@@ -85,7 +97,8 @@ merged-received {d} {f} {env} {env1} {env2} {g} xs ds r frame m =
       known = known-received xs env2 env l.sane m.known (known-on l r.known);
       first = λ inputs h.
           last inputs
-          ∙ ap (λ e. with_values xs (environment e) (denoted d inputs env)) (m.first inputs h ∙ sym (written-map (at d inputs) (picked 0 ds env1) env) ∙ ap (denoted d inputs) all)
+          ∙ ap (λ e. with_values xs (environment e) (denoted d inputs env)) (m.first inputs h ∙ sym (written-map (at d inputs) (picked 0 ds env1) env)
+          ∙ ap (denoted d inputs) all)
           ∙ sym (denoted-received inputs xs env1 env r.sane)
           ∙ written-map (at d inputs) (picked 0 xs env1) env;
       second = λ inputs h.
@@ -96,7 +109,10 @@ merged-received {d} {f} {env} {env1} {env2} {g} xs ds r frame m =
     }
 
 -- the rules, where the received cells are chosen, and where all defined cells are
-pub rules-step : {labels : List Label} {b c d f : Builder} {env env1 env2 : List ℕ} {g : ℕ} {checks' : Env → RunState} {first : Env → Env} (xs : List ℕ) → (Sane b → Known b env → Computed b c env env1 (λ e. e) first) → (Ready labels c env1 g → Stage c d g env1 env1 (λ e. goes [] e) checks') → (Placed d env g → Held d (picked 0 xs env1) → Merged d f g [] (picked 0 xs env1) env env2) → Ready labels b env g → Step b f g env env2 (λ e. then_do (checks' (first e)) (λ h. goes [] (with_values xs (environment h) e)))
+pub rules-step : {labels : List Label} {b c d f : Builder} {env env1 env2 : List ℕ} {g : ℕ} {checks' : Env → RunState} {first : Env → Env} (xs : List ℕ)
+    → (Sane b → Known b env → Computed b c env env1 (λ e. e) first) → (Ready labels c env1 g → Stage c d g env1 env1 (λ e. goes [] e) checks')
+    → (Placed d env g → Held d (picked 0 xs env1) → Merged d f g [] (picked 0 xs env1) env env2) → Ready labels b env g
+    → Step b f g env env2 (λ e. then_do (checks' (first e)) (λ h. goes [] (with_values xs (environment h) e)))
 rules-step {labels} {b} {c} {d} {f} {env} {env1} {env2} {g} xs defs checks write r =
     let k = defs r.placed.sane r.placed.known in
     let l1 = k.grows.base in
@@ -105,7 +121,11 @@ rules-step {labels} {b} {c} {d} {f} {env} {env1} {env2} {g} xs defs checks write
     step-written (picked 0 xs env1) r.placed (rules-stage xs defs checks r) refl
     (write (record { sane = l.sane; known = known-on l r.placed.known; guard = usable-on l r.placed.guard }) (held-picked xs env1 l.sane s.known))
 
-pub rules-step-all : {labels : List Label} {b c d f : Builder} {env env1 env2 : List ℕ} {g : ℕ} {checks' : Env → RunState} {first : Env → Env} (xs ds : List ℕ) → SameBut ds env env1 → (Sane b → Known b env → Computed b c env env1 (λ e. e) first) → (Ready labels c env1 g → Stage c d g env1 env1 (λ e. goes [] e) checks') → (Placed d env g → Held d (picked 0 ds env1) → Merged d f g [] (picked 0 ds env1) env env2) → Ready labels b env g → Step b f g env (received 0 xs env2 env) (λ e. then_do (checks' (first e)) (λ h. goes [] (with_values xs (environment h) e)))
+pub rules-step-all : {labels : List Label} {b c d f : Builder} {env env1 env2 : List ℕ} {g : ℕ} {checks' : Env → RunState} {first : Env → Env} (xs ds : List ℕ)
+    → SameBut ds env env1 → (Sane b → Known b env → Computed b c env env1 (λ e. e) first)
+    → (Ready labels c env1 g → Stage c d g env1 env1 (λ e. goes [] e) checks')
+    → (Placed d env g → Held d (picked 0 ds env1) → Merged d f g [] (picked 0 ds env1) env env2) → Ready labels b env g
+    → Step b f g env (received 0 xs env2 env) (λ e. then_do (checks' (first e)) (λ h. goes [] (with_values xs (environment h) e)))
 rules-step-all {labels} {b} {c} {d} {f} {env} {env1} {env2} {g} xs ds frame defs checks write r =
     let k = defs r.placed.sane r.placed.known in
     let l1 = k.grows.base in
@@ -116,21 +136,28 @@ rules-step-all {labels} {b} {c} {d} {f} {env} {env1} {env2} {g} xs ds frame defs
     (merged-received xs ds p frame (write p (held-picked ds env1 l.sane s.known)))
 
 -- what is left, as the program grows
-pub entries-on : {b c : Builder} (inputs : List Value) (ps : List (ℕ × ℕ)) → Longer b c → AllByRecursion (λ p. IsUsable b p.1) ps → entries c inputs ps ≡ entries b inputs ps
+pub entries-on : {b c : Builder} (inputs : List Value) (ps : List (ℕ × ℕ)) → Longer b c → AllByRecursion (λ p. IsUsable b p.1) ps
+    → entries c inputs ps ≡ entries b inputs ps
 entries-on inputs [] l a = refl
 entries-on inputs (p ∷ ps) l a = λ i. (p.0, l.keeps inputs p.1 a.0 i) ∷ entries-on inputs ps l a.1 i
 
-pub done-on : {b c : Builder} (whole : Whole) (inputs : List Value) (w : Work) (p : Point) → Longer b c → Kept b w → done whole c inputs w p ≡ done whole b inputs w p
+pub done-on : {b c : Builder} (whole : Whole) (inputs : List Value) (w : Work) (p : Point) → Longer b c → Kept b w
+    → done whole c inputs w p ≡ done whole b inputs w p
 done-on whole inputs (Run depth block) p l k = refl
 done-on whole inputs (Under g) p l k = λ i. record { guard = l.keeps inputs g k.within i; far = p.far }
-done-on whole inputs (Restore before) p l k = λ i. record { guard = p.guard; far = then_do p.far (λ e. goes [] (written (entries-on inputs before.items l k.all i) e)) }
-done-on whole inputs (Return cells outer) p l k = λ i. record { guard = p.guard; far = then_do p.far (λ e. goes [] (with_values cells.now (environment e) (denoted-on inputs l k i))) }
+done-on whole inputs (Restore before) p l
+    k = λ i. record { guard = p.guard; far = then_do p.far (λ e. goes [] (written (entries-on inputs before.items l k.all i) e)) }
+done-on whole inputs (Return cells outer) p l
+    k = λ i. record { guard = p.guard; far = then_do p.far (λ e. goes [] (with_values cells.now (environment e) (denoted-on inputs l k i))) }
 
-pub finish-on : {b c : Builder} (whole : Whole) (inputs : List Value) (ws : List Work) (p : Point) → Longer b c → AllByRecursion (Kept b) ws → finish whole c inputs ws p ≡ finish whole b inputs ws p
+pub finish-on : {b c : Builder} (whole : Whole) (inputs : List Value) (ws : List Work) (p : Point) → Longer b c → AllByRecursion (Kept b) ws
+    → finish whole c inputs ws p ≡ finish whole b inputs ws p
 finish-on whole inputs [] p l a = refl
-finish-on {b} {c} whole inputs (w ∷ ws) p l a = done-on whole inputs w (finish whole c inputs ws p) l a.0 ∙ ap (done whole b inputs w) (finish-on whole inputs ws p l a.1)
+finish-on {b} {c} whole inputs (w ∷ ws) p l a = done-on whole inputs w (finish whole c inputs ws p) l a.0
+    ∙ ap (done whole b inputs w) (finish-on whole inputs ws p l a.1)
 
-pub finish-last : (whole : Whole) (b : Builder) (inputs : List Value) (ws : List Work) (w : Work) (p : Point) → finish whole b inputs (ws ++ w ∷ []) p ≡ finish whole b inputs ws (done whole b inputs w p)
+pub finish-last : (whole : Whole) (b : Builder) (inputs : List Value) (ws : List Work) (w : Work) (p : Point)
+    → finish whole b inputs (ws ++ w ∷ []) p ≡ finish whole b inputs ws (done whole b inputs w p)
 finish-last whole b inputs [] w p = refl
 finish-last whole b inputs (v ∷ ws) w p = ap (done whole b inputs v) (finish-last whole b inputs ws w p)
 
@@ -157,7 +184,8 @@ left-fewer b [] w a = (tt, a.0)
 left-fewer b (v ∷ ws) w a = let r = left-fewer b ws w a.1 in ((a.0, r.0), r.1)
 
 -- what stays where the program grows
-pub standing-on : {whole : Whole} {b c : Builder} {env env' : List ℕ} {g : ℕ} {ws : List Work} → Longer b c → Known c env' → Standing whole b env g ws → Standing whole c env' g ws
+pub standing-on : {whole : Whole} {b c : Builder} {env env' : List ℕ} {g : ℕ} {ws : List Work} → Longer b c → Known c env' → Standing whole b env g ws
+    → Standing whole c env' g ws
 standing-on {whole} {b} {c} {env} {env'} {g} {ws} l kn s = record {
   ready = record {
     placed = record { sane = l.sane; known = kn; guard = usable-on l s.ready.placed.guard };
@@ -167,10 +195,12 @@ standing-on {whole} {b} {c} {env} {env'} {g} {ws} l kn s = record {
   left = left-on ws l s.left;
 }
 
-pub standing-more : {whole : Whole} {b : Builder} {env : List ℕ} {g : ℕ} {ws : List Work} (w : Work) → Kept b w → Standing whole b env g ws → Standing whole b env g (ws ++ w ∷ [])
+pub standing-more : {whole : Whole} {b : Builder} {env : List ℕ} {g : ℕ} {ws : List Work} (w : Work) → Kept b w → Standing whole b env g ws
+    → Standing whole b env g (ws ++ w ∷ [])
 standing-more {whole} {b} {env} {g} {ws} w k s = record { ready = s.ready; bit = s.bit; left = left-more b ws w s.left k }
 
-pub standing-guard : {whole : Whole} {b : Builder} {env : List ℕ} {g k : ℕ} {ws : List Work} → Guarding b k → Standing whole b env g ws → Standing whole b env k ws
+pub standing-guard : {whole : Whole} {b : Builder} {env : List ℕ} {g k : ℕ} {ws : List Work} → Guarding b k → Standing whole b env g ws
+    → Standing whole b env k ws
 standing-guard h s = record {
   ready = record { placed = record { sane = s.ready.placed.sane; known = s.ready.placed.known; guard = h.within }; labelled = s.ready.labelled };
   bit = h.bit;
@@ -181,7 +211,8 @@ pub own-guard : {whole : Whole} {b : Builder} {env : List ℕ} {g : ℕ} {ws : L
 own-guard s = record { within = s.ready.placed.guard; bit = s.bit }
 
 -- a command that leaves nothing
-pub step-moves : {whole : Whole} {b c : Builder} {env env' : List ℕ} {g : ℕ} {ws : List Work} (depth : ℕ) (a : Action) → Standing whole b env g ws → Step b c g env env' (does_one whole depth a) → Moves whole b c env' g ws ws (λ inputs. ahead whole b inputs env g depth a)
+pub step-moves : {whole : Whole} {b c : Builder} {env env' : List ℕ} {g : ℕ} {ws : List Work} (depth : ℕ) (a : Action) → Standing whole b env g ws
+    → Step b c g env env' (does_one whole depth a) → Moves whole b c env' g ws ws (λ inputs. ahead whole b inputs env g depth a)
 step-moves {whole} {b} {c} {env} {env'} {g} {ws} depth a s t = record {
   base = t.base;
   standing = standing-on t.base t.known s;
@@ -191,11 +222,16 @@ step-moves {whole} {b} {c} {env} {env'} {g} {ws} depth a s t = record {
 }
 
 -- the same of a command in other words
-pub step-moves-is : {whole : Whole} {b c : Builder} {env env' : List ℕ} {g : ℕ} {ws : List Work} {a a' : Action} (depth : ℕ) → a ≡ a' → Standing whole b env g ws → Step b c g env env' (does_one whole depth a) → Moves whole b c env' g ws ws (λ inputs. ahead whole b inputs env g depth a')
-step-moves-is {whole} {b} {c} {env} {env'} {g} {ws} {a} {a'} depth is s t = subst (λ x. Moves whole b c env' g ws ws (λ inputs. ahead whole b inputs env g depth x)) is (step-moves depth a s t)
+pub step-moves-is : {whole : Whole} {b c : Builder} {env env' : List ℕ} {g : ℕ} {ws : List Work} {a a' : Action} (depth : ℕ) → a ≡ a'
+    → Standing whole b env g ws → Step b c g env env' (does_one whole depth a) → Moves whole b c env' g ws ws (λ inputs. ahead whole b inputs env g depth a')
+step-moves-is {whole} {b} {c} {env} {env'} {g} {ws} {a} {a'} depth is s t = subst
+    (λ x. Moves whole b c env' g ws ws (λ inputs. ahead whole b inputs env g depth x)) is (step-moves depth a s t)
 
 -- a choice
-pub guards-apart : {b d : Builder} {env : List ℕ} {g line : ℕ} {t : Environment → Value} {r : Branches} → Placed b env g → (inputs : List Value) (one two : Env → RunState) → IsBit (at b inputs g) → Opened b d env g line t r → under (at d inputs r.second) (under (at d inputs r.first) (run d inputs env) one) two ≡ under (at b inputs g) (run b inputs env) (λ e. chosen_block line (t (environment e)) (one e) (two e))
+pub guards-apart : {b d : Builder} {env : List ℕ} {g line : ℕ} {t : Environment → Value} {r : Branches} → Placed b env g
+    → (inputs : List Value) (one two : Env → RunState) → IsBit (at b inputs g) → Opened b d env g line t r
+    → under (at d inputs r.second) (under (at d inputs r.first) (run d inputs env) one) two ≡ under (at b inputs g) (run b inputs env)
+    (λ e. chosen_block line (t (environment e)) (one e) (two e))
 guards-apart {b} {d} {env} {g} {line} {t} {r} p inputs one two bit o =
     let e = denoted b inputs env in
     let v = t (environment e) in
@@ -208,7 +244,8 @@ guards-apart {b} {d} {env} {g} {line} {t} {r} p inputs one two bit o =
     ∙ (λ i. outcome_of (o.stage.idle inputs h i) (denoted-on inputs o.stage.base p.known i))
     ∙ sym (ap (λ x. under x (run b inputs env) all) h))
     (λ (h : at b inputs g ≡ Num (pos 1000000)).
-    let opened : run d inputs env ≡ then_do (run b inputs env) (λ x. over_judged line (t (environment x)) x) = sym (goes-last (run d inputs env)) ∙ o.stage.taken inputs h in
+    let opened : run d inputs env ≡ then_do (run b inputs env) (λ x. over_judged line (t (environment x)) x) = sym (goes-last (run d inputs env))
+    ∙ o.stage.taken inputs h in
     ⊎_elim
     (λ (f : truth_of v ≡ Num (pos 0)).
     let off : at d inputs r.first ≡ Num (pos 0) = o.first inputs ∙ ap (λ x. chosen x (at b inputs g) (Num (pos 0))) (o.truth inputs ∙ f) in
@@ -227,7 +264,10 @@ guards-apart {b} {d} {env} {g} {line} {t} {r} p inputs one two bit o =
     (truth-cases v))
     bit
 
-pub if-moves : {whole : Whole} {b d : Builder} {env : List ℕ} {g line : ℕ} {r : Branches} {ws : List Work} (t' : Formula) (depth : ℕ) (first second : Bor (List Action)) → (Placed b env g → Opened b d env g line (λ e. formula_value e t') r) → Standing whole b env g ws → Moves whole b d env r.first ws ((((ws ++ Under g ∷ []) ++ Run depth second ∷ []) ++ Under r.second ∷ []) ++ Run depth first ∷ []) (λ inputs. ahead whole b inputs env g depth (branch line t' (block_of first.now) (block_of second.now)))
+pub if-moves : {whole : Whole} {b d : Builder} {env : List ℕ} {g line : ℕ} {r : Branches} {ws : List Work} (t' : Formula) (depth : ℕ)
+    (first second : Bor (List Action)) → (Placed b env g → Opened b d env g line (λ e. formula_value e t') r) → Standing whole b env g ws
+    → Moves whole b d env r.first ws ((((ws ++ Under g ∷ []) ++ Run depth second ∷ []) ++ Under r.second ∷ []) ++ Run depth first ∷ [])
+    (λ inputs. ahead whole b inputs env g depth (branch line t' (block_of first.now) (block_of second.now)))
 if-moves {whole} {b} {d} {env} {g} {line} {r} {ws} t' depth first second opens s =
     let o = opens s.ready.placed in
     let l = o.stage.base in
@@ -237,18 +277,32 @@ if-moves {whole} {b} {d} {env} {g} {line} {r} {ws} t' depth first second opens s
     let ws2 = ws1 ++ Run depth second ∷ [] in
     let ws3 = ws2 ++ Under r.second ∷ [] in
     let moved = standing-on l o.stage.known s in
-    let truth : (inputs : List Value) → IsBit (at d inputs r.truth) = λ inputs. bit-of (o.truth inputs) (truth-cases (formula_value (environment (denoted b inputs env)) t')) in
-    let guard1 : Guarding d r.first = record { within = o.first_within; bit = λ inputs. bit-of (o.first inputs) (bit-chosen (at d inputs r.truth) (at b inputs g) (Num (pos 0)) (truth inputs) (s.bit inputs) (inl refl)) } in
-    let guard2 : Guarding d r.second = record { within = o.second_within; bit = λ inputs. bit-of (o.second inputs) (bit-chosen (at d inputs r.truth) (Num (pos 0)) (at b inputs g) (truth inputs) (inl refl) (s.bit inputs)) } in
+    let truth : (inputs : List Value) → IsBit (at d inputs r.truth) = λ inputs. bit-of (o.truth inputs)
+    (truth-cases (formula_value (environment (denoted b inputs env)) t')) in
+    let guard1 : Guarding d r.first = record {
+      within = o.first_within;
+      bit = λ inputs. bit-of (o.first inputs)
+          (bit-chosen (at d inputs r.truth) (at b inputs g) (Num (pos 0)) (truth inputs) (s.bit inputs) (inl refl));
+    } in
+    let guard2 : Guarding d r.second = record {
+      within = o.second_within;
+      bit = λ inputs. bit-of (o.second inputs)
+          (bit-chosen (at d inputs r.truth) (Num (pos 0)) (at b inputs g) (truth inputs) (inl refl) (s.bit inputs));
+    } in
     record {
       base = l;
-      standing = standing-more (Run depth first) tt (standing-more (Under r.second) guard2 (standing-more (Run depth second) tt (standing-more (Under g) (own-guard moved) (standing-guard guard1 moved))));
+      standing = standing-more (Run depth first) tt
+          (standing-more (Under r.second) guard2 (standing-more (Run depth second) tt (standing-more (Under g) (own-guard moved) (standing-guard guard1 moved))));
       same = λ inputs.
           finish-last whole d inputs ws3 (Run depth first) _
           ∙ finish-last whole d inputs ws2 (Under r.second) _
           ∙ finish-last whole d inputs ws1 (Run depth second) _
           ∙ finish-last whole d inputs ws (Under g) _
-          ∙ (λ i. finish whole d inputs ws (record { guard = l.keeps inputs g s.ready.placed.guard i; far = guards-apart s.ready.placed inputs one two (s.bit inputs) o i }))
+          ∙ (λ i. finish whole d inputs ws (record {
+            guard = l.keeps inputs g s.ready.placed.guard i;
+            far = guards-apart s.ready.placed inputs one two
+                (s.bit inputs) o i;
+          }))
           ∙ finish-on whole inputs ws _ l s.left;
     }
 
@@ -259,7 +313,9 @@ known-blanked {b} xs env s k = record { all = all-blanked (IsUsable b) 0 xs env 
 entries-picked : {b : Builder} (inputs : List Value) (xs env : List ℕ) → Sane b → entries b inputs (picked 0 xs env) ≡ picked Undef xs (denoted b inputs env)
 entries-picked {b} inputs xs env s = picked-map (at b inputs) 0 xs env ∙ ap (λ v. picked v xs (denoted b inputs env)) (s.undef inputs)
 
-around-part : (b : Builder) (env : List ℕ) (g : ℕ) (inputs : List Value) (xs : List ℕ) (next : Env → RunState) → Sane b → IsBit (at b inputs g) → then_do (under (at b inputs g) (run b inputs (blanked 0 xs env)) next) (λ e. goes [] (written (entries b inputs (picked 0 xs env)) e)) ≡ under (at b inputs g) (run b inputs env) (λ e. then_do (next (without xs e)) (λ f. goes [] (with_values xs (environment e) f)))
+around-part : (b : Builder) (env : List ℕ) (g : ℕ) (inputs : List Value) (xs : List ℕ) (next : Env → RunState) → Sane b → IsBit (at b inputs g)
+    → then_do (under (at b inputs g) (run b inputs (blanked 0 xs env)) next) (λ e. goes [] (written (entries b inputs (picked 0 xs env)) e)) ≡ under
+    (at b inputs g) (run b inputs env) (λ e. then_do (next (without xs e)) (λ f. goes [] (with_values xs (environment e) f)))
 around-part b env g inputs xs next s bit =
     let e = denoted b inputs env in
     let v = at b inputs g in
@@ -267,8 +323,10 @@ around-part b env g inputs xs next s bit =
     let before = blanked 0 xs env in
     let after : Env → RunState = λ f. goes [] (written (entries b inputs ps) f) in
     let all : Env → RunState = λ x. then_do (next (without xs x)) (λ f. goes [] (with_values xs (environment x) f)) in
-    let written-same : (f : Env) → written (entries b inputs ps) f ≡ with_values xs (environment e) f = λ f. ap (λ qs. written qs f) (entries-picked inputs xs env s) ∙ sym (with-received xs e f) in
-    let blank-same : denoted b inputs before ≡ without xs e = blanked-map (at b inputs) 0 xs env ∙ ap (λ x. blanked x xs e) (s.undef inputs) ∙ sym (without-blanked xs e) in
+    let written-same : (f : Env) → written (entries b inputs ps) f ≡ with_values xs (environment e) f = λ f. ap (λ qs. written qs f)
+    (entries-picked inputs xs env s) ∙ sym (with-received xs e f) in
+    let blank-same : denoted b inputs before ≡ without xs e = blanked-map (at b inputs) 0 xs env ∙ ap (λ x. blanked x xs e) (s.undef inputs)
+    ∙ sym (without-blanked xs e) in
     ⊎_elim
     (λ (h : v ≡ Num (pos 0)).
     ap (λ x. then_do (under x (run b inputs before) next) after) h
@@ -282,7 +340,10 @@ around-part b env g inputs xs next s bit =
     ∙ sym (ap (λ x. under x (run b inputs env) all) h))
     bit
 
-pub part-moves : {whole : Whole} {b : Builder} {env : List ℕ} {g : ℕ} {ws : List Work} (depth line : ℕ) (before : Vec (ℕ × ℕ) Global) (xs : List ℕ) (block : Bor (List Action)) → before.items ≡ picked 0 xs env → Standing whole b env g ws → Moves whole b b (blanked 0 xs env) g ws ((ws ++ Restore before ∷ []) ++ Run depth block ∷ []) (λ inputs. ahead whole b inputs env g depth (partition line xs (block_of block.now)))
+pub part-moves : {whole : Whole} {b : Builder} {env : List ℕ} {g : ℕ} {ws : List Work} (depth line : ℕ) (before : Vec (ℕ × ℕ) Global) (xs : List ℕ)
+    (block : Bor (List Action)) → before.items ≡ picked 0 xs env → Standing whole b env g ws
+    → Moves whole b b (blanked 0 xs env) g ws ((ws ++ Restore before ∷ []) ++ Run depth block ∷ [])
+    (λ inputs. ahead whole b inputs env g depth (partition line xs (block_of block.now)))
 part-moves {whole} {b} {env} {g} {ws} depth line before xs block is s =
     let sane = s.ready.placed.sane in
     let l = longer-none sane in
@@ -290,16 +351,23 @@ part-moves {whole} {b} {env} {g} {ws} depth line before xs block is s =
     let next = does whole depth block.now in
     record {
       base = l;
-      standing = standing-more (Run depth block) tt (standing-more (Restore before) (subst (Held b) (sym is) (held-picked xs env sane s.ready.placed.known)) (standing-on l (known-blanked xs env sane s.ready.placed.known) s));
+      standing = standing-more (Run depth block) tt (standing-more (Restore before) (subst (Held b) (sym is) (held-picked xs env sane s.ready.placed.known))
+          (standing-on l (known-blanked xs env sane s.ready.placed.known) s));
       same = λ inputs.
           finish-last whole b inputs ws1 (Run depth block) _
           ∙ finish-last whole b inputs ws (Restore before) _
-          ∙ (λ i. finish whole b inputs ws (record { guard = at b inputs g; far = then_do (under (at b inputs g) (run b inputs (blanked 0 xs env)) next) (λ e. goes [] (written (entries b inputs (is i)) e)) }))
+          ∙ (λ i. finish whole b inputs ws (record {
+            guard = at b inputs g;
+            far = then_do (under (at b inputs g) (run b inputs (blanked 0 xs env)) next)
+                (λ e. goes [] (written (entries b inputs (is i)) e));
+          }))
           ∙ (λ i. finish whole b inputs ws (record { guard = at b inputs g; far = around-part b env g inputs xs next sane (s.bit inputs) i }));
     }
 
 -- a call
-around-call : (b : Builder) (env : List ℕ) (g : ℕ) (inputs : List Value) (xs : List ℕ) (next : Env → RunState) → Sane b → IsBit (at b inputs g) → then_do (under (at b inputs g) (run b inputs env) next) (λ e. goes [] (with_values xs (environment e) (denoted b inputs env))) ≡ under (at b inputs g) (run b inputs env) (λ e. then_do (next e) (λ f. goes [] (with_values xs (environment f) e)))
+around-call : (b : Builder) (env : List ℕ) (g : ℕ) (inputs : List Value) (xs : List ℕ) (next : Env → RunState) → Sane b → IsBit (at b inputs g)
+    → then_do (under (at b inputs g) (run b inputs env) next) (λ e. goes [] (with_values xs (environment e) (denoted b inputs env))) ≡ under (at b inputs g)
+    (run b inputs env) (λ e. then_do (next e) (λ f. goes [] (with_values xs (environment f) e)))
 around-call b env g inputs xs next s bit =
     let e = denoted b inputs env in
     let v = at b inputs g in
@@ -317,7 +385,11 @@ around-call b env g inputs xs next s bit =
     ∙ sym (ap (λ x. under x (run b inputs env) all) h))
     bit
 
-pub call-moves : {whole : Whole} {b : Builder} {env : List ℕ} {g : ℕ} {ws : List Work} (depth line names deep f : ℕ) (cells : Bor (List ℕ)) (outer : Vec ℕ Global) (block : Bor (List Action)) → outer.items ≡ env → does whole deep block.now ≡ calls whole.core whole.ordered.base whole.ordered.sequence depth f → Standing whole b env g ws → Moves whole b b env g ws ((ws ++ Return cells outer ∷ []) ++ Run deep block ∷ []) (λ inputs. ahead whole b inputs env g depth (call line names cells.now f))
+pub call-moves : {whole : Whole} {b : Builder} {env : List ℕ} {g : ℕ} {ws : List Work} (depth line names deep f : ℕ) (cells : Bor (List ℕ))
+    (outer : Vec ℕ Global) (block : Bor (List Action)) → outer.items ≡ env
+    → does whole deep block.now ≡ calls whole.core whole.ordered.base whole.ordered.sequence depth f → Standing whole b env g ws
+    → Moves whole b b env g ws ((ws ++ Return cells outer ∷ []) ++ Run deep block ∷ [])
+    (λ inputs. ahead whole b inputs env g depth (call line names cells.now f))
 call-moves {whole} {b} {env} {g} {ws} depth line names deep f cells outer block is body s =
     let sane = s.ready.placed.sane in
     let ws1 = ws ++ Return cells outer ∷ [] in
@@ -327,12 +399,21 @@ call-moves {whole} {b} {env} {g} {ws} depth line names deep f cells outer block 
       same = λ inputs.
           finish-last whole b inputs ws1 (Run deep block) _
           ∙ finish-last whole b inputs ws (Return cells outer) _
-          ∙ (λ i. finish whole b inputs ws (record { guard = at b inputs g; far = then_do (under (at b inputs g) (run b inputs env) (body i)) (λ e. goes [] (with_values cells.now (environment e) (denoted b inputs (is i)))) }))
-          ∙ (λ i. finish whole b inputs ws (record { guard = at b inputs g; far = around-call b env g inputs cells.now (calls whole.core whole.ordered.base whole.ordered.sequence depth f) sane (s.bit inputs) i }));
+          ∙ (λ i. finish whole b inputs ws (record {
+            guard = at b inputs g;
+            far = then_do (under (at b inputs g) (run b inputs env) (body i))
+                (λ e. goes [] (with_values cells.now (environment e) (denoted b inputs (is i))));
+          }))
+          ∙ (λ i. finish whole b inputs ws (record {
+            guard = at b inputs g;
+            far = around-call b env g inputs cells.now (calls whole.core whole.ordered.base whole.ordered.sequence depth f) sane
+                (s.bit inputs) i;
+          }));
     }
 
 -- the last item
-pub none-moves : {whole : Whole} {b : Builder} {env : List ℕ} {g : ℕ} {ws : List Work} (depth : ℕ) (block : List Action) → block ≡ [] → Standing whole b env g ws → Moves whole b b env g ws ws (λ inputs. block_ahead whole b inputs env g depth block)
+pub none-moves : {whole : Whole} {b : Builder} {env : List ℕ} {g : ℕ} {ws : List Work} (depth : ℕ) (block : List Action) → block ≡ []
+    → Standing whole b env g ws → Moves whole b b env g ws ws (λ inputs. block_ahead whole b inputs env g depth block)
 none-moves {whole} {b} {env} {g} {ws} depth block is s = record {
   base = longer-none s.ready.placed.sane;
   standing = s;
@@ -341,7 +422,11 @@ none-moves {whole} {b} {env} {g} {ws} depth block is s = record {
       ∙ (λ i. finish whole b inputs ws (record { guard = at b inputs g; far = under-none (at b inputs g) (run b inputs env) i })));
 }
 
-pub first-moves : {whole : Whole} {b c : Builder} {env env' : List ℕ} {g g' : ℕ} {ws ws' : List Work} (depth : ℕ) (a : Action) (block : List Action) (rest : Bor (List Action)) → block ≡ a ∷ rest.now → Standing whole b env g ws → (Standing whole b env g (ws ++ Run depth rest ∷ []) → Moves whole b c env' g' (ws ++ Run depth rest ∷ []) ws' (λ inputs. ahead whole b inputs env g depth a)) → Moves whole b c env' g' ws ws' (λ inputs. block_ahead whole b inputs env g depth block)
+pub first-moves : {whole : Whole} {b c : Builder} {env env' : List ℕ} {g g' : ℕ} {ws ws' : List Work} (depth : ℕ) (a : Action) (block : List Action)
+    (rest : Bor (List Action)) → block ≡ a ∷ rest.now → Standing whole b env g ws
+    → (Standing whole b env g (ws ++ Run depth rest ∷ [])
+    → Moves whole b c env' g' (ws ++ Run depth rest ∷ []) ws' (λ inputs. ahead whole b inputs env g depth a))
+    → Moves whole b c env' g' ws ws' (λ inputs. block_ahead whole b inputs env g depth block)
 first-moves {whole} {b} {c} {env} {env'} {g} {g'} {ws} {ws'} depth a block rest is s step =
     let m = step (standing-more (Run depth rest) tt s) in
     record {
@@ -350,21 +435,32 @@ first-moves {whole} {b} {c} {env} {env'} {g} {g'} {ws} {ws'} depth a block rest 
       same = λ inputs.
           m.same inputs
           ∙ finish-last whole b inputs ws (Run depth rest) _
-          ∙ (λ i. finish whole b inputs ws (record { guard = at b inputs g; far = under-under (at b inputs g) (run b inputs env) (does_one whole depth a) (does whole depth rest.now) i }))
+          ∙ (λ i. finish whole b inputs ws (record {
+            guard = at b inputs g;
+            far = under-under (at b inputs g) (run b inputs env) (does_one whole depth a)
+                (does whole depth rest.now) i;
+          }))
           ∙ (λ i. finish whole b inputs ws (block_ahead whole b inputs env g depth (sym is i)));
     }
 
-pub restore-moves : {whole : Whole} {b : Builder} {env : List ℕ} {g : ℕ} {ws : List Work} (before : Vec (ℕ × ℕ) Global) → Held b before.items → Standing whole b env g ws → Moves whole b b (written before.items env) g ws ws (λ inputs. done whole b inputs (Restore before) (point b inputs env g))
+pub restore-moves : {whole : Whole} {b : Builder} {env : List ℕ} {g : ℕ} {ws : List Work} (before : Vec (ℕ × ℕ) Global) → Held b before.items
+    → Standing whole b env g ws → Moves whole b b (written before.items env) g ws ws (λ inputs. done whole b inputs (Restore before) (point b inputs env g))
 restore-moves {whole} {b} {env} {g} {ws} before h s =
     let l = longer-none s.ready.placed.sane in
     record {
       base = l;
       standing = standing-on l (record { all = all-written (IsUsable b) before.items env h.all s.ready.placed.known.all }) s;
       same = λ inputs.
-          (λ i. finish whole b inputs ws (record { guard = at b inputs g; far = (ap (outcome_of (so_far b inputs)) (written-map (at b inputs) before.items env) ∙ set-goes (so_far b inputs) (denoted b inputs env) (written (entries b inputs before.items))) i }));
+          (λ i. finish whole b inputs ws (record {
+            guard = at b inputs g;
+            far = (ap (outcome_of (so_far b inputs)) (written-map (at b inputs) before.items env)
+                ∙ set-goes (so_far b inputs) (denoted b inputs env) (written (entries b inputs before.items))) i;
+          }));
     }
 
-pub return-moves : {whole : Whole} {b : Builder} {env : List ℕ} {g : ℕ} {ws : List Work} (cells : Bor (List ℕ)) (outer : Vec ℕ Global) → Known b outer.items → Standing whole b env g ws → Moves whole b b (received 0 cells.now env outer.items) g ws ws (λ inputs. done whole b inputs (Return cells outer) (point b inputs env g))
+pub return-moves : {whole : Whole} {b : Builder} {env : List ℕ} {g : ℕ} {ws : List Work} (cells : Bor (List ℕ)) (outer : Vec ℕ Global) → Known b outer.items
+    → Standing whole b env g ws → Moves whole b b (received 0 cells.now env outer.items) g ws ws
+    (λ inputs. done whole b inputs (Return cells outer) (point b inputs env g))
 return-moves {whole} {b} {env} {g} {ws} cells outer k s =
     let sane = s.ready.placed.sane in
     let l = longer-none sane in
@@ -372,28 +468,37 @@ return-moves {whole} {b} {env} {g} {ws} cells outer k s =
       base = l;
       standing = standing-on l (known-received cells.now env outer.items sane s.ready.placed.known k) s;
       same = λ inputs.
-          (λ i. finish whole b inputs ws (record { guard = at b inputs g; far = (ap (outcome_of (so_far b inputs)) (denoted-received inputs cells.now env outer.items sane) ∙ set-goes (so_far b inputs) (denoted b inputs env) (λ e. with_values cells.now (environment e) (denoted b inputs outer.items))) i }));
+          (λ i. finish whole b inputs ws (record {
+            guard = at b inputs g;
+            far = (ap (outcome_of (so_far b inputs)) (denoted-received inputs cells.now env outer.items sane)
+                ∙ set-goes (so_far b inputs) (denoted b inputs env) (λ e. with_values cells.now (environment e) (denoted b inputs outer.items))) i;
+          }));
     }
 
 -- the loop
 abbrev pub main-point : Builder → List ℕ → (Env → RunState) → List Value → Point
 main-point b env next inputs = record { guard = at b inputs 2; far = under (at b inputs 2) (run b inputs env) next }
 
-pub main-first : {whole : Whole} {b : Builder} {env : List ℕ} (depth : ℕ) (block : Bor (List Action)) (next : Env → RunState) → does whole depth block.now ≡ next → Ready whole.ordered.base.labels b env 2 → Moves whole b b env 2 [] (Run depth block ∷ []) (main-point b env next)
+pub main-first : {whole : Whole} {b : Builder} {env : List ℕ} (depth : ℕ) (block : Bor (List Action)) (next : Env → RunState)
+    → does whole depth block.now ≡ next → Ready whole.ordered.base.labels b env 2 → Moves whole b b env 2 [] (Run depth block ∷ []) (main-point b env next)
 main-first {whole} {b} {env} depth block next is r = record {
   base = longer-none r.placed.sane;
   standing = record { ready = r; bit = λ inputs. inr (r.placed.sane.one inputs); left = (tt, tt) };
   same = λ inputs. λ i. record { guard = at b inputs 2; far = under (at b inputs 2) (run b inputs env) (is i) };
 }
 
-pub main-last : {whole : Whole} {b c : Builder} {env env' : List ℕ} {g : ℕ} {ws : List Work} {next : Env → RunState} → ws ≡ [] → Moves whole b c env' g [] ws (main-point b env next) → Step b c 2 env env' next
+pub main-last : {whole : Whole} {b c : Builder} {env env' : List ℕ} {g : ℕ} {ws : List Work} {next : Env → RunState} → ws ≡ []
+    → Moves whole b c env' g [] ws (main-point b env next) → Step b c 2 env env' next
 main-last {whole} {b} {c} {env} {env'} {g} {ws} {next} is m = record {
   base = m.base;
   known = m.standing.ready.placed.known;
   moved = λ inputs bit. ap (λ (p : Point). p.far) (sym (ap (λ l. finish whole c inputs l (point c inputs env' g)) is) ∙ m.same inputs);
 }
 
-pub moves-then : {whole : Whole} {a b c : Builder} {env env' : List ℕ} {g g' : ℕ} {ws' : List Work} {target : List Value → Point} (ws : List Work) (w : Work) → Moves whole a b env g [] (ws ++ w ∷ []) target → (Standing whole b env g ws → Kept b w → Moves whole b c env' g' ws ws' (λ inputs. done whole b inputs w (point b inputs env g))) → Moves whole a c env' g' [] ws' target
+pub moves-then : {whole : Whole} {a b c : Builder} {env env' : List ℕ} {g g' : ℕ} {ws' : List Work} {target : List Value → Point} (ws : List Work) (w : Work)
+    → Moves whole a b env g [] (ws ++ w ∷ []) target
+    → (Standing whole b env g ws → Kept b w → Moves whole b c env' g' ws ws' (λ inputs. done whole b inputs w (point b inputs env g)))
+    → Moves whole a c env' g' [] ws' target
 moves-then {whole} {a} {b} ws w m step =
     let all = left-fewer b ws w m.standing.left in
     let n = step (record { ready = m.standing.ready; bit = m.standing.bit; left = all.0 }) all.1 in

@@ -44,7 +44,8 @@ IsTruthInput kinds (Do op a b c) = ⊥
 -- An input of the type `Truth` is read by an And of it with itself alone, which is undefined, 0 or 1 whatever the input is. Neither an
 -- output nor a check reads it, and so no note does: a note's node is an output.
 pub record HasTruths (kinds : List InputType) (flat : Flat) : Type 0 where
-  pub read : (p x : ℕ) → p < length flat.nodes → Reads (node_at flat.nodes p) x → IsTruthInput kinds (node_at flat.nodes x) → node_at flat.nodes p ≡ Do And x x x
+  pub read : (p x : ℕ) → p < length flat.nodes → Reads (node_at flat.nodes p) x → IsTruthInput kinds (node_at flat.nodes x)
+      → node_at flat.nodes p ≡ Do And x x x
   pub rootless : (x : ℕ) → IsRoot flat x → IsTruthInput kinds (node_at flat.nodes x) → ⊥
 
 -- the types of inputs, in order
@@ -52,26 +53,28 @@ abbrev pub kinds_of : List Coded → List InputType
 kinds_of inputs = map (λ input. input.kind) inputs
 
 -- The flat program of a driver with what its labels tell, and the numbers of the labels of its notes.
-pub record IsInlined (core : Core) (base : Base) (declared : Declared) (requests : List ℕ) (flat : Flat) (labels : List FaceLabel) (notes : List ℕ) : Type 0 where
-  -- for every list of values that the inputs may have its answer, read through the labels and the notes, is the driver's
-  pub answer : (inputs : List Value) → AreValuesOf (inputs_declared declared) inputs → observation labels notes (flat_run flat inputs) ≡ Some (answer_of core base declared requests inputs)
-  pub flat_program : IsFlat flat
-  -- the inputs of the type `Truth` are read by their Ands alone
-  pub truths : HasTruths (kinds_of (inputs_declared declared)) flat
-  -- it has the inputs that are declared, and an output for each note and then for each request; a note is of a label of the base
-  pub inputs : flat.inputs ≡ length (inputs_from 0 declared.variables)
-  pub outputs : length flat.outputs ≡ length notes + length requests
-  pub noted : AllByRecursion (λ number. number < length base.labels) notes
-  -- the first labels are those of the base, in order, all others are lines of the driver, and each check's label is there
-  pub first_labels : take (length base.labels) labels ≡ map Verif base.labels
-  pub further_labels : AllByRecursion IsDriverLine (drop (length base.labels) labels)
-  pub labelled : All (λ check. check.label < length labels) flat.checks
-  -- how large it is, which the driver's weight bounds, and how large it may be
-  pub size : length flat.nodes + length flat.checks + length labels + length notes ≤ 3 + length base.labels + 2 * base.cells + 6 * weight_of core base
-  pub nodes_fit : length flat.nodes ≤ most_nodes
-  pub checks_fit : length flat.checks ≤ most_nodes
-  pub notes_fit : length notes ≤ most_nodes
-  pub labels_fit : length labels ≤ length base.labels + most_nodes
+pub record IsInlined (core : Core) (base : Base) (declared : Declared) (requests : List ℕ) (flat : Flat) (labels : List FaceLabel) (notes : List ℕ) : Type 0
+  where
+    -- for every list of values that the inputs may have its answer, read through the labels and the notes, is the driver's
+    pub answer : (inputs : List Value) → AreValuesOf (inputs_declared declared) inputs
+        → observation labels notes (flat_run flat inputs) ≡ Some (answer_of core base declared requests inputs)
+    pub flat_program : IsFlat flat
+    -- the inputs of the type `Truth` are read by their Ands alone
+    pub truths : HasTruths (kinds_of (inputs_declared declared)) flat
+    -- it has the inputs that are declared, and an output for each note and then for each request; a note is of a label of the base
+    pub inputs : flat.inputs ≡ length (inputs_from 0 declared.variables)
+    pub outputs : length flat.outputs ≡ length notes + length requests
+    pub noted : AllByRecursion (λ number. number < length base.labels) notes
+    -- the first labels are those of the base, in order, all others are lines of the driver, and each check's label is there
+    pub first_labels : take (length base.labels) labels ≡ map Verif base.labels
+    pub further_labels : AllByRecursion IsDriverLine (drop (length base.labels) labels)
+    pub labelled : All (λ check. check.label < length labels) flat.checks
+    -- how large it is, which the driver's weight bounds, and how large it may be
+    pub size : length flat.nodes + length flat.checks + length labels + length notes ≤ 3 + length base.labels + 2 * base.cells + 6 * weight_of core base
+    pub nodes_fit : length flat.nodes ≤ most_nodes
+    pub checks_fit : length flat.checks ≤ most_nodes
+    pub notes_fit : length notes ≤ most_nodes
+    pub labels_fit : length labels ≤ length base.labels + most_nodes
 
 -- a driver that isn't too large
 abbrev pub HasWeight : Core → Base → Type 0

@@ -8,17 +8,29 @@ use Rattle.m_text.proofs.Fronts.{all_right}
 use Rattle.m_text.proofs.Longest.{one_longest}
 use Rattle.m_text.proofs.Spelled.{word_first, number_first, point_is_none}
 use Rattle.mpp_lexer.specs.declared.piece.DriverSign.{DriverSign}
-use Rattle.mpp_lexer.specs.declared.piece.DriverSign.TheVariants.{OpenParen, CloseParen, OpenBracket, CloseBracket, Comma, Colon, Assign, Equal, NotEqual, Less, LessEqual, Greater, GreaterEqual, Plus, Minus, Star, Slash, Receive}
+use Rattle.mpp_lexer.specs.declared.piece.DriverSign.TheVariants.{OpenParen, CloseParen, OpenBracket, CloseBracket, Comma, Colon, Assign, Equal, NotEqual, Less}
+use Rattle.mpp_lexer.specs.declared.piece.DriverSign.TheVariants.{LessEqual, Greater, GreaterEqual, Plus, Minus, Star, Slash, Receive}
 use Rattle.mpp_lexer.specs.declared.piece.DriverPiece.{DriverPiece}
 use Rattle.mpp_lexer.specs.declared.piece.DriverPiece.TheVariants.{Number, Sign}
 use Rattle.mpp_lexer.specs.declared.piece.Line.{Line}
-use Rattle.mpp_lexer.specs.Tokens.{sign_spelling, IsToken, Spells, word, number, sign, IsTooGreat, TokensOf, end, comment, blank, token, HasBadToken, no_token, too_great, spaces}
+use Rattle.mpp_lexer.specs.Tokens.{sign_spelling, IsToken, Spells, word, number, sign, IsTooGreat, TokensOf, end, comment, blank, token, HasBadToken, no_token}
+use Rattle.mpp_lexer.specs.Tokens.{too_great, spaces}
 use Rattle.mpp_lexer.specs.Lines.{Lexes, end, without, with, FirstBadToken, here, later}
 use Rattle.mpp_lexer.proofs.Tokens.{IsMark, sign_first, token_first, not_empty}
 
 -- the sign of a spelling
 abbrev sign_of : List ℕ → DriverSign
-sign_of t = cond (bytes_eq t (codes "(")) OpenParen (cond (bytes_eq t (codes ")")) CloseParen (cond (bytes_eq t (codes "[")) OpenBracket (cond (bytes_eq t (codes "]")) CloseBracket (cond (bytes_eq t (codes ",")) Comma (cond (bytes_eq t (codes ":")) Colon (cond (bytes_eq t (codes "=")) Assign (cond (bytes_eq t (codes "==")) Equal (cond (bytes_eq t (codes "!=")) NotEqual (cond (bytes_eq t (codes "<")) Less (cond (bytes_eq t (codes "<=")) LessEqual (cond (bytes_eq t (codes ">")) Greater (cond (bytes_eq t (codes ">=")) GreaterEqual (cond (bytes_eq t (codes "+")) Plus (cond (bytes_eq t (codes "-")) Minus (cond (bytes_eq t (codes "*")) Star (cond (bytes_eq t (codes "/")) Slash Receive))))))))))))))))
+sign_of t = cond (bytes_eq t (codes "(")) OpenParen
+    (cond (bytes_eq t (codes ")")) CloseParen
+    (cond (bytes_eq t (codes "[")) OpenBracket
+    (cond (bytes_eq t (codes "]")) CloseBracket
+    (cond (bytes_eq t (codes ",")) Comma (cond (bytes_eq t (codes ":")) Colon
+    (cond (bytes_eq t (codes "=")) Assign (cond (bytes_eq t (codes "==")) Equal
+    (cond (bytes_eq t (codes "!=")) NotEqual
+    (cond (bytes_eq t (codes "<")) Less (cond (bytes_eq t (codes "<=")) LessEqual
+    (cond (bytes_eq t (codes ">")) Greater (cond (bytes_eq t (codes ">=")) GreaterEqual
+    (cond (bytes_eq t (codes "+")) Plus (cond (bytes_eq t (codes "-")) Minus
+    (cond (bytes_eq t (codes "*")) Star (cond (bytes_eq t (codes "/")) Slash Receive))))))))))))))))
 
 sign_of-sign_spelling : (s : DriverSign) → sign_of (sign_spelling s) ≡ s
 sign_of-sign_spelling OpenParen = refl
@@ -121,7 +133,8 @@ tokens_or_bad x ts (blank {rest = r} e d) (too_great {t = t} {rest = v} l g) = n
 tokens_or_bad x ts (blank {rest = r} e d) (blank {rest = v} f g) = let same : v ≡ r = cc in tokens_or_bad r ts d (subst HasBadToken same g)
 tokens_or_bad x ts (blank {rest = r} e d) (token {t = t} {rest = v} l s g) = none_at_space x r t v e l
 tokens_or_bad x ts (token {t = t} {rest = r} l s d) (no_token e a b n) = n t r l.parts l.piece
-tokens_or_bad x ts (token {t = t} {rest = r} {p = p} l s d) (too_great {t = u} {rest = v} m g) = great_or_token t p (subst IsTooGreat (one_longest IsToken x u v t r m l).0 g) s
+tokens_or_bad x ts (token {t = t} {rest = r} {p = p} l s d) (too_great {t = u} {rest = v} m g) = great_or_token t p
+    (subst IsTooGreat (one_longest IsToken x u v t r m l).0 g) s
 tokens_or_bad x ts (token {t = t} {rest = v} l s d) (blank {rest = r} e g) = none_at_space x r t v e l
 tokens_or_bad x ts (token {t = t} {rest = r} {tokens = ps} l s d) (token {t = u} {rest = v} m k g) =
     tokens_or_bad r ps d (subst HasBadToken (one_longest IsToken x u v t r m l).1 g)

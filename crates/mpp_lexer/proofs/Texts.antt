@@ -29,15 +29,20 @@ first_at_most [] = tt
 first_at_most (byte ∷ bytes) =
     let h = first_at_most bytes in
     either (eqb byte 10) (suc (length bytes)) ([] ∷ lines_of bytes) _ (omega arith)
-    (either (eqb byte 13 && begins_with_feed bytes) (suc (length bytes)) (lines_of bytes) _ (weaker (length bytes) (lines_of bytes) h) (onto (length bytes) byte (lines_of bytes) h))
+    (either (eqb byte 13 && begins_with_feed bytes) (suc (length bytes)) (lines_of bytes) _ (weaker (length bytes) (lines_of bytes) h)
+    (onto (length bytes) byte (lines_of bytes) h))
 
 pub first_within : (bytes line : List ℕ) (lines : List (List ℕ)) → lines_of bytes ≡ line ∷ lines → length line ≤ length bytes
 first_within bytes line lines e = subst (FirstAtMost (length bytes)) e (first_at_most bytes)
 
-pub without_line : (n : ℕ) (text : List ℕ) (texts : List (List ℕ)) (tokens : List DriverPiece) (lines : List Line) → TokensOf text tokens → length tokens ≡ 0 → Lexes (n + 1) texts lines → Lexes n (text ∷ texts) lines
+pub without_line : (n : ℕ) (text : List ℕ) (texts : List (List ℕ)) (tokens : List DriverPiece) (lines : List Line) → TokensOf text tokens → length tokens ≡ 0
+    → Lexes (n + 1) texts lines → Lexes n (text ∷ texts) lines
 without_line n text texts [] lines t e d = without t d
 without_line n text texts (p ∷ ps) lines t e d = absurd (omega arith)
 
-pub with_line : (n indent : ℕ) (text : List ℕ) (texts : List (List ℕ)) (tokens : List DriverPiece) (lines : List Line) → TokensOf text tokens → (length tokens ≡ 0 → ⊥) → indent ≡ spaces text → Lexes (n + 1) texts lines → Lexes n (text ∷ texts) (record { number = n; indent = indent; tokens = tokens } ∷ lines)
+pub with_line : (n indent : ℕ) (text : List ℕ) (texts : List (List ℕ)) (tokens : List DriverPiece) (lines : List Line) → TokensOf text tokens
+    → (length tokens ≡ 0 → ⊥) → indent ≡ spaces text → Lexes (n + 1) texts lines
+    → Lexes n (text ∷ texts) (record { number = n; indent = indent; tokens = tokens } ∷ lines)
 with_line n indent text texts [] lines t some e d = absurd (some refl)
-with_line n indent text texts (p ∷ ps) lines t some e d = subst (λ i. Lexes n (text ∷ texts) (record { number = n; indent = i; tokens = p ∷ ps } ∷ lines)) (sym e) (with t d)
+with_line n indent text texts (p ∷ ps) lines t some e d = subst (λ i. Lexes n (text ∷ texts) (record { number = n; indent = i; tokens = p ∷ ps } ∷ lines))
+    (sym e) (with t d)

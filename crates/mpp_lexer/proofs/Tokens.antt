@@ -5,7 +5,8 @@ use Rattle.m_text.specs.Words.{IsWordOrNumber, LongestOf}
 use Rattle.m_text.proofs.Spelled.{first, word_first, number_first}
 use Rattle.m_text.proofs.Longest.{longest_from, longest_among}
 use Rattle.mpp_lexer.specs.declared.piece.DriverSign.{DriverSign}
-use Rattle.mpp_lexer.specs.declared.piece.DriverSign.TheVariants.{OpenParen, CloseParen, OpenBracket, CloseBracket, Comma, Colon, Assign, Equal, NotEqual, Less, LessEqual, Greater, GreaterEqual, Plus, Minus, Star, Slash, Receive}
+use Rattle.mpp_lexer.specs.declared.piece.DriverSign.TheVariants.{OpenParen, CloseParen, OpenBracket, CloseBracket, Comma, Colon, Assign, Equal, NotEqual, Less}
+use Rattle.mpp_lexer.specs.declared.piece.DriverSign.TheVariants.{LessEqual, Greater, GreaterEqual, Plus, Minus, Star, Slash, Receive}
 use Rattle.mpp_lexer.specs.Tokens.{sign_spelling, IsToken, word, number, sign, NoToken}
 
 -- the bytes that signs begin with
@@ -71,7 +72,8 @@ word_byte_token b rest (c ∷ u) others h e (word k) = inl k
 word_byte_token b rest (c ∷ u) others h e (number k) = inr k
 word_byte_token b rest (c ∷ u) others h e (sign s k) = let same : b ≡ c = cc in let m = sign_first (c ∷ u) s k in absurd (omega arith)
 
-pub token_of_word : (bytes : List ℕ) (b : ℕ) (others t rest : List ℕ) → bytes ≡ b ∷ others → IsWordByte b → LongestOf IsWordOrNumber bytes t rest → IsToken t → LongestOf IsToken bytes t rest
+pub token_of_word : (bytes : List ℕ) (b : ℕ) (others t rest : List ℕ) → bytes ≡ b ∷ others → IsWordByte b → LongestOf IsWordOrNumber bytes t rest → IsToken t
+    → LongestOf IsToken bytes t rest
 token_of_word bytes b others t rest e h l p = longest_among IsWordOrNumber IsToken bytes t rest l p (λ u v f q. word_byte_token b others u v h (sym e ∙ f) q)
 
 -- what begins with a mark is a sign
@@ -80,7 +82,8 @@ after_mark t (word h) e = let k = word_first t h in absurd (omega arith)
 after_mark t (number h) e = let k = number_first t h in absurd (omega arith)
 after_mark t (sign s h) e = (s, h)
 
-pub longest_two : (bytes : List ℕ) (a b : ℕ) (rest : List ℕ) (s : DriverSign) → bytes ≡ a ∷ b ∷ rest → sign_spelling s ≡ a ∷ b ∷ [] → LongestOf IsToken bytes (a ∷ b ∷ []) rest
+pub longest_two : (bytes : List ℕ) (a b : ℕ) (rest : List ℕ) (s : DriverSign) → bytes ≡ a ∷ b ∷ rest → sign_spelling s ≡ a ∷ b ∷ []
+    → LongestOf IsToken bytes (a ∷ b ∷ []) rest
 longest_two bytes a b rest s e h = longest_from IsToken bytes (a ∷ b ∷ []) rest e (sign s (sym h)) none
   where
     none : (c : ℕ) (more v : List ℕ) → rest ≡ c ∷ (more ++ v) → IsToken (a ∷ b ∷ c ∷ more) → ⊥
@@ -94,7 +97,8 @@ longest_two bytes a b rest s e h = longest_from IsToken bytes (a ∷ b ∷ []) r
 abbrev pub NoTwo : ℕ → List ℕ → Type 0
 NoTwo a rest = (c : ℕ) (more : List ℕ) → rest ≡ c ∷ more → (s : DriverSign) → sign_spelling s ≡ a ∷ c ∷ [] → ⊥
 
-pub longest_one : (bytes : List ℕ) (a : ℕ) (rest : List ℕ) (s : DriverSign) → bytes ≡ a ∷ rest → sign_spelling s ≡ a ∷ [] → NoTwo a rest → LongestOf IsToken bytes (a ∷ []) rest
+pub longest_one : (bytes : List ℕ) (a : ℕ) (rest : List ℕ) (s : DriverSign) → bytes ≡ a ∷ rest → sign_spelling s ≡ a ∷ [] → NoTwo a rest
+    → LongestOf IsToken bytes (a ∷ []) rest
 longest_one bytes a rest s e h short = longest_from IsToken bytes (a ∷ []) rest e (sign s (sym h)) none
   where
     two : (c : ℕ) (more v : List ℕ) → rest ≡ c ∷ (more ++ v) → (w : DriverSign) → a ∷ c ∷ more ≡ sign_spelling w → ⊥

@@ -5,7 +5,8 @@ use Rattle.m_fixed.specs.declared.read.AmountFault.TheVariants.{TooGreat}
 use Rattle.m_text.specs.Bytes.{hash, space}
 use Rattle.m_text.specs.Words.{IsWord, IsNumber, LongestOf}
 use Rattle.mpp_lexer.specs.declared.piece.DriverSign.{DriverSign}
-use Rattle.mpp_lexer.specs.declared.piece.DriverSign.TheVariants.{OpenParen, CloseParen, OpenBracket, CloseBracket, Comma, Colon, Assign, Equal, NotEqual, Less, LessEqual, Greater, GreaterEqual, Plus, Minus, Star, Slash, Receive}
+use Rattle.mpp_lexer.specs.declared.piece.DriverSign.TheVariants.{OpenParen, CloseParen, OpenBracket, CloseBracket, Comma, Colon, Assign, Equal, NotEqual, Less}
+use Rattle.mpp_lexer.specs.declared.piece.DriverSign.TheVariants.{LessEqual, Greater, GreaterEqual, Plus, Minus, Star, Slash, Receive}
 use Rattle.mpp_lexer.specs.declared.piece.DriverPiece.{DriverPiece}
 use Rattle.mpp_lexer.specs.declared.piece.DriverPiece.TheVariants.{Word, Number, Sign}
 

@@ -1,6 +1,7 @@
 -- The law of lines: reading on as long as commands stand at the start reads the longest prefix that spells commands,
 -- and what the lines spell with that rest is one thing.
-use Rattle.std.proofs.Common.{◌≡◌, ◌⊎◌, ℕ, zero, suc, ◌<◌, ◌≤◌, List, [], ◌∷◌, ◌++◌, length, Option, Some, None, refl, sym, ap, ◌∙◌, subst, append_assoc, arith, inl, inr}
+use Rattle.std.proofs.Common.{◌≡◌, ◌⊎◌, ℕ, zero, suc, ◌<◌, ◌≤◌, List, [], ◌∷◌, ◌++◌, length, Option, Some, None, refl, sym, ap, ◌∙◌, subst, append_assoc, arith}
+use Rattle.std.proofs.Common.{inl, inr}
 use Rattle.std.proofs.lemmas.Bool.{cases_lt}
 use Rattle.std.proofs.lemmas.List.{append-nil}
 use Rattle.mpp_lexer.specs.declared.piece.Line.{Line}
@@ -90,7 +91,8 @@ module _ {A : Type 0} (R : A → List Line → List Line → Type 0) (p : List L
   many_sound zero done ls = record { others = []; all = sym (append-nil done); many = no_more }
   many_sound (suc n) done ls = step (λ x. many_sound n (done ++ x.0 ∷ []) x.1) (p ls) refl
     where
-      step : ((x : A × List Line) → ManyRead R (done ++ x.0 ∷ []) x.1 (many_at p n (done ++ x.0 ∷ []) x.1)) → (o : Option (A × List Line)) → p ls ≡ o → ManyRead R done ls (choose o (done, ls) (λ x. many_at p n (done ++ x.0 ∷ []) x.1))
+      step : ((x : A × List Line) → ManyRead R (done ++ x.0 ∷ []) x.1 (many_at p n (done ++ x.0 ∷ []) x.1)) → (o : Option (A × List Line)) → p ls ≡ o
+          → ManyRead R done ls (choose o (done, ls) (λ x. many_at p n (done ++ x.0 ∷ []) x.1))
       step again None e = record { others = []; all = sym (append-nil done); many = no_more }
       step again (Some x) e =
           let q = again x in
@@ -113,11 +115,14 @@ module _ {A : Type 0} (R : A → List Line → List Line → Type 0) (p : List L
             let less = shrinks _ _ _ (read_is e) in
             record { far = omega (arith, short, less); same = λ f. absurd (omega (arith, short, less, f)) }
 
-    stops_before : (out : List A × List Line) (done : List A) (y : A) (zs : List A) (ls mid r : List Line) (g : Reaches (p ls) y mid) → R y ls mid → length g.rest < length mid → length out.1 ≤ length g.rest → Many R zs mid r → ManyReaches out done (y ∷ zs) r
+    stops_before : (out : List A × List Line) (done : List A) (y : A) (zs : List A) (ls mid r : List Line) (g : Reaches (p ls) y mid) → R y ls mid
+        → length g.rest < length mid → length out.1 ≤ length g.rest → Many R zs mid r → ManyReaches out done (y ∷ zs) r
     stops_before out done y zs ls mid r g d less short no_more = record { far = omega (arith, short, less); same = λ f. absurd (omega (arith, short, less, f)) }
     stops_before out done y zs ls mid r g d less short (one_more c k) = absurd (apart _ _ _ ls mid g.rest _ d g.reads less c)
 
-    further_on : (n : ℕ) (done : List A) (y : A) (ys : List A) (ls mid r : List Line) (g : Reaches (p ls) y mid) → R y ls mid → Many R ys mid r → length mid ≤ n → ((m : List Line) → Many R ys m r → length m ≤ n → ManyReaches (many_at p n (done ++ g.tree ∷ []) m) (done ++ g.tree ∷ []) ys r) → ManyReaches (many_at p n (done ++ g.tree ∷ []) g.rest) done (y ∷ ys) r
+    further_on : (n : ℕ) (done : List A) (y : A) (ys : List A) (ls mid r : List Line) (g : Reaches (p ls) y mid) → R y ls mid → Many R ys mid r → length mid ≤ n
+        → ((m : List Line) → Many R ys m r → length m ≤ n → ManyReaches (many_at p n (done ++ g.tree ∷ []) m) (done ++ g.tree ∷ []) ys r)
+        → ManyReaches (many_at p n (done ++ g.tree ∷ []) g.rest) done (y ∷ ys) r
     further_on n done y ys ls mid r g d e h again = step (cases_lt (length g.rest) (length mid))
       where
         short : length (many_at p n (done ++ g.tree ∷ []) g.rest).1 ≤ length g.rest

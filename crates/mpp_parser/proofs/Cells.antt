@@ -11,8 +11,10 @@ use Rattle.mpp_parser.specs.declared.keyword.Keyword.{Keyword}
 use Rattle.mpp_parser.specs.declared.term.CellName.{CellName}
 use Rattle.mpp_parser.specs.declared.term.Kind.TheVariants.{Attribute}
 use Rattle.mpp_parser.specs.Keywords.{keyword_of, operator_keyword_of}
-use Rattle.mpp_parser.specs.Grammar.{is, key, found, tax_benefit, SpellsCell, plain, indexed, SpellsNumber, a_number, SpellsNumbers, numbers, SpellsKind, benefit, attribute}
-use Rattle.mpp_parser.specs.inner.Reading.{sign_at, key_at, number_at, index_of, free, word_of, word_at, bracket_at, cell_rest_at, cell_at, numbers_at, benefit_of, kind_at, enclosed_at}
+use Rattle.mpp_parser.specs.Grammar.{is, key, found, tax_benefit, SpellsCell, plain, indexed, SpellsNumber, a_number, SpellsNumbers, numbers, SpellsKind}
+use Rattle.mpp_parser.specs.Grammar.{benefit, attribute}
+use Rattle.mpp_parser.specs.inner.Reading.{sign_at, key_at, number_at, index_of, free, word_of, word_at, bracket_at, cell_rest_at, cell_at, numbers_at}
+use Rattle.mpp_parser.specs.inner.Reading.{benefit_of, kind_at, enclosed_at}
 use Rattle.m_lexer.specs.Chains.{First}
 use Rattle.m_lexer.proofs.ChainSound.{Each, absent, here, bind_each, choose_each, each_from, opened, open_each, Sound, chain_sound}
 use Rattle.mpp_parser.proofs.Sound.{sign_each}
@@ -68,19 +70,23 @@ pub key_given : (k : Keyword) (w : List ℕ) (ts : List DriverPiece) → keyword
 key_given k w ts e f = rw (e, f) refl
 
 -- Names of cells.
-pub cell_rest_sound : (w : List ℕ) (ts : List DriverPiece) → keyword_of w ≡ None → Each (λ (c : CellName × List DriverPiece). SpellsCell c.0 (Word w ∷ ts) c.1) (cell_rest_at w ts)
+pub cell_rest_sound : (w : List ℕ) (ts : List DriverPiece) → keyword_of w ≡ None → Each (λ (c : CellName × List DriverPiece). SpellsCell c.0 (Word w ∷ ts) c.1)
+    (cell_rest_at w ts)
 unfolding cell_rest_at bracket_at
 cell_rest_sound w ts e =
     choose_each (sign_each OpenBracket ts) (here (plain e)) (λ o g.
     bind_each (bind_each (open_each index_of o.1) (λ n h. bind_each (sign_each CloseBracket n.1) (λ r i. here (closed o g n h r i)))) (λ n h. here h))
   where
-    an_index : (t : DriverPiece) (n : ℕ) (us : List DriverPiece) → index_of t ≡ Some n → SpellsCell (record { name = w; index = Some n }) (Word w ∷ Sign OpenBracket ∷ t ∷ Sign CloseBracket ∷ us) us
+    an_index : (t : DriverPiece) (n : ℕ) (us : List DriverPiece) → index_of t ≡ Some n
+        → SpellsCell (record { name = w; index = Some n }) (Word w ∷ Sign OpenBracket ∷ t ∷ Sign CloseBracket ∷ us) us
     an_index (Number z u) n us f = indexed e f
     an_index (Word v) n us f = absurd (cc)
     an_index (Sign s) n us f = absurd (cc)
 
-    closed : (o : Unit {0} × List DriverPiece) → ts ≡ Sign OpenBracket ∷ o.1 → (n : ℕ × List DriverPiece) → First index_of n.0 o.1 n.1 → (r : Unit {0} × List DriverPiece) → n.1 ≡ Sign CloseBracket ∷ r.1 → SpellsCell (record { name = w; index = Some n.0 }) (Word w ∷ ts) r.1
-    closed o g n h r i = let f = opened h in subst (λ us. SpellsCell (record { name = w; index = Some n.0 }) (Word w ∷ us) r.1) (sym (g ∙ ap (λ us. Sign OpenBracket ∷ us) (f.2 ∙ ap (λ us. f.0 ∷ us) i))) (an_index f.0 n.0 r.1 f.1)
+    closed : (o : Unit {0} × List DriverPiece) → ts ≡ Sign OpenBracket ∷ o.1 → (n : ℕ × List DriverPiece) → First index_of n.0 o.1 n.1
+        → (r : Unit {0} × List DriverPiece) → n.1 ≡ Sign CloseBracket ∷ r.1 → SpellsCell (record { name = w; index = Some n.0 }) (Word w ∷ ts) r.1
+    closed o g n h r i = let f = opened h in subst (λ us. SpellsCell (record { name = w; index = Some n.0 }) (Word w ∷ us) r.1)
+        (sym (g ∙ ap (λ us. Sign OpenBracket ∷ us) (f.2 ∙ ap (λ us. f.0 ∷ us) i))) (an_index f.0 n.0 r.1 f.1)
 
 pub cell_sound : Sound SpellsCell cell_at
 unfolding cell_at
@@ -120,7 +126,8 @@ numbers_sound ts =
 pub numbers_complete : Complete (λ ts. sign_at Comma ts ≡ None) SpellsNumbers numbers_at
 unfolding numbers_at
 numbers_complete _ _ _ (numbers {z = z} {mid = mid} d c) h =
-    rw (number_complete _ _ _ d tt) (chain_complete (is Comma) (λ _ x. x) SpellsNumber number_shrinks number_at (λ _. Unit {0}) (λ ts. sign_at Comma ts ≡ None) number_complete (λ t b ts e. tt) (λ ts h. tt) (λ ts h. h) (length mid) (z ∷ []) c h (omega arith))
+    rw (number_complete _ _ _ d tt) (chain_complete (is Comma) (λ _ x. x) SpellsNumber number_shrinks number_at (λ _. Unit {0}) (λ ts. sign_at Comma ts ≡ None)
+    number_complete (λ t b ts e. tt) (λ ts h. tt) (λ ts h. h) (length mid) (z ∷ []) c h (omega arith))
 
 -- Kinds.
 pub benefit_each : (w : List ℕ) → Each (λ k. (w ≡ codes "taxbenefit") × (k ≡ tax_benefit)) (benefit_of w)
@@ -136,8 +143,10 @@ unfolding kind_at
 kind_sound ts =
     bind_each (word_each ts) (λ w h.
     choose_each (sign_each Assign w.1)
-    (bind_each (benefit_each w.0) (λ k b. here (subst (λ us. SpellsKind k us w.1) (sym (h.1 ∙ ap (λ v. Word v ∷ w.1) b.0)) (subst (λ j. SpellsKind j (Word (codes "taxbenefit") ∷ w.1) w.1) (sym b.1) benefit))))
-    (λ o g. bind_each (numbers_sound o.1) (λ zs d. here (subst (λ us. SpellsKind (Attribute w.0 zs.0) us zs.1) (sym (h.1 ∙ ap (λ us. Word w.0 ∷ us) g)) (attribute h.0 d)))))
+    (bind_each (benefit_each w.0) (λ k b. here (subst (λ us. SpellsKind k us w.1) (sym (h.1 ∙ ap (λ v. Word v ∷ w.1) b.0))
+    (subst (λ j. SpellsKind j (Word (codes "taxbenefit") ∷ w.1) w.1) (sym b.1) benefit))))
+    (λ o g. bind_each (numbers_sound o.1) (λ zs d. here (subst (λ us. SpellsKind (Attribute w.0 zs.0) us zs.1) (sym (h.1 ∙ ap (λ us. Word w.0 ∷ us) g))
+    (attribute h.0 d)))))
 
 pub kind_shrinks : Shrinks SpellsKind
 kind_shrinks _ _ _ benefit = omega arith
@@ -158,7 +167,8 @@ kind_complete _ _ _ (attribute e d) h = rw (e, numbers_complete _ _ _ d h.0) ref
 
 -- What stands in brackets of its own.
 module _ {A : Type 0} (R : A → List DriverPiece → List DriverPiece → Type 0) (p : List DriverPiece → Option (A × List DriverPiece)) where
-  pub enclosed_sound : Sound R p → (ts : List DriverPiece) → Each (λ (x : A × List DriverPiece). (us : List DriverPiece) × (ts ≡ Sign OpenParen ∷ us) × R x.0 us (Sign CloseParen ∷ x.1)) (enclosed_at p ts)
+  pub enclosed_sound : Sound R p → (ts : List DriverPiece)
+      → Each (λ (x : A × List DriverPiece). (us : List DriverPiece) × (ts ≡ Sign OpenParen ∷ us) × R x.0 us (Sign CloseParen ∷ x.1)) (enclosed_at p ts)
   unfolding enclosed_at
   enclosed_sound sound ts =
       bind_each (sign_each OpenParen ts) (λ o g.
@@ -166,6 +176,7 @@ module _ {A : Type 0} (R : A → List DriverPiece → List DriverPiece → Type 
       bind_each (sign_each CloseParen x.1) (λ r h.
       here (o.1, g, subst (λ us. R x.0 o.1 us) h d))))
 
-  pub enclosed_complete : (S : List DriverPiece → Type 0) → Complete S R p → {x : A} {ts rest : List DriverPiece} → R x ts (Sign CloseParen ∷ rest) → S (Sign CloseParen ∷ rest) → enclosed_at p (Sign OpenParen ∷ ts) ≡ Some (x, rest)
+  pub enclosed_complete : (S : List DriverPiece → Type 0) → Complete S R p → {x : A} {ts rest : List DriverPiece} → R x ts (Sign CloseParen ∷ rest)
+      → S (Sign CloseParen ∷ rest) → enclosed_at p (Sign OpenParen ∷ ts) ≡ Some (x, rest)
   unfolding enclosed_at
   enclosed_complete S complete d h = rw (complete _ _ _ d h) refl

@@ -1,6 +1,7 @@
 -- The law of commands, blocks, functions and drivers.
 use Rattle.std.specs.Prelude.{is_some, ◌&&◌}
-use Rattle.std.proofs.Common.{◌≡◌, ◌≢◌, ◌⊎◌, ◌==◌, ℕ, ◌<◌, ◌≤◌, Bool, true, false, cond, List, [], ◌∷◌, length, Option, Some, None, refl, sym, ap, ◌∙◌, subst, arith, inl, inr, eq-eqb}
+use Rattle.std.proofs.Common.{◌≡◌, ◌≢◌, ◌⊎◌, ◌==◌, ℕ, ◌<◌, ◌≤◌, Bool, true, false, cond, List, [], ◌∷◌, length, Option, Some, None, refl, sym, ap, ◌∙◌, subst}
+use Rattle.std.proofs.Common.{arith, inl, inr, eq-eqb}
 use Rattle.std.proofs.lemmas.Bool.{cases_lt, eqb-true}
 use denote.Enum.Bare.{sameb, same_true}
 use Rattle.mpp_lexer.specs.declared.piece.Line.{Line}
@@ -70,7 +71,9 @@ pub record Otherwise (i : ℕ) (ls rest : List Line) : Type 0 where
 else_each : (i : ℕ) (ls : List Line) → Each (λ rest. Otherwise i ls rest) (else_at i ls)
 unfolding else_at
 else_each i [] = absent
-else_each i (l ∷ ls) = tested ((l.indent == i) && is_else l.tokens) (Some ls) (λ e. let both = and_both (l.indent == i) (is_else l.tokens) e in here (record { line = l; parts = refl; says = record { at = eqb-true l.indent i both.0; says = else_sound l.tokens both.1 } }))
+else_each i (l ∷ ls) = tested ((l.indent == i) && is_else l.tokens) (Some ls)
+    (λ e. let both = and_both (l.indent == i) (is_else l.tokens) e in here
+    (record { line = l; parts = refl; says = record { at = eqb-true l.indent i both.0; says = else_sound l.tokens both.1 } }))
 
 else_given : (i : ℕ) (l : Line) (ls : List Line) → Says i sentences.Else l → else_at i (l ∷ ls) ≡ Some ls
 unfolding else_at
@@ -99,7 +102,9 @@ starts_apart {i} {ls} s b = go b.kind
     go (inl h) = let at = s.says.at in let e : s.line.indent ≡ b.line.indent = ap (λ l. l.indent) same in omega arith
     go (inr h) = s.command (one_line s.sentence sentences.Else b.line.tokens (subst (λ l. SpellsSentence s.sentence l.tokens []) same s.says.says) h.1)
 
-module _ (B : ℕ → List Act → List Line → List Line → Type 0) (b : ℕ → List Line → Option (List Act × List Line)) (sound : (i : ℕ) → Sound (B i) (b i)) (shrinks : (i : ℕ) → Shrinks (B i)) (front : (i : ℕ) (acts : List Act) (ls rest : List Line) → B i acts ls rest → Front (λ l. i < l.indent) ls rest) (greedy : (i : ℕ) → Greedy (B i) (b i)) where
+module _ (B : ℕ → List Act → List Line → List Line → Type 0) (b : ℕ → List Line → Option (List Act × List Line)) (sound : (i : ℕ) → Sound (B i) (b i))
+    (shrinks : (i : ℕ) → Shrinks (B i)) (front : (i : ℕ) (acts : List Act) (ls rest : List Line) → B i acts ls rest → Front (λ l. i < l.indent) ls rest)
+    (greedy : (i : ℕ) → Greedy (B i) (b i)) where
   pub command_starts : {i : ℕ} {c : Act} {ls rest : List Line} → SpellsCommand B i c ls rest → Starts i ls
   command_starts (sets h) = record { line = _; others = _; parts = refl; sentence = _; says = h; command = λ e. cc }
   command_starts (deletes h) = record { line = _; others = _; parts = refl; sentence = _; says = h; command = λ e. cc }
@@ -131,17 +136,20 @@ module _ (B : ℕ → List Act → List Line → List Line → Type 0) (b : ℕ 
   pub command_apart : (i : ℕ) → Sound (SpellsCommand B i) (command_at b i) → Apart (SpellsCommand B i) (command_at b i)
   command_apart i good y x z [] r m s d e less c = let st = command_starts d in let f = st.parts in cc
   command_apart i good y x z (l ∷ ls) r m s d e less c =
-      starts_apart (command_starts c) (front_begins (command_tail (read_is (SpellsCommand B i) (command_at b i) good (command_shrinks i) e)) (command_tail d) less)
+      starts_apart (command_starts c) (front_begins (command_tail (read_is (SpellsCommand B i) (command_at b i) good (command_shrinks i) e)) (command_tail d)
+      less)
 
   -- What is read is spelled so.
-  otherwise_sound : (i : ℕ) (l : Line) (t : Term) (acts : List Act) (ls ms : List Line) → Says i (sentences.If t) l → B i acts ls ms → SpellsCommand B i (when l.number t (block_of acts) (block_of (otherwise_at b i ms).0)) (l ∷ ls) (otherwise_at b i ms).1
+  otherwise_sound : (i : ℕ) (l : Line) (t : Term) (acts : List Act) (ls ms : List Line) → Says i (sentences.If t) l → B i acts ls ms
+      → SpellsCommand B i (when l.number t (block_of acts) (block_of (otherwise_at b i ms).0)) (l ∷ ls) (otherwise_at b i ms).1
   unfolding otherwise_at
   otherwise_sound i l t acts ls ms h d = step (else_at i ms) (else_each i ms)
     where
       Whole : List Act × List Line → Type 0
       Whole x = SpellsCommand B i (when l.number t (block_of acts) (block_of x.0)) (l ∷ ls) x.1
 
-      blocks : {rest : List Line} {o : Option (List Act × List Line)} → Otherwise i ms rest → Each (λ (x : List Act × List Line). B i x.0 rest x.1) o → Whole (choose o ([], ms) (λ y. y))
+      blocks : {rest : List Line} {o : Option (List Act × List Line)} → Otherwise i ms rest → Each (λ (x : List Act × List Line). B i x.0 rest x.1) o
+          → Whole (choose o ([], ms) (λ y. y))
       blocks w absent = only h d
       blocks w (here e) = either h (subst (λ m. B i acts ls m) w.parts d) w.says e
 
@@ -149,7 +157,8 @@ module _ (B : ℕ → List Act → List Line → List Line → Type 0) (b : ℕ 
       step _ absent = only h d
       step _ (here {x = rest} w) = blocks w (sound i rest)
 
-  stated_sound : (i : ℕ) (l : Line) (s : Sentence) (ls : List Line) → Says i s l → Each (λ (x : Act × List Line). SpellsCommand B i x.0 (l ∷ ls) x.1) (stated_at b i l.number s ls)
+  stated_sound : (i : ℕ) (l : Line) (s : Sentence) (ls : List Line) → Says i s l
+      → Each (λ (x : Act × List Line). SpellsCommand B i x.0 (l ∷ ls) x.1) (stated_at b i l.number s ls)
   unfolding stated_at
   stated_sound i l (sentences.Set c t) ls h = here (sets h)
   stated_sound i l (sentences.Del c) ls h = here (deletes h)
@@ -161,7 +170,8 @@ module _ (B : ℕ → List Act → List Line → List Line → Type 0) (b : ℕ 
   pub command_sound : (i : ℕ) → Sound (SpellsCommand B i) (command_at b i)
   unfolding command_at
   command_sound i [] = absent
-  command_sound i (l ∷ ls) = tested (l.indent == i) _ (λ e. bind_each (line_each l) (λ s d. stated_sound i l s ls (record { at = eqb-true l.indent i e; says = d })))
+  command_sound i (l ∷ ls) = tested (l.indent == i) _
+      (λ e. bind_each (line_each l) (λ s d. stated_sound i l s ls (record { at = eqb-true l.indent i e; says = d })))
 
   -- What is spelled is read as far.
   at_line : (i : ℕ) (l : Line) (s : Sentence) (ls : List Line) → Says i s l → command_at b i (l ∷ ls) ≡ stated_at b i l.number s ls
@@ -172,11 +182,13 @@ module _ (B : ℕ → List Act → List Line → List Line → Type 0) (b : ℕ 
   unfolding otherwise_at
   otherwise_shrinks i ms = step (else_at i ms) (else_each i ms)
     where
-      blocks : {rest : List Line} {o : Option (List Act × List Line)} → length rest ≤ length ms → Each (λ (x : List Act × List Line). B i x.0 rest x.1) o → length (choose o ([], ms) (λ y. y)).1 ≤ length ms
+      blocks : {rest : List Line} {o : Option (List Act × List Line)} → length rest ≤ length ms → Each (λ (x : List Act × List Line). B i x.0 rest x.1) o
+          → length (choose o ([], ms) (λ y. y)).1 ≤ length ms
       blocks w absent = omega arith
       blocks w (here e) = omega (arith, w, shrinks i _ _ _ e)
 
-      step : (o : Option (List Line)) → Each (λ rest. Otherwise i ms rest) o → length (choose o ([], ms) (λ rest. choose (b i rest) ([], ms) (λ y. y))).1 ≤ length ms
+      step : (o : Option (List Line)) → Each (λ rest. Otherwise i ms rest) o → length (choose o ([], ms) (λ rest. choose (b i rest) ([], ms) (λ y. y))).1
+          ≤ length ms
       step _ absent = omega arith
       step _ (here {x = rest} w) = blocks (let e = ap length w.parts in omega arith) (sound i rest)
 
@@ -184,15 +196,19 @@ module _ (B : ℕ → List Act → List Line → List Line → Type 0) (b : ℕ 
   unfolding otherwise_at
   otherwise_none i ms = step (else_at i ms) (else_each i ms)
     where
-      blocks : {rest : List Line} {o : Option (List Act × List Line)} → length rest < length ms → Each (λ (x : List Act × List Line). B i x.0 rest x.1) o → length (choose o ([], ms) (λ y. y)).1 ≡ length ms → choose o ([], ms) (λ y. y) ≡ ([], ms)
+      blocks : {rest : List Line} {o : Option (List Act × List Line)} → length rest < length ms → Each (λ (x : List Act × List Line). B i x.0 rest x.1) o
+          → length (choose o ([], ms) (λ y. y)).1 ≡ length ms → choose o ([], ms) (λ y. y) ≡ ([], ms)
       blocks w absent f = refl
       blocks w (here e) f = absurd (omega (arith, w, f, shrinks i _ _ _ e))
 
-      step : (o : Option (List Line)) → Each (λ rest. Otherwise i ms rest) o → length (choose o ([], ms) (λ rest. choose (b i rest) ([], ms) (λ y. y))).1 ≡ length ms → choose o ([], ms) (λ rest. choose (b i rest) ([], ms) (λ y. y)) ≡ ([], ms)
+      step : (o : Option (List Line)) → Each (λ rest. Otherwise i ms rest) o
+          → length (choose o ([], ms) (λ rest. choose (b i rest) ([], ms) (λ y. y))).1 ≡ length ms
+          → choose o ([], ms) (λ rest. choose (b i rest) ([], ms) (λ y. y)) ≡ ([], ms)
       step _ absent f = refl
       step _ (here {x = rest} w) f = blocks (let e = ap length w.parts in omega arith) (sound i rest) f
 
-  only_reaches : (i n : ℕ) (t : Term) (acts : List Act) (ls r : List Line) → Reaches (b i ls) acts r → Reaches (stated_at b i n (sentences.If t) ls) (when n t (block_of acts) no_acts) r
+  only_reaches : (i n : ℕ) (t : Term) (acts : List Act) (ls r : List Line) → Reaches (b i ls) acts r
+      → Reaches (stated_at b i n (sentences.If t) ls) (when n t (block_of acts) no_acts) r
   unfolding stated_at
   only_reaches i n t acts ls r g =
       let short = otherwise_shrinks i g.rest in
@@ -207,7 +223,8 @@ module _ (B : ℕ → List Act → List Line → List Line → Type 0) (b : ℕ 
             ((λ j. when n t (block_of (at.0 j)) (block_of (none j).0)), (ap (λ x. x.1) none ∙ at.1));
       }
 
-  either_reaches : (i n : ℕ) (t : Term) (acts bs : List Act) (ls : List Line) (m : Line) (ms r : List Line) → B i acts ls (m ∷ ms) → Says i sentences.Else m → B i bs ms r → Reaches (stated_at b i n (sentences.If t) ls) (when n t (block_of acts) (block_of bs)) r
+  either_reaches : (i n : ℕ) (t : Term) (acts bs : List Act) (ls : List Line) (m : Line) (ms r : List Line) → B i acts ls (m ∷ ms) → Says i sentences.Else m
+      → B i bs ms r → Reaches (stated_at b i n (sentences.If t) ls) (when n t (block_of acts) (block_of bs)) r
   unfolding stated_at otherwise_at
   either_reaches i n t acts bs ls m ms r d h e = rw (g.reads, at.1, else_given i m ms h, f.reads) (record {
     tree = when n t (block_of g.tree) (block_of f.tree);
@@ -250,5 +267,7 @@ module _ (B : ℕ → List Act → List Line → List Line → Type 0) (b : ℕ 
         far = g.far;
         same = λ e. let z = g.same e in ((λ j. partition l.number k (block_of (z.0 j))), z.1);
       }
-  command_greedy i _ _ _ (only {l = l} {t = t} {b = acts} {ls = ls} {rest = r} h d) = subst (λ o. Reaches o (when l.number t (block_of acts) no_acts) r) (sym (at_line i l _ ls h)) (only_reaches i l.number t acts ls r (greedy i acts ls r d))
-  command_greedy i _ _ _ (either {l = l} {m = m} {t = t} {a = acts} {b = bs} {ls = ls} {ms = ms} {rest = r} h d g e) = subst (λ o. Reaches o (when l.number t (block_of acts) (block_of bs)) r) (sym (at_line i l _ ls h)) (either_reaches i l.number t acts bs ls m ms r d g e)
+  command_greedy i _ _ _ (only {l = l} {t = t} {b = acts} {ls = ls} {rest = r} h d) = subst (λ o. Reaches o (when l.number t (block_of acts) no_acts) r)
+      (sym (at_line i l _ ls h)) (only_reaches i l.number t acts ls r (greedy i acts ls r d))
+  command_greedy i _ _ _ (either {l = l} {m = m} {t = t} {a = acts} {b = bs} {ls = ls} {ms = ms} {rest = r} h d g e) = subst
+      (λ o. Reaches o (when l.number t (block_of acts) (block_of bs)) r) (sym (at_line i l _ ls h)) (either_reaches i l.number t acts bs ls m ms r d g e)

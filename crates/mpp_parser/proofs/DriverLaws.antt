@@ -8,12 +8,15 @@ use Rattle.mpp_parser.specs.declared.command.Driver.{Driver}
 use Rattle.mpp_parser.specs.declared.sentence.Sentence.{Sentence}
 use Rattle.mpp_parser.specs.declared.sentence.Sentence.TheVariants as sentences
 use Rattle.mpp_parser.specs.Commands.{Act}
-use Rattle.mpp_parser.specs.Drivers.{Says, Many, no_more, one_more, SpellsCommand, SpellsBlock, block, SpellsInnerBlock, SpellsFunction, function, SpellsDriver, IsLongest}
+use Rattle.mpp_parser.specs.Drivers.{Says, Many, no_more, one_more, SpellsCommand, SpellsBlock, block, SpellsInnerBlock, SpellsFunction, function, SpellsDriver}
+use Rattle.mpp_parser.specs.Drivers.{IsLongest}
 use Rattle.mpp_parser.specs.inner.Blocks.{many_at, command_at, commands_at, some_of, block_at, headed_at, function_at, functions_at}
 use Rattle.m_lexer.proofs.ChainSound.{Each, absent, here, bind_each}
 use Rattle.mpp_parser.proofs.Sentences.{line_complete}
-use Rattle.mpp_parser.proofs.BlockLaws.{Front, stop, go_on, front_then, front_weaker, Begins, front_begins, Sound, Reaches, Greedy, Shrinks, Apart, many_sound, many_shrinks, ManyReaches, many_greedy, read_is}
-use Rattle.mpp_parser.proofs.CommandLaws.{tested, line_each, eqb_same, command_sound, command_shrinks, command_tail, command_starts, command_apart, command_greedy, Starts, Deep}
+use Rattle.mpp_parser.proofs.BlockLaws.{Front, stop, go_on, front_then, front_weaker, Begins, front_begins, Sound, Reaches, Greedy, Shrinks, Apart, many_sound}
+use Rattle.mpp_parser.proofs.BlockLaws.{many_shrinks, ManyReaches, many_greedy, read_is}
+use Rattle.mpp_parser.proofs.CommandLaws.{tested, line_each, eqb_same, command_sound, command_shrinks, command_tail, command_starts, command_apart}
+use Rattle.mpp_parser.proofs.CommandLaws.{command_greedy, Starts, Deep}
 
 -- What holds of a reader of blocks.
 pub record Blocks (B : ℕ → List Act → List Line → List Line → Type 0) (b : ℕ → List Line → Option (List Act × List Line)) : Type 0 where
@@ -32,26 +35,36 @@ module _ (B : ℕ → List Act → List Line → List Line → Type 0) (b : ℕ 
   -- all lines of commands at an indentation stand at it or deeper
   commands_front : {i j : ℕ} {acts : List Act} {ls rest : List Line} → i < j → Many (SpellsCommand B j) acts ls rest → Front (λ l. i < l.indent) ls rest
   commands_front h no_more = stop
-  commands_front {i} {j} h (one_more {x = c} {ls = ls} {mid = mid} d e) = front_then (one (command_starts B b law.sound law.shrinks law.front law.greedy d)) (commands_front h e)
+  commands_front {i} {j} h (one_more {x = c} {ls = ls} {mid = mid} d e) = front_then (one (command_starts B b law.sound law.shrinks law.front law.greedy d))
+      (commands_front h e)
     where
       within : (l : Line) → Deep j l → i < l.indent
       within l (inl k) = omega arith
       within l (inr k) = omega (arith, k.0)
 
       one : Starts j ls → Front (λ l. i < l.indent) ls mid
-      one s = subst (λ m. Front (λ l. i < l.indent) m mid) (sym s.parts) (go_on (omega (arith, s.says.at)) (front_weaker within (command_tail B b law.sound law.shrinks law.front law.greedy (subst (λ m. SpellsCommand B j c m mid) s.parts d))))
+      one s = subst (λ m. Front (λ l. i < l.indent) m mid) (sym s.parts)
+          (go_on (omega (arith, s.says.at)) (front_weaker within
+          (command_tail B b law.sound law.shrinks law.front law.greedy (subst (λ m. SpellsCommand B j c m mid) s.parts d))))
 
-  some_sound : (i : ℕ) (l : Line) (ls : List Line) (acts : List Act) (rest : List Line) → i < l.indent → Many (SpellsCommand B l.indent) acts (l ∷ ls) rest → Each (λ (x : List Act × List Line). SpellsBlock B i x.0 (l ∷ ls) x.1) (some_of acts rest)
+  some_sound : (i : ℕ) (l : Line) (ls : List Line) (acts : List Act) (rest : List Line) → i < l.indent → Many (SpellsCommand B l.indent) acts (l ∷ ls) rest
+      → Each (λ (x : List Act × List Line). SpellsBlock B i x.0 (l ∷ ls) x.1) (some_of acts rest)
   some_sound i l ls [] rest h m = absent
   some_sound i l ls (a ∷ acts) rest h m = here (block h m)
 
   block_shrinks : (i : ℕ) → Shrinks (SpellsBlock B i)
-  block_shrinks i _ _ _ (block {l = l} h (one_more d e)) = omega (arith, is_shorter l.indent _ _ _ d, many_shrinks (SpellsCommand B l.indent) (command_at b l.indent) (is_command l.indent) (is_shorter l.indent) e)
+  block_shrinks i _ _ _ (block {l = l} h (one_more d e)) = omega (
+    arith,
+    is_shorter l.indent _ _ _ d,
+    many_shrinks (SpellsCommand B l.indent)
+        (command_at b l.indent) (is_command l.indent) (is_shorter l.indent) e,
+  )
 
   block_front : (i : ℕ) (acts : List Act) (ls rest : List Line) → SpellsBlock B i acts ls rest → Front (λ l. i < l.indent) ls rest
   block_front i _ _ _ (block h m) = commands_front h m
 
-  some_given : (a : Act) (acts : List Act) (out : List Act × List Line) (ls rest : List Line) → ManyReaches out [] (a ∷ acts) rest → length rest < length ls → ((out.0 ≡ []) → out.1 ≡ ls) → Reaches (some_of out.0 out.1) (a ∷ acts) rest
+  some_given : (a : Act) (acts : List Act) (out : List Act × List Line) (ls rest : List Line) → ManyReaches out [] (a ∷ acts) rest → length rest < length ls
+      → ((out.0 ≡ []) → out.1 ≡ ls) → Reaches (some_of out.0 out.1) (a ∷ acts) rest
   some_given a acts ([], r) ls rest q h none = absurd (let e = ap length (none refl) in omega (arith, q.far, h, e))
   some_given a acts (x ∷ xs, r) ls rest q h none = record { tree = x ∷ xs; rest = r; reads = refl; far = q.far; same = q.same }
 
@@ -65,9 +78,11 @@ module _ (B : ℕ → List Act → List Line → List Line → Type 0) (d : ℕ)
   unfolding block_at
   next_sound i [] = absent
   next_sound i (l ∷ ls) = tested (nat_lt i l.indent) _ (λ e.
-      let q = many_sound (SpellsCommand B l.indent) (command_at (block_at d) l.indent) (is_command B (block_at d) law l.indent) (is_shorter B (block_at d) law l.indent) (length (l ∷ ls)) [] (l ∷ ls) in
+      let q = many_sound (SpellsCommand B l.indent) (command_at (block_at d) l.indent) (is_command B (block_at d) law l.indent)
+      (is_shorter B (block_at d) law l.indent) (length (l ∷ ls)) [] (l ∷ ls) in
       let out = commands_at (block_at d) l.indent (l ∷ ls) in
-      some_sound B (block_at d) law i l ls out.0 out.1 (ltb-true i l.indent e) (subst (λ acts. Many (SpellsCommand B l.indent) acts (l ∷ ls) out.1) (sym q.all) q.many))
+      some_sound B (block_at d) law i l ls out.0 out.1 (ltb-true i l.indent e) (subst (λ acts. Many (SpellsCommand B l.indent) acts (l ∷ ls) out.1) (sym q.all)
+      q.many))
 
   next_greedy : (i : ℕ) → Greedy (SpellsBlock B i) (block_at (suc d) i)
   unfolding block_at
@@ -76,9 +91,11 @@ module _ (B : ℕ → List Act → List Line → List Line → Type 0) (d : ℕ)
       let p = command_at (block_at d) l.indent in
       let good = is_command B (block_at d) law l.indent in
       let less = is_shorter B (block_at d) law l.indent in
-      let q = many_greedy R p good less (command_greedy B (block_at d) law.sound law.shrinks law.front law.greedy l.indent) (command_apart B (block_at d) law.sound law.shrinks law.front law.greedy l.indent good) (length (l ∷ ls)) [] m (omega arith) in
+      let q = many_greedy R p good less (command_greedy B (block_at d) law.sound law.shrinks law.front law.greedy l.indent)
+      (command_apart B (block_at d) law.sound law.shrinks law.front law.greedy l.indent good) (length (l ∷ ls)) [] m (omega arith) in
       let r = many_sound R p good less (length (l ∷ ls)) [] (l ∷ ls) in
-      rw (lt-ltb i l.indent h) (some_given B (block_at d) law a acts (commands_at (block_at d) l.indent (l ∷ ls)) (l ∷ ls) rest q (block_shrinks B (block_at d) law i _ _ _ (block h m)) (λ e. many_none B (block_at d) law r.many (sym r.all ∙ e)))
+      rw (lt-ltb i l.indent h) (some_given B (block_at d) law a acts (commands_at (block_at d) l.indent (l ∷ ls)) (l ∷ ls) rest q
+      (block_shrinks B (block_at d) law i _ _ _ (block h m)) (λ e. many_none B (block_at d) law r.many (sym r.all ∙ e)))
 
 pub blocks : (d : ℕ) → Blocks (SpellsInnerBlock d) (block_at d)
 unfolding SpellsInnerBlock block_at
@@ -91,7 +108,8 @@ blocks (suc d) = record {
 }
 
 -- Functions.
-headed_sound : (l : Line) (s : Sentence) (ls : List Line) → Says 0 s l → Each (λ (x : Function × List Line). SpellsFunction x.0 (l ∷ ls) x.1) (headed_at l.number s ls)
+headed_sound : (l : Line) (s : Sentence) (ls : List Line) → Says 0 s l
+    → Each (λ (x : Function × List Line). SpellsFunction x.0 (l ∷ ls) x.1) (headed_at l.number s ls)
 unfolding headed_at
 headed_sound l (sentences.Function name) ls h = bind_each ((blocks DRIVER_LEVEL).sound 0 ls) (λ b d. here (function h d))
 headed_sound l _ ls h = absent
@@ -144,7 +162,8 @@ driver_read ls =
 
 pub driver_longest : (ls : List Line) → IsLongest ls (functions_at ls).1
 unfolding functions_at
-driver_longest ls d r m = (many_greedy SpellsFunction function_at function_sound function_shrinks function_greedy function_apart (length ls) [] m (omega arith)).far
+driver_longest ls d r m = (many_greedy SpellsFunction function_at function_sound function_shrinks function_greedy function_apart (length ls) [] m
+    (omega arith)).far
 
 -- with one rest one driver
 pub one_driver : (ls r : List Line) (d e : Driver) → SpellsDriver d ls r → SpellsDriver e ls r → IsLongest ls r → d ≡ e

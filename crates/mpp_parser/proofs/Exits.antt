@@ -11,7 +11,8 @@ fails NotSpelled p q f h = f h
 fails Memory p q f h = tt
 
 -- where a part is missing, so that the whole is
-pub exit : {A B C : Type 0} (view : B → C) (result : Result B Unread) (e : Unread) {p : Option A} {q : Option (C × List DriverPiece)} (rest : List DriverPiece) → IsErrAnd result (λ x. x ≡ e) → (p ≡ None → q ≡ None) → Fails e p → GivesBy view result q rest
+pub exit : {A B C : Type 0} (view : B → C) (result : Result B Unread) (e : Unread) {p : Option A} {q : Option (C × List DriverPiece)} (rest : List DriverPiece)
+    → IsErrAnd result (λ x. x ≡ e) → (p ≡ None → q ≡ None) → Fails e p → GivesBy view result q rest
 exit view (Ok x) e rest h f g = absurd h
 exit view (Err x) e {p = p} {q = q} rest h f g = rw h (fails e p q f g)
 

@@ -10,14 +10,21 @@ use Rattle.mpp_parser.specs.declared.keyword.Keyword.{Keyword}
 use Rattle.mpp_parser.specs.declared.keyword.Keyword.TheVariants as keys
 use Rattle.mpp_parser.specs.Keywords.{keyword_of}
 use Rattle.mpp_parser.specs.Trees.{Term, named, exists}
-use Rattle.mpp_parser.specs.Grammar.{is, disjunction, conjunction, comparison, addition, multiplication, unary, cast_of, SpellsCell, plain, indexed, SpellsKind, SpellsPrim, number, cell, brackets, present, cast, exist, SpellsFactor, bare, minus, SpellsProduct, SpellsSum, SpellsRelation, alone, compared, SpellsNegation, affirmed, negated, SpellsConjunction, SpellsDisjunction, SpellsInner, SpellsTerm}
-use Rattle.mpp_parser.specs.inner.Reading.{sign_at, key_at, bracket_at, cell_rest_at, cell_at, kind_at, until_at, word_prim_at, prim_at, factor_at, product_at, sum_at, relation_at, negation_at, conjunction_at, disjunction_at, inner_at, term_at}
+use Rattle.mpp_parser.specs.Grammar.{is, disjunction, conjunction, comparison, addition, multiplication, unary, cast_of, SpellsCell, plain, indexed, SpellsKind}
+use Rattle.mpp_parser.specs.Grammar.{SpellsPrim, number, cell, brackets, present, cast, exist, SpellsFactor, bare, minus, SpellsProduct, SpellsSum}
+use Rattle.mpp_parser.specs.Grammar.{SpellsRelation, alone, compared, SpellsNegation, affirmed, negated, SpellsConjunction, SpellsDisjunction, SpellsInner}
+use Rattle.mpp_parser.specs.Grammar.{SpellsTerm}
+use Rattle.mpp_parser.specs.inner.Reading.{sign_at, key_at, bracket_at, cell_rest_at, cell_at, kind_at, until_at, word_prim_at, prim_at, factor_at, product_at}
+use Rattle.mpp_parser.specs.inner.Reading.{sum_at, relation_at, negation_at, conjunction_at, disjunction_at, inner_at, term_at}
 use Rattle.m_lexer.proofs.ChainSound.{Each, absent, here, bind_each, choose_each, each_from, opened, open_each, Sound}
 use Rattle.mpp_parser.proofs.Sound.{sign_each}
 use Rattle.m_lexer.proofs.ChainComplete.{Complete, Shrinks}
 use Rattle.mpp_parser.proofs.Tightness.{tightness, Below}
-use Rattle.mpp_parser.proofs.Levels.{gathered_sound, gathered_shrinks, gathered_complete, gathered_begins, multiplication_binds, multiplication_closed, addition_binds, addition_closed, comparison_binds, comparison_closed, bracket_closed, conjunction_binds, conjunction_closed, disjunction_binds, disjunction_closed}
-use Rattle.mpp_parser.proofs.Cells.{key_each, cell_rest_sound, cell_sound, cell_shrinks, cell_complete, kind_sound, kind_shrinks, EndsKind, kind_complete, enclosed_sound, enclosed_complete}
+use Rattle.mpp_parser.proofs.Levels.{gathered_sound, gathered_shrinks, gathered_complete, gathered_begins, multiplication_binds, multiplication_closed}
+use Rattle.mpp_parser.proofs.Levels.{addition_binds, addition_closed, comparison_binds, comparison_closed, bracket_closed, conjunction_binds}
+use Rattle.mpp_parser.proofs.Levels.{conjunction_closed, disjunction_binds, disjunction_closed}
+use Rattle.mpp_parser.proofs.Cells.{key_each, cell_rest_sound, cell_sound, cell_shrinks, cell_complete, kind_sound, kind_shrinks, EndsKind, kind_complete}
+use Rattle.mpp_parser.proofs.Cells.{enclosed_sound, enclosed_complete}
 
 -- Terms.
 module _ (E : Term → List DriverPiece → List DriverPiece → Type 0) (e : List DriverPiece → Option (Term × List DriverPiece)) (sound : Sound E e) where
@@ -28,12 +35,16 @@ module _ (E : Term → List DriverPiece → List DriverPiece → Type 0) (e : Li
       bind_each (sign_each s t.1) (λ r g.
       here (subst (λ m. E t.0 ts m) g d)))
 
-  word_prim_sound : (w : List ℕ) (k : Option Keyword) (ts : List DriverPiece) → keyword_of w ≡ k → Each (λ (t : Term × List DriverPiece). SpellsPrim E t.0 (Word w ∷ ts) t.1) (word_prim_at w k ts)
+  word_prim_sound : (w : List ℕ) (k : Option Keyword) (ts : List DriverPiece) → keyword_of w ≡ k
+      → Each (λ (t : Term × List DriverPiece). SpellsPrim E t.0 (Word w ∷ ts) t.1) (word_prim_at w k ts)
   unfolding word_prim_at
   word_prim_sound w None ts g = bind_each (cell_rest_sound w ts g) (λ c d. here (cell d))
-  word_prim_sound w (Some keys.Present) ts g = bind_each (enclosed_sound SpellsCell cell_at cell_sound ts) (λ c h. here (subst (λ us. SpellsPrim E (unary ops.Present (named c.0)) (Word w ∷ us) c.1) (sym h.1) (present g h.2)))
-  word_prim_sound w (Some keys.Cast) ts g = bind_each (enclosed_sound SpellsCell cell_at cell_sound ts) (λ c h. here (subst (λ us. SpellsPrim E (cast_of c.0) (Word w ∷ us) c.1) (sym h.1) (cast g h.2)))
-  word_prim_sound w (Some keys.Exists) ts g = bind_each (enclosed_sound SpellsKind kind_at kind_sound ts) (λ k h. here (subst (λ us. SpellsPrim E (exists k.0) (Word w ∷ us) k.1) (sym h.1) (exist g h.2)))
+  word_prim_sound w (Some keys.Present) ts g = bind_each (enclosed_sound SpellsCell cell_at cell_sound ts)
+      (λ c h. here (subst (λ us. SpellsPrim E (unary ops.Present (named c.0)) (Word w ∷ us) c.1) (sym h.1) (present g h.2)))
+  word_prim_sound w (Some keys.Cast) ts g = bind_each (enclosed_sound SpellsCell cell_at cell_sound ts)
+      (λ c h. here (subst (λ us. SpellsPrim E (cast_of c.0) (Word w ∷ us) c.1) (sym h.1) (cast g h.2)))
+  word_prim_sound w (Some keys.Exists) ts g = bind_each (enclosed_sound SpellsKind kind_at kind_sound ts)
+      (λ k h. here (subst (λ us. SpellsPrim E (exists k.0) (Word w ∷ us) k.1) (sym h.1) (exist g h.2)))
   word_prim_sound w (Some _) ts g = absent
 
   prim_sound : Sound (SpellsPrim E) (prim_at e)
@@ -69,7 +80,8 @@ module _ (E : Term → List DriverPiece → List DriverPiece → Type 0) (e : Li
       here (subst (λ m. SpellsNegation E (unary ops.Not t.0) m t.1) (sym g.2) (negated g.1 d))))
 
   pub disjunction_sound : Sound (SpellsDisjunction E) (disjunction_at e)
-  disjunction_sound = gathered_sound disjunction (SpellsConjunction E) (conjunction_at e) (gathered_sound conjunction (SpellsNegation E) (negation_at e) negation_sound)
+  disjunction_sound = gathered_sound disjunction (SpellsConjunction E) (conjunction_at e)
+      (gathered_sound conjunction (SpellsNegation E) (negation_at e) negation_sound)
 
 module _ (E : Term → List DriverPiece → List DriverPiece → Type 0) (shrinks : Shrinks E) where
   prim_shrinks : Shrinks (SpellsPrim E)
@@ -119,14 +131,16 @@ module _ (E : Term → List DriverPiece → List DriverPiece → Type 0) (shrink
   factor_no_not (minus d) = refl
 
   sum_no_not : {t : Term} {ts rest : List DriverPiece} → SpellsSum E t ts rest → key_at keys.Not ts ≡ None
-  sum_no_not d = gathered_begins addition (SpellsProduct E) (λ ts. key_at keys.Not ts ≡ None) (λ t ts rest d. gathered_begins multiplication (SpellsFactor E) (λ ts. key_at keys.Not ts ≡ None) (λ t ts rest d. factor_no_not d) d) d
+  sum_no_not d = gathered_begins addition (SpellsProduct E) (λ ts. key_at keys.Not ts ≡ None)
+      (λ t ts rest d. gathered_begins multiplication (SpellsFactor E) (λ ts. key_at keys.Not ts ≡ None) (λ t ts rest d. factor_no_not d) d) d
 
   relation_no_not : {t : Term} {ts rest : List DriverPiece} → SpellsRelation E t ts rest → key_at keys.Not ts ≡ None
   relation_no_not (alone d) = sum_no_not d
   relation_no_not (compared d g f) = sum_no_not d
 
   module _ (e : List DriverPiece → Option (Term × List DriverPiece)) (complete : Complete (Below 1) E e) where
-    pub until_complete : (s : DriverSign) {t : Term} {ts rest : List DriverPiece} → E t ts (Sign s ∷ rest) → tightness (Sign s) < 1 → is s (Sign s) ≡ Some tt → until_at e s ts ≡ Some (t, rest)
+    pub until_complete : (s : DriverSign) {t : Term} {ts rest : List DriverPiece} → E t ts (Sign s ∷ rest) → tightness (Sign s) < 1 → is s (Sign s) ≡ Some tt
+        → until_at e s ts ≡ Some (t, rest)
     unfolding until_at
     until_complete s d h i = rw (complete _ _ _ d h, i) refl
 
@@ -155,7 +169,8 @@ module _ (E : Term → List DriverPiece → List DriverPiece → Type 0) (shrink
     factor_complete _ _ _ (minus d) h = rw (prim_complete _ _ _ d h) refl
 
     product_complete : Complete (Below 5) (SpellsProduct E) (product_at e)
-    product_complete = gathered_complete multiplication (SpellsFactor E) (factor_at e) 5 factor_shrinks factor_complete multiplication_binds multiplication_closed
+    product_complete = gathered_complete multiplication (SpellsFactor E) (factor_at e) 5 factor_shrinks factor_complete multiplication_binds
+        multiplication_closed
 
     sum_complete : Complete (Below 4) (SpellsSum E) (sum_at e)
     sum_complete = gathered_complete addition (SpellsProduct E) (product_at e) 4 product_shrinks product_complete addition_binds addition_closed
@@ -163,7 +178,12 @@ module _ (E : Term → List DriverPiece → List DriverPiece → Type 0) (shrink
     relation_complete : Complete (Below 3) (SpellsRelation E) (relation_at e)
     unfolding relation_at
     relation_complete _ _ _ (alone d) h = rw (sum_complete _ _ _ d (omega arith), comparison_closed _ h) refl
-    relation_complete _ _ _ (compared {o = o} {t = t} {us = us} d g f) h = rw (sum_complete _ _ _ d (comparison_binds t o us g), g, sum_complete _ _ _ f (omega arith)) refl
+    relation_complete _ _ _ (compared {o = o} {t = t} {us = us} d g f) h = rw (
+      sum_complete _ _ _ d (comparison_binds t o us g),
+      g,
+      sum_complete _ _ _ f
+          (omega arith),
+    ) refl
 
     negation_complete : Complete (Below 3) (SpellsNegation E) (negation_at e)
     unfolding negation_at
@@ -171,10 +191,12 @@ module _ (E : Term → List DriverPiece → List DriverPiece → Type 0) (shrink
     negation_complete _ _ _ (negated g d) h = rw (g, relation_complete _ _ _ d h) refl
 
     conjunction_complete : Complete (Below 2) (SpellsConjunction E) (conjunction_at e)
-    conjunction_complete = gathered_complete conjunction (SpellsNegation E) (negation_at e) 2 negation_shrinks negation_complete conjunction_binds conjunction_closed
+    conjunction_complete = gathered_complete conjunction (SpellsNegation E) (negation_at e) 2 negation_shrinks negation_complete conjunction_binds
+        conjunction_closed
 
     pub disjunction_complete : Complete (Below 1) (SpellsDisjunction E) (disjunction_at e)
-    disjunction_complete = gathered_complete disjunction (SpellsConjunction E) (conjunction_at e) 1 conjunction_shrinks conjunction_complete disjunction_binds disjunction_closed
+    disjunction_complete = gathered_complete disjunction (SpellsConjunction E) (conjunction_at e) 1 conjunction_shrinks conjunction_complete disjunction_binds
+        disjunction_closed
 
 -- The knot, by how many brackets may be opened.
 pub inner_sound : (d : ℕ) → Sound (SpellsInner d) (inner_at d)

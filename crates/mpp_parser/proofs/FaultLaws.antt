@@ -15,15 +15,19 @@ use Rattle.mpp_parser.specs.inner.Blocks.{functions_at}
 use Rattle.mpp_parser.proofs.DriverLaws.{one_driver, driver_read, driver_longest, one_rest}
 
 -- what the reading of lines is
-pub read_all : (ls : List Line) (fs : List Function) (rest : List Line) → functions_at ls ≡ (fs, rest) → rest ≡ [] → SpellsDriver (record { functions = fs }) ls []
-read_all ls fs rest e f = subst (λ r. SpellsDriver (record { functions = fs }) ls r) f (subst (λ (x : List Function × List Line). SpellsDriver (record { functions = x.0 }) ls x.1) e (driver_read ls))
+pub read_all : (ls : List Line) (fs : List Function) (rest : List Line) → functions_at ls ≡ (fs, rest) → rest ≡ []
+    → SpellsDriver (record { functions = fs }) ls []
+read_all ls fs rest e f = subst (λ r. SpellsDriver (record { functions = fs }) ls r) f
+    (subst (λ (x : List Function × List Line). SpellsDriver (record { functions = x.0 }) ls x.1) e (driver_read ls))
 
-pub read_stops : (ls : List Line) (fs : List Function) (rest : List Line) (l : Line) (others : List Line) → functions_at ls ≡ (fs, rest) → rest ≡ l ∷ others → StopsAt ls l.number
+pub read_stops : (ls : List Line) (fs : List Function) (rest : List Line) (l : Line) (others : List Line) → functions_at ls ≡ (fs, rest) → rest ≡ l ∷ others
+    → StopsAt ls l.number
 read_stops ls fs rest l others e f = record {
   driver = record { functions = fs };
   line = l;
   others = others;
-  spelled = subst (λ r. SpellsDriver (record { functions = fs }) ls r) f (subst (λ (x : List Function × List Line). SpellsDriver (record { functions = x.0 }) ls x.1) e (driver_read ls));
+  spelled = subst (λ r. SpellsDriver (record { functions = fs }) ls r) f
+      (subst (λ (x : List Function × List Line). SpellsDriver (record { functions = x.0 }) ls x.1) e (driver_read ls));
   longest = subst (λ r. IsLongest ls r) f (subst (λ (x : List Function × List Line). IsLongest ls x.1) e (driver_longest ls));
   numbered = refl;
 }
@@ -59,7 +63,8 @@ one_deep (later e d) (later f c) = one_deep d c
 
 one_stop : (ls : List Line) (m n : ℕ) → StopsAt ls m → StopsAt ls n → m ≡ n
 one_stop ls m n a b =
-    let e : (a.line ∷ a.others) ≡ (b.line ∷ b.others) = sym (one_rest ls (a.line ∷ a.others) a.driver a.spelled a.longest) ∙ one_rest ls (b.line ∷ b.others) b.driver b.spelled b.longest in
+    let e : (a.line ∷ a.others) ≡ (b.line ∷ b.others) = sym (one_rest ls (a.line ∷ a.others) a.driver a.spelled a.longest)
+    ∙ one_rest ls (b.line ∷ b.others) b.driver b.spelled b.longest in
     let f : a.line ≡ b.line = cc in
     a.numbered ∙ (ap (λ (l : Line). l.number) f ∙ sym b.numbered)
 
@@ -85,7 +90,8 @@ one_fault bytes Memory other a b = absurd a
 one_fault bytes fault Memory a b = absurd b
 
 -- what holds of the lines of bytes holds of the bytes
-pub of_bytes : (bytes : List ℕ) (ls : List Line) (result : Result Driver DriverFault) → HasLines bytes ls → Outcome Memory result (λ driver. Shallow [] ls × SpellsDriver driver ls []) (IsLineFault ls) → Outcome Memory result (IsDriver bytes) (IsFault bytes)
+pub of_bytes : (bytes : List ℕ) (ls : List Line) (result : Result Driver DriverFault) → HasLines bytes ls
+    → Outcome Memory result (λ driver. Shallow [] ls × SpellsDriver driver ls []) (IsLineFault ls) → Outcome Memory result (IsDriver bytes) (IsFault bytes)
 of_bytes bytes ls (Ok d) h o = record { lines = ls; lexed = h; shallow = o.0; spelled = o.1 }
 of_bytes bytes ls (Err (DriverToken n)) h o = λ ne. absurd (o ne)
 of_bytes bytes ls (Err (DriverTooDeep n)) h o = λ ne. (ls, h, o ne)

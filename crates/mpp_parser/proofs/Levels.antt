@@ -4,7 +4,8 @@ use Rattle.m_fixed.specs.declared.operator.Op.{Op}
 use Rattle.m_fixed.specs.declared.operator.Op.TheVariants as ops
 use Rattle.mpp_lexer.specs.declared.piece.DriverPiece.{DriverPiece}
 use Rattle.mpp_lexer.specs.declared.piece.DriverPiece.TheVariants.{Word, Sign}
-use Rattle.mpp_lexer.specs.declared.piece.DriverSign.TheVariants.{OpenBracket, Equal, NotEqual, Less, LessEqual, Greater, GreaterEqual, Plus, Minus, Star, Slash}
+use Rattle.mpp_lexer.specs.declared.piece.DriverSign.TheVariants.{OpenBracket, Equal, NotEqual, Less, LessEqual, Greater, GreaterEqual, Plus, Minus, Star}
+use Rattle.mpp_lexer.specs.declared.piece.DriverSign.TheVariants.{Slash}
 use Rattle.mpp_parser.specs.declared.keyword.Keyword.{Keyword}
 use Rattle.mpp_parser.specs.declared.keyword.Keyword.TheVariants as keys
 use Rattle.mpp_parser.specs.Keywords.{keyword_of}
@@ -28,13 +29,21 @@ module _ (operator : DriverPiece → Option Op) (R : Term → List DriverPiece �
   pub gathered_shrinks : Shrinks R → Shrinks (Gathered operator R)
   gathered_shrinks shrinks _ _ _ (gather d c e) = omega (arith, shrinks _ _ _ d, chain_shrinks operator link R shrinks c)
 
-  pub gathered_complete : (p : List DriverPiece → Option (Term × List DriverPiece)) (j : ℕ) → Shrinks R → Complete (Below (suc j)) R p → ((t : DriverPiece) (o : Op) (ts : List DriverPiece) → operator t ≡ Some o → Below (suc j) (t ∷ ts)) → ((ts : List DriverPiece) → Below j ts → open_at operator ts ≡ None) → Complete (Below j) (Gathered operator R) (gathered_at operator p)
+  pub gathered_complete : (p : List DriverPiece → Option (Term × List DriverPiece)) (j : ℕ) → Shrinks R → Complete (Below (suc j)) R p
+      → ((t : DriverPiece) (o : Op) (ts : List DriverPiece) → operator t ≡ Some o → Below (suc j) (t ∷ ts))
+      → ((ts : List DriverPiece) → Below j ts → open_at operator ts ≡ None) → Complete (Below j) (Gathered operator R) (gathered_at operator p)
   unfolding gathered_at
   gathered_complete p j shrinks complete binds closed _ _ _ (gather {mid = mid} d c e) h =
-      rw (complete _ _ _ d (chain_binds operator link R shrinks p (Below (suc j)) (Below j) complete binds (λ ts h. omega arith) closed c h), chain_complete operator link R shrinks p (Below (suc j)) (Below j) complete binds (λ ts h. omega arith) closed (length mid) [] c h (omega arith), e) refl
+      rw (
+        complete _ _ _ d (chain_binds operator link R shrinks p (Below (suc j)) (Below j) complete binds (λ ts h. omega arith) closed c h),
+        chain_complete
+            operator link R shrinks p (Below (suc j)) (Below j) complete binds (λ ts h. omega arith) closed (length mid) [] c h (omega arith),
+        e,
+      ) refl
 
   -- what begins so goes on so
-  pub gathered_begins : (P : List DriverPiece → Type 0) → ((t : Term) (ts rest : List DriverPiece) → R t ts rest → P ts) → {t : Term} {ts rest : List DriverPiece} → Gathered operator R t ts rest → P ts
+  pub gathered_begins : (P : List DriverPiece → Type 0) → ((t : Term) (ts rest : List DriverPiece) → R t ts rest → P ts)
+      → {t : Term} {ts rest : List DriverPiece} → Gathered operator R t ts rest → P ts
   gathered_begins P begins (gather d c e) = begins _ _ _ d
 
 -- Which token goes on with what stands before it.

@@ -56,16 +56,20 @@ given_some [] m ne = absurd (ne refl)
 given_some (a ∷ acts) m ne = refl
 
 -- the block of deeper lines, by the commands that stand there
-opened : (d i : ℕ) (l : Line) (ls rest : List Line) (acts : List Act) (m : List Line) → (d ≡ 0 → ⊥) → ls ≡ l ∷ rest → i < l.indent → commands_at (block_at (d - 1)) l.indent ls ≡ (acts, m) → block_at d i ls ≡ some_of acts m
+opened : (d i : ℕ) (l : Line) (ls rest : List Line) (acts : List Act) (m : List Line) → (d ≡ 0 → ⊥) → ls ≡ l ∷ rest → i < l.indent
+    → commands_at (block_at (d - 1)) l.indent ls ≡ (acts, m) → block_at d i ls ≡ some_of acts m
 unfolding block_at
 opened zero i l ls rest acts m ne e h c = absurd (ne refl)
 opened (suc d) i l ls rest acts m ne e h c =
     let same : suc d - 1 ≡ d = omega arith in
-    let at : commands_at (block_at d) l.indent (l ∷ rest) ≡ (acts, m) = sym (ap (λ n. commands_at (block_at n) l.indent ls) same ∙ ap (commands_at (block_at d) l.indent) e) ∙ c in
+    let at : commands_at (block_at d) l.indent (l ∷ rest) ≡ (acts, m) = sym (ap (λ n. commands_at (block_at n) l.indent ls) same
+    ∙ ap (commands_at (block_at d) l.indent) e) ∙ c in
     ap (block_at (suc d) i) e ∙ rw (lt-ltb i l.indent h) (λ j. some_of ((at j).0) ((at j).1))
 
-pub block_empty : (d i : ℕ) (l : Line) (ls rest : List Line) (acts : List Act) (m : List Line) → (d ≡ 0 → ⊥) → ls ≡ l ∷ rest → i < l.indent → commands_at (block_at (d - 1)) l.indent ls ≡ (acts, m) → length acts ≡ 0 → block_at d i ls ≡ None
+pub block_empty : (d i : ℕ) (l : Line) (ls rest : List Line) (acts : List Act) (m : List Line) → (d ≡ 0 → ⊥) → ls ≡ l ∷ rest → i < l.indent
+    → commands_at (block_at (d - 1)) l.indent ls ≡ (acts, m) → length acts ≡ 0 → block_at d i ls ≡ None
 block_empty d i l ls rest acts m ne e h c n = opened d i l ls rest acts m ne e h c ∙ given acts m n
 
-pub block_some : (d i : ℕ) (l : Line) (ls rest : List Line) (acts : List Act) (m : List Line) → (d ≡ 0 → ⊥) → ls ≡ l ∷ rest → i < l.indent → commands_at (block_at (d - 1)) l.indent ls ≡ (acts, m) → (length acts ≡ 0 → ⊥) → block_at d i ls ≡ Some (acts, m)
+pub block_some : (d i : ℕ) (l : Line) (ls rest : List Line) (acts : List Act) (m : List Line) → (d ≡ 0 → ⊥) → ls ≡ l ∷ rest → i < l.indent
+    → commands_at (block_at (d - 1)) l.indent ls ≡ (acts, m) → (length acts ≡ 0 → ⊥) → block_at d i ls ≡ Some (acts, m)
 block_some d i l ls rest acts m ne e h c n = opened d i l ls rest acts m ne e h c ∙ given_some acts m n

@@ -51,13 +51,18 @@ pub record Walked (all : List Line) (outers : List ℕ) (left : List Line) : Typ
 pub walk_start : (all : List Line) (outers : List ℕ) → outers ≡ [] → Walked all outers all
 walk_start all outers e = record { earlier = []; chain = e; shallow = λ s. s; deep = λ n d. d }
 
-level_test : (earlier : List Line) (outers kept : List ℕ) (l : Line) (deep : Bool) → outers ≡ chain_of earlier → kept ≡ left_outers l.indent outers → deep ≡ (nat_lt DRIVER_LEVEL (length kept) || opens_too_many 0 l.tokens) → deep ≡ is_too_deep earlier l
-level_test earlier outers kept l deep e f g = g ∙ ap (λ xs. nat_lt DRIVER_LEVEL (length xs) || opens_too_many 0 l.tokens) (f ∙ ap (left_outers l.indent) e ∙ chain_left earlier l.indent)
+level_test : (earlier : List Line) (outers kept : List ℕ) (l : Line) (deep : Bool) → outers ≡ chain_of earlier → kept ≡ left_outers l.indent outers
+    → deep ≡ (nat_lt DRIVER_LEVEL (length kept) || opens_too_many 0 l.tokens) → deep ≡ is_too_deep earlier l
+level_test earlier outers kept l deep e f g = g ∙ ap (λ xs. nat_lt DRIVER_LEVEL (length xs) || opens_too_many 0 l.tokens) (f ∙ ap (left_outers l.indent) e
+    ∙ chain_left earlier l.indent)
 
-pub walk_deep : (all : List Line) (outers kept : List ℕ) (l : Line) (left : List Line) (deep : Bool) → Walked all outers (l ∷ left) → kept ≡ left_outers l.indent outers → deep ≡ (nat_lt DRIVER_LEVEL (length kept) || opens_too_many 0 l.tokens) → deep ≡ true → FirstTooDeep [] all l.number
+pub walk_deep : (all : List Line) (outers kept : List ℕ) (l : Line) (left : List Line) (deep : Bool) → Walked all outers (l ∷ left)
+    → kept ≡ left_outers l.indent outers → deep ≡ (nat_lt DRIVER_LEVEL (length kept) || opens_too_many 0 l.tokens) → deep ≡ true → FirstTooDeep [] all l.number
 walk_deep all outers kept l left deep w f g t = w.deep l.number (here (sym (level_test w.earlier outers kept l deep w.chain f g) ∙ t))
 
-pub walk_turn : (all : List Line) (outers kept : List ℕ) (l : Line) (left : List Line) (deep : Bool) → Walked all outers (l ∷ left) → kept ≡ left_outers l.indent outers → deep ≡ (nat_lt DRIVER_LEVEL (length kept) || opens_too_many 0 l.tokens) → deep ≡ false → Walked all (l.indent ∷ kept) left
+pub walk_turn : (all : List Line) (outers kept : List ℕ) (l : Line) (left : List Line) (deep : Bool) → Walked all outers (l ∷ left)
+    → kept ≡ left_outers l.indent outers → deep ≡ (nat_lt DRIVER_LEVEL (length kept) || opens_too_many 0 l.tokens) → deep ≡ false
+    → Walked all (l.indent ∷ kept) left
 walk_turn all outers kept l left deep w f g t =
     let fine = sym (level_test w.earlier outers kept l deep w.chain f g) ∙ t in
     record {

@@ -15,6 +15,7 @@ sign_each s (Word w ∷ ts) = absent
 sign_each s (Number z u ∷ ts) = absent
 sign_each s (Sign t ∷ ts) = go (sameb the_type t s) refl
   where
-    go : (b : Bool) → sameb the_type t s ≡ b → Each (λ (o : Unit {0} × List DriverPiece). Sign t ∷ ts ≡ Sign s ∷ o.1) (choose (cond b (Some tt) None) None (λ b. Some (b, ts)))
+    go : (b : Bool) → sameb the_type t s ≡ b
+        → Each (λ (o : Unit {0} × List DriverPiece). Sign t ∷ ts ≡ Sign s ∷ o.1) (choose (cond b (Some tt) None) None (λ b. Some (b, ts)))
     go true e = here (ap (λ x. Sign x ∷ ts) (same_true the_type tt t s e))
     go false e = absent

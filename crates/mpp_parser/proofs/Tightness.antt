@@ -2,7 +2,8 @@
 use Rattle.std.proofs.Common.{◌<◌, ℕ, List, [], ◌∷◌, Option, Some}
 use Rattle.mpp_lexer.specs.declared.piece.DriverPiece.{DriverPiece}
 use Rattle.mpp_lexer.specs.declared.piece.DriverPiece.TheVariants.{Word, Sign}
-use Rattle.mpp_lexer.specs.declared.piece.DriverSign.TheVariants.{OpenBracket, Star, Slash, Plus, Minus, Equal, NotEqual, Less, LessEqual, Greater, GreaterEqual}
+use Rattle.mpp_lexer.specs.declared.piece.DriverSign.TheVariants.{OpenBracket, Star, Slash, Plus, Minus, Equal, NotEqual, Less, LessEqual, Greater}
+use Rattle.mpp_lexer.specs.declared.piece.DriverSign.TheVariants.{GreaterEqual}
 use Rattle.mpp_parser.specs.declared.keyword.Keyword.{Keyword}
 use Rattle.mpp_parser.specs.declared.keyword.Keyword.TheVariants.{And, Or}
 use Rattle.mpp_parser.specs.Keywords.{keyword_of}

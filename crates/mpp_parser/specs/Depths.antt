@@ -36,7 +36,8 @@ is_too_deep earlier l = nat_lt DRIVER_LEVEL (level_of earlier l.indent) || opens
 -- The number of the first line that is too deep, where these lines stand before, the nearest first.
 pub data FirstTooDeep : List Line → List Line → ℕ → Type 0 where
   here : {earlier : List Line} {l : Line} {ls : List Line} → is_too_deep earlier l ≡ true → FirstTooDeep earlier (l ∷ ls) l.number
-  later : {earlier : List Line} {l : Line} {ls : List Line} {n : ℕ} → is_too_deep earlier l ≡ false → FirstTooDeep (l ∷ earlier) ls n → FirstTooDeep earlier (l ∷ ls) n
+  later : {earlier : List Line} {l : Line} {ls : List Line} {n : ℕ} → is_too_deep earlier l ≡ false → FirstTooDeep (l ∷ earlier) ls n
+      → FirstTooDeep earlier (l ∷ ls) n
 
 -- no line is too deep
 pub data Shallow : List Line → List Line → Type 0 where

@@ -57,7 +57,8 @@ SpellsInnerBlock (suc d) i = SpellsBlock (SpellsInnerBlock d) i
 
 -- A function, whose first line has no indentation. A line in more than 64 blocks is too deep before.
 pub data SpellsFunction : Function → List Line → List Line → Type 0 where
-  function : {l : Line} {name : List ℕ} {body : List Act} {ls rest : List Line} → Says 0 (sentences.Function name) l → SpellsInnerBlock DRIVER_LEVEL 0 body ls rest →
+  function : {l : Line} {name : List ℕ} {body : List Act} {ls rest : List Line} → Says 0 (sentences.Function name) l
+      → SpellsInnerBlock DRIVER_LEVEL 0 body ls rest →
       SpellsFunction (record { name = name; line = l.number; body = body }) (l ∷ ls) rest
 
 -- The lines begin with a driver, and go on with rest: functions, any number of them.

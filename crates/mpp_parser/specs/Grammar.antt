@@ -13,7 +13,8 @@ use Rattle.m_lexer.specs.Chains.{Chain}
 use Rattle.mpp_lexer.specs.declared.piece.DriverPiece.{DriverPiece}
 use Rattle.mpp_lexer.specs.declared.piece.DriverPiece.TheVariants.{Word, Number, Sign}
 use Rattle.mpp_lexer.specs.declared.piece.DriverSign.{DriverSign}
-use Rattle.mpp_lexer.specs.declared.piece.DriverSign.TheVariants.{OpenParen, CloseParen, OpenBracket, CloseBracket, Comma, Colon, Assign, Equal, NotEqual, Less, LessEqual, Greater, GreaterEqual, Plus, Minus, Star, Slash, Receive}
+use Rattle.mpp_lexer.specs.declared.piece.DriverSign.TheVariants.{OpenParen, CloseParen, OpenBracket, CloseBracket, Comma, Colon, Assign, Equal, NotEqual, Less}
+use Rattle.mpp_lexer.specs.declared.piece.DriverSign.TheVariants.{LessEqual, Greater, GreaterEqual, Plus, Minus, Star, Slash, Receive}
 use Rattle.mpp_lexer.specs.contracts.piece.DriverSign as signs
 use Rattle.mpp_parser.specs.contracts.keyword.Keyword as keywords
 use Rattle.mpp_parser.specs.declared.keyword.Keyword.{Keyword}
@@ -80,7 +81,8 @@ gathered t [] = t
 gathered t (l ∷ ls) = chain t (links_of (l ∷ ls))
 
 -- R { operator R }
-pub data Gathered (operator : DriverPiece → Option Op) (R : Term → List DriverPiece → List DriverPiece → Type 0) : Term → List DriverPiece → List DriverPiece → Type 0 where
+pub data Gathered (operator : DriverPiece → Option Op) (R : Term → List DriverPiece → List DriverPiece → Type 0) : Term → List DriverPiece → List DriverPiece
+    → Type 0 where
   gather : {s t : Term} {ls : List DLink} {ts mid rest : List DriverPiece}
       → R t ts mid → Chain operator link R ls mid rest → s ≡ gathered t ls →
       Gathered operator R s ts rest
@@ -205,11 +207,13 @@ pub data SpellsSentence : Sentence → List DriverPiece → List DriverPiece →
       SpellsSentence (sentences.Set c t) ts rest
   del : {w : List ℕ} {c : CellName} {ts rest : List DriverPiece} → keyword_of w ≡ Some keys.Del → SpellsCell c ts rest →
       SpellsSentence (sentences.Del c) (Word w ∷ ts) rest
-  call : {w : List ℕ} {cs : List CellName} {ts rest : List DriverPiece} → SpellsCells cs ts (Sign Receive ∷ Word w ∷ Sign OpenParen ∷ Sign CloseParen ∷ rest) → keyword_of w ≡ None →
+  call : {w : List ℕ} {cs : List CellName} {ts rest : List DriverPiece} → SpellsCells cs ts (Sign Receive ∷ Word w ∷ Sign OpenParen ∷ Sign CloseParen ∷ rest)
+      → keyword_of w ≡ None →
       SpellsSentence (sentences.Call cs w) ts rest
   when : {w : List ℕ} {t : Term} {ts rest : List DriverPiece} → keyword_of w ≡ Some keys.If → SpellsTerm t ts (Sign Colon ∷ rest) →
       SpellsSentence (sentences.If t) (Word w ∷ ts) rest
   otherwise : {w : List ℕ} {rest : List DriverPiece} → keyword_of w ≡ Some keys.Else →
       SpellsSentence sentences.Else (Word w ∷ Sign Colon ∷ rest) rest
-  partition : {w v : List ℕ} {k : Kind} {ts rest : List DriverPiece} → keyword_of w ≡ Some keys.Partition → keyword_of v ≡ Some keys.With → SpellsKind k ts (Sign Colon ∷ rest) →
+  partition : {w v : List ℕ} {k : Kind} {ts rest : List DriverPiece} → keyword_of w ≡ Some keys.Partition → keyword_of v ≡ Some keys.With
+      → SpellsKind k ts (Sign Colon ∷ rest) →
       SpellsSentence (sentences.Partition k) (Word w ∷ Word v ∷ ts) rest

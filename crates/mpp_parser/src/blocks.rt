@@ -145,7 +145,8 @@ fn read_command(
     let Some(sentence) = line_sentence(alloc, line.tokens.as_slice())? else {
         return Ok(None);
     };
-    let Some(command) = read_written(alloc, &mut ahead, indent, depth, line.number, sentence)? else {
+    let Some(command) = read_written(alloc, &mut ahead, indent, depth, line.number, sentence)?
+    else {
         return Ok(None);
     };
     *lines = ahead;

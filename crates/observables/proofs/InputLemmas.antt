@@ -1,5 +1,6 @@
 -- Values of inputs that may have each amount.
-use Rattle.std.proofs.Common.{◌≡◌, ℕ, ℤ, pos, negsuc, ◌≤◌, ◌<◌, leb, cond, zero, suc, Bool, true, false, List, [], ◌∷◌, length, set, Option, None, Some, Result, Ok, Err, refl, sym, subst, arith}
+use Rattle.std.proofs.Common.{◌≡◌, ℕ, ℤ, pos, negsuc, ◌≤◌, ◌<◌, leb, cond, zero, suc, Bool, true, false, List, [], ◌∷◌, length, set, Option, None, Some, Result}
+use Rattle.std.proofs.Common.{Ok, Err, refl, sym, subst, arith}
 use Rattle.std.proofs.lemmas.Int.{ints}
 use Rattle.std.proofs.lemmas.Bool.{leb-true}
 use Rattle.std.specs.Prelude.{unsigned_abs}
@@ -31,7 +32,8 @@ pub value_of_any : (input : Coded) (v : Value) → input.kind ≡ Any → IsValu
 value_of_any input v any h = subst (λ kind. IsValueOf kind v) (sym any) h
 
 -- one of the values is replaced by one that its input may have
-pub set-value : (inputs : List Coded) (values : List Value) (number : ℕ) (v : Value) → AreAny inputs → AreValuesOf inputs values → IsValueOf Any v → AreValuesOf inputs (set values number v)
+pub set-value : (inputs : List Coded) (values : List Value) (number : ℕ) (v : Value) → AreAny inputs → AreValuesOf inputs values → IsValueOf Any v
+    → AreValuesOf inputs (set values number v)
 set-value [] [] number v any all h = all
 set-value [] (w ∷ values) number v any all h = absurd all
 set-value (input ∷ inputs) [] number v any all h = absurd all

@@ -1,5 +1,6 @@
 -- A builder, one instruction after another.
-use Rattle.std.proofs.Common.{◌≡◌, ◌≢◌, ℕ, zero, suc, ◌+◌, ◌<◌, ◌≤◌, Bool, true, false, cond, eqb, ltb, ◌⊎◌, List, [], ◌∷◌, ◌++◌, length, get_or, set, map, replicate, Option, None, Some, is_some, refl, ap, sym, ◌∙◌, subst, inl, inr, ⊎_elim, arith}
+use Rattle.std.proofs.Common.{◌≡◌, ◌≢◌, ℕ, zero, suc, ◌+◌, ◌<◌, ◌≤◌, Bool, true, false, cond, eqb, ltb, ◌⊎◌, List, [], ◌∷◌, ◌++◌, length, get_or, set, map}
+use Rattle.std.proofs.Common.{replicate, Option, None, Some, is_some, refl, ap, sym, ◌∙◌, subst, inl, inr, ⊎_elim, arith}
 use Rattle.std.specs.Prelude.{if◌then◌else◌, fold}
 use Rattle.std.specs.List.{AllByRecursion, list_any}
 use Rattle.std.specs.Option.{option_and_then, option_map, option_map_or, is_none}
@@ -35,11 +36,13 @@ use Rattle.reg_machine.specs.declared.instr.Instr.{Instr}
 use Rattle.reg_machine.specs.declared.instr.Instr.TheVariants.{Take, Lit, Do, Store, Load, Check as Test, Output}
 use Rattle.reg_machine.specs.declared.instr.TheConstants.{REGISTERS}
 use Rattle.reg_machine.specs.declared.code.Packed.{Packed}
-use Rattle.reg_machine.specs.declared.code.Packed.TheVariants.{Take as Takes, Lit as Lits, Do as Does, Store as Stores, Load as Loads, Check as Checks, Output as Outputs}
+use Rattle.reg_machine.specs.declared.code.Packed.TheVariants.{Take as Takes, Lit as Lits, Do as Does, Store as Stores, Load as Loads, Check as Checks}
+use Rattle.reg_machine.specs.declared.code.Packed.TheVariants.{Output as Outputs}
 use Rattle.reg_machine.specs.declared.wrong.Wrong.{Wrong}
 use Rattle.reg_machine.specs.declared.wrong.Wrong.TheVariants.{Number, Order}
 use Rattle.reg_machine.specs.declared.wrong.CodeWrong.TheVariants.{BadNumber, BadOrder, NoOutput}
-use Rattle.reg_machine.specs.Flow.{Counts, Listing, with_instr, State, put, start, with_node, step, has_numbers, moved, repeats_first, reading, wrong_at, wrong_behind, placed, fault_from, code_fault, all_given}
+use Rattle.reg_machine.specs.Flow.{Counts, Listing, with_instr, State, put, start, with_node, step, has_numbers, moved, repeats_first, reading, wrong_at}
+use Rattle.reg_machine.specs.Flow.{wrong_behind, placed, fault_from, code_fault, all_given}
 use Rattle.reg_machine.specs.inner.Packed.{unpacked, IsPacked, listing_of, IsAmong, AreDistinct, IsNumbered, IsDraft, IsRight, Grown}
 use Rattle.reg_machine.proofs.TableLemmas.{put-same, put-other, none≢some, some-is}
 use Rattle.reg_machine.proofs.LawLemmas.{reading-none}
@@ -47,16 +50,19 @@ use Rattle.reg_machine.proofs.LawLemmas.{reading-none}
 -- ---- what is wrong
 
 -- nothing is wrong with an instruction: its numbers can stand there, and something is known after it
-pub right-parts : (code : Listing) (i : Instr) (s : State) → reading code ≡ Some s → wrong_behind code i ≡ None → (has_numbers code.counts s i ≡ true) × (t : State) × (moved i s ≡ Some t)
+pub right-parts : (code : Listing) (i : Instr) (s : State) → reading code ≡ Some s → wrong_behind code i ≡ None → (has_numbers code.counts s i ≡ true)
+    × (t : State) × (moved i s ≡ Some t)
 right-parts code i s e f = from (has_numbers code.counts s i) refl (moved i s) refl (sym (ap (option_and_then (λ s. wrong_at code.counts s i)) e) ∙ f)
   where
-    from : (b : Bool) → has_numbers code.counts s i ≡ b → (o : Option State) → moved i s ≡ o → (if b then (if is_none o then Some Order else None) else Some Number) ≡ None → (has_numbers code.counts s i ≡ true) × (t : State) × (moved i s ≡ Some t)
+    from : (b : Bool) → has_numbers code.counts s i ≡ b → (o : Option State) → moved i s ≡ o
+        → (if b then (if is_none o then Some Order else None) else Some Number) ≡ None → (has_numbers code.counts s i ≡ true) × (t : State) × (moved i s ≡ Some t)
     from false is o is' g = absurd (none≢some Number (sym g))
     from true is None is' g = absurd (none≢some Order (sym g))
     from true is (Some t) is' g = (is, t, is')
 
 -- one more instruction is read
-pub reads-on : (code : Listing) (i : Instr) (s t : State) → reading code ≡ Some s → has_numbers code.counts s i ≡ true → moved i s ≡ Some t → reading (with_instr code i) ≡ Some t
+pub reads-on : (code : Listing) (i : Instr) (s t : State) → reading code ≡ Some s → has_numbers code.counts s i ≡ true → moved i s ≡ Some t
+    → reading (with_instr code i) ≡ Some t
 reads-on code i s t e has is =
     fold_push (λ s i. option_and_then (step code.counts i) s) (Some (start code.counts.outputs)) code.instrs i
     ∙ ap (option_and_then (step code.counts i)) e
@@ -67,25 +73,33 @@ reads-on code i s t e has is =
 pub wrong-is : (code : Listing) (i : Instr) (s : State) → reading code ≡ Some s → wrong_behind code i ≡ wrong_at code.counts s i
 wrong-is code i s e = ap (option_and_then (λ s. wrong_at code.counts s i)) e
 
-pub fault-step : (n : Counts) (s t : State) (k : ℕ) (i : Instr) (rest : List Instr) → has_numbers n s i ≡ true → moved i s ≡ Some t → fault_from n s k (i ∷ rest) ≡ fault_from n t (suc k) rest
+pub fault-step : (n : Counts) (s t : State) (k : ℕ) (i : Instr) (rest : List Instr) → has_numbers n s i ≡ true → moved i s ≡ Some t
+    → fault_from n s k (i ∷ rest) ≡ fault_from n t (suc k) rest
 fault-step n s t k i rest has is =
     ap (λ b. if b then option_map_or (λ t. fault_from n t (suc k) rest) (moved i s) (Some (BadOrder k)) else Some (BadNumber k)) has
     ∙ ap (λ (o : Option State). option_map_or (λ t. fault_from n t (suc k) rest) o (Some (BadOrder k))) is
 
-pub fault-wrong : (n : Counts) (s : State) (k : ℕ) (i : Instr) (rest : List Instr) (w : Wrong) → wrong_at n s i ≡ Some w → fault_from n s k (i ∷ rest) ≡ Some (placed k w)
+pub fault-wrong : (n : Counts) (s : State) (k : ℕ) (i : Instr) (rest : List Instr) (w : Wrong) → wrong_at n s i ≡ Some w
+    → fault_from n s k (i ∷ rest) ≡ Some (placed k w)
 fault-wrong n s k i rest w e = from (has_numbers n s i) refl (moved i s) refl e
   where
-    from : (b : Bool) → has_numbers n s i ≡ b → (o : Option State) → moved i s ≡ o → (if b then (if is_none o then Some Order else None) else Some Number) ≡ Some w → (if b then option_map_or (λ t. fault_from n t (suc k) rest) o (Some (BadOrder k)) else Some (BadNumber k)) ≡ Some (placed k w)
+    from : (b : Bool) → has_numbers n s i ≡ b → (o : Option State) → moved i s ≡ o
+        → (if b then (if is_none o then Some Order else None) else Some Number) ≡ Some w
+        → (if b then option_map_or (λ t. fault_from n t (suc k) rest) o (Some (BadOrder k)) else Some (BadNumber k)) ≡ Some (placed k w)
     from false is o is' g = ap (λ w. Some (placed k w)) (some-is Number w g)
     from true is None is' g = ap (λ w. Some (placed k w)) (some-is Order w g)
     from true is (Some t) is' g = absurd (none≢some w g)
 
 -- code of which all instructions are read has no fault but that outputs may be missing
-pub fault-read : (n : Counts) (code : List Instr) (k : ℕ) (s t : State) → fold (λ s i. option_and_then (step n i) s) (Some s) code ≡ Some t → fault_from n s k code ≡ (if is_none (all_given t.outputs) then Some NoOutput else None)
+pub fault-read : (n : Counts) (code : List Instr) (k : ℕ) (s t : State) → fold (λ s i. option_and_then (step n i) s) (Some s) code ≡ Some t
+    → fault_from n s k code ≡ (if is_none (all_given t.outputs) then Some NoOutput else None)
 fault-read n [] k s t e = ap (λ (u : State). if is_none (all_given u.outputs) then Some NoOutput else None) (some-is s t e)
 fault-read n (i ∷ code) k s t e = from (λ u g. fault-read n code (suc k) u t g) (has_numbers n s i) refl (moved i s) refl e
   where
-    from : ((u : State) → fold (λ s i. option_and_then (step n i) s) (Some u) code ≡ Some t → fault_from n u (suc k) code ≡ (if is_none (all_given t.outputs) then Some NoOutput else None)) → (b : Bool) → has_numbers n s i ≡ b → (o : Option State) → moved i s ≡ o → fold (λ s i. option_and_then (step n i) s) (if b then o else None) code ≡ Some t → fault_from n s k (i ∷ code) ≡ (if is_none (all_given t.outputs) then Some NoOutput else None)
+    from : ((u : State) → fold (λ s i. option_and_then (step n i) s) (Some u) code ≡ Some t
+        → fault_from n u (suc k) code ≡ (if is_none (all_given t.outputs) then Some NoOutput else None)) → (b : Bool) → has_numbers n s i ≡ b → (o : Option State)
+        → moved i s ≡ o → fold (λ s i. option_and_then (step n i) s) (if b then o else None) code ≡ Some t
+        → fault_from n s k (i ∷ code) ≡ (if is_none (all_given t.outputs) then Some NoOutput else None)
     from rest false is o is' g = absurd (none≢some t (sym (reading-none n code) ∙ g))
     from rest true is None is' g = absurd (none≢some t (sym (reading-none n code) ∙ g))
     from rest true is (Some u) is' g = fault-step n s u k i code is is' ∙ rest u g
@@ -124,7 +138,8 @@ all-weaker : {X : Type 0} (P Q : X → Type 0) (xs : List X) → ((x : X) → P 
 all-weaker P Q [] w h = tt
 all-weaker P Q (x ∷ xs) w h = (w x h.0, all-weaker P Q xs w h.1)
 
-packed-more : (inputs outputs pool pool' used used' : ℕ) → pool ≤ pool' → used ≤ used' → (p : Packed) → IsPacked inputs outputs pool used p → IsPacked inputs outputs pool' used' p
+packed-more : (inputs outputs pool pool' used used' : ℕ) → pool ≤ pool' → used ≤ used' → (p : Packed) → IsPacked inputs outputs pool used p
+    → IsPacked inputs outputs pool' used' p
 packed-more inputs outputs pool pool' used used' a b (Takes r n) h = h
 packed-more inputs outputs pool pool' used used' a b (Lits r k) h = (h.0, omega (arith, h.1))
 packed-more inputs outputs pool pool' used used' a b (Does op r x y z) h = h
@@ -133,7 +148,8 @@ packed-more inputs outputs pool pool' used used' a b (Loads r k) h = (h.0, omega
 packed-more inputs outputs pool pool' used used' a b (Checks g r o l) h = h
 packed-more inputs outputs pool pool' used used' a b (Outputs k r) h = h
 
-unpacked-literal : (inputs outputs : ℕ) (pool : List Value) (used : List ℕ) (v : Value) (p : Packed) → IsPacked inputs outputs (length pool) (length used) p → unpacked pool used p ≡ unpacked (pool ++ v ∷ []) used p
+unpacked-literal : (inputs outputs : ℕ) (pool : List Value) (used : List ℕ) (v : Value) (p : Packed) → IsPacked inputs outputs (length pool) (length used) p
+    → unpacked pool used p ≡ unpacked (pool ++ v ∷ []) used p
 unpacked-literal inputs outputs pool used v (Takes r n) h = refl
 unpacked-literal inputs outputs pool used v (Lits r k) h = ap (λ v. Lit r v) (sym (get_or_append_left pool (v ∷ []) Undef k h.1))
 unpacked-literal inputs outputs pool used v (Does op r x y z) h = refl
@@ -142,7 +158,8 @@ unpacked-literal inputs outputs pool used v (Loads r k) h = refl
 unpacked-literal inputs outputs pool used v (Checks g r o l) h = refl
 unpacked-literal inputs outputs pool used v (Outputs k r) h = refl
 
-unpacked-slot : (inputs outputs : ℕ) (pool : List Value) (used used' : List ℕ) (q : ℕ) → Grown used used' q → (p : Packed) → IsPacked inputs outputs (length pool) (length used) p → unpacked pool used p ≡ unpacked pool used' p
+unpacked-slot : (inputs outputs : ℕ) (pool : List Value) (used used' : List ℕ) (q : ℕ) → Grown used used' q → (p : Packed)
+    → IsPacked inputs outputs (length pool) (length used) p → unpacked pool used p ≡ unpacked pool used' p
 unpacked-slot inputs outputs pool used used' q g (Takes r n) h = refl
 unpacked-slot inputs outputs pool used used' q g (Lits r k) h = refl
 unpacked-slot inputs outputs pool used used' q g (Does op r x y z) h = refl
@@ -157,7 +174,8 @@ map-same P f g (x ∷ xs) e h = ap (λ y. y ∷ map f xs) (e x h.0) ∙ ap (λ y
 
 -- one more slot at the end, or none
 pub grown-from : (used more : List ℕ) (k : ℕ) → (more ≡ used) ⊎ (more ≡ used ++ k ∷ []) → Grown used more k
-grown-from used more k (inl e) = subst (λ (u : List ℕ). Grown used u k) (sym e) (record { same = λ d lt. refl; longer = omega arith; most = omega arith; only = λ q h. inr h })
+grown-from used more k (inl e) = subst (λ (u : List ℕ). Grown used u k) (sym e)
+    (record { same = λ d lt. refl; longer = omega arith; most = omega arith; only = λ q h. inr h })
 grown-from used more k (inr e) =
     let size = length_push used k in
     subst (λ (u : List ℕ). Grown used u k) (sym e) (record {
@@ -173,10 +191,12 @@ grown-from used more k (inr e) =
 
 -- ---- registers, slots and outputs
 
-written-put : (written : List Bool) (table : ℕ → Option ℕ) (r x : ℕ) → r < length written → ((q : ℕ) → get_or written q false ≡ is_some (table q)) → (q : ℕ) → get_or (set written r true) q false ≡ is_some (put table r (Some x) q)
+written-put : (written : List Bool) (table : ℕ → Option ℕ) (r x : ℕ) → r < length written → ((q : ℕ) → get_or written q false ≡ is_some (table q)) → (q : ℕ)
+    → get_or (set written r true) q false ≡ is_some (put table r (Some x) q)
 written-put written table r x lt h q =
     ⊎_elim
-    (λ (e : q ≡ r). subst (λ j. get_or (set written r true) j false ≡ is_some (put table r (Some x) j)) (sym e) (get_or-set_same written r true false lt ∙ ap is_some (sym (put-same table r (Some x)))))
+    (λ (e : q ≡ r). subst (λ j. get_or (set written r true) j false ≡ is_some (put table r (Some x) j)) (sym e) (get_or-set_same written r true false lt
+    ∙ ap is_some (sym (put-same table r (Some x)))))
     (λ (ne : q ≢ r). get_or-set_other written r q true false ne ∙ h q ∙ ap is_some (sym (put-other table r (Some x) q ne)))
     (cases_eq q r)
 
@@ -186,11 +206,14 @@ cmp-eq k q = grind (arith, nat_tests)
 given-put : (m n : BTreeSet ℕ) (k : ℕ) → Updates nat_cmp m n k true → (q : ℕ) → contains nat_cmp n q ≡ cond (eqb k q) true (contains nat_cmp m q)
 given-put m n k h q = h.0 q ∙ ap (λ b. cond b true (contains nat_cmp m q)) (cmp-eq k q)
 
-outputs-put : (m n : BTreeSet ℕ) (outputs : List (Option ℕ)) (k x : ℕ) → Updates nat_cmp m n k true → k < length outputs → ((q : ℕ) → contains nat_cmp m q ≡ is_some (get_or outputs q None)) → (q : ℕ) → contains nat_cmp n q ≡ is_some (get_or (set outputs k (Some x)) q None)
+outputs-put : (m n : BTreeSet ℕ) (outputs : List (Option ℕ)) (k x : ℕ) → Updates nat_cmp m n k true → k < length outputs
+    → ((q : ℕ) → contains nat_cmp m q ≡ is_some (get_or outputs q None)) → (q : ℕ) → contains nat_cmp n q ≡ is_some (get_or (set outputs k (Some x)) q None)
 outputs-put m n outputs k x h lt each q =
     ⊎_elim
-    (λ (e : q ≡ k). subst (λ j. contains nat_cmp n j ≡ is_some (get_or (set outputs k (Some x)) j None)) (sym e) (given-put m n k h k ∙ ap (λ b. cond b true (contains nat_cmp m k)) (eq-eqb k k refl) ∙ ap is_some (sym (get_or-set_same outputs k (Some x) None lt))))
-    (λ (ne : q ≢ k). given-put m n k h q ∙ ap (λ b. cond b true (contains nat_cmp m q)) (ne_eqb k q (λ e. ne (sym e))) ∙ each q ∙ ap is_some (sym (get_or-set_other outputs k q (Some x) None ne)))
+    (λ (e : q ≡ k). subst (λ j. contains nat_cmp n j ≡ is_some (get_or (set outputs k (Some x)) j None)) (sym e) (given-put m n k h k
+    ∙ ap (λ b. cond b true (contains nat_cmp m k)) (eq-eqb k k refl) ∙ ap is_some (sym (get_or-set_same outputs k (Some x) None lt))))
+    (λ (ne : q ≢ k). given-put m n k h q ∙ ap (λ b. cond b true (contains nat_cmp m q)) (ne_eqb k q (λ e. ne (sym e))) ∙ each q
+    ∙ ap is_some (sym (get_or-set_other outputs k q (Some x) None ne)))
     (cases_eq q k)
 
 -- ---- drafts
@@ -229,11 +252,14 @@ pushed : (d : Parts) (p : Packed) → listing (record d { packed = d.packed ++ p
 pushed d p = ap (λ (is : List Instr). record { counts = (listing d).counts; instrs = is }) (map-append (unpacked d.pool d.used) d.packed (p ∷ []))
 
 -- and what is known after it
-read-push : (d : Parts) (p : Packed) (s t : State) → reading (listing d) ≡ Some s → has_numbers (listing d).counts s (unpacked d.pool d.used p) ≡ true → moved (unpacked d.pool d.used p) s ≡ Some t → reading (listing (record d { packed = d.packed ++ p ∷ [] })) ≡ Some t
+read-push : (d : Parts) (p : Packed) (s t : State) → reading (listing d) ≡ Some s → has_numbers (listing d).counts s (unpacked d.pool d.used p) ≡ true
+    → moved (unpacked d.pool d.used p) s ≡ Some t → reading (listing (record d { packed = d.packed ++ p ∷ [] })) ≡ Some t
 read-push d p s t e has is = ap reading (pushed d p) ∙ reads-on (listing d) (unpacked d.pool d.used p) s t e has is
 
 -- an instruction that writes a register
-draft-register : (d : Parts) (p : Packed) (r x : ℕ) (t : State) (h : Draft d) → has_numbers (listing d).counts h.state (unpacked d.pool d.used p) ≡ true → moved (unpacked d.pool d.used p) h.state ≡ Some t → Fits d p → r < REGISTERS → t.registers ≡ put h.state.registers r (Some x) → t.slots ≡ h.state.slots → t.outputs ≡ h.state.outputs → Draft (record d { packed = d.packed ++ p ∷ []; written = set d.written r true })
+draft-register : (d : Parts) (p : Packed) (r x : ℕ) (t : State) (h : Draft d) → has_numbers (listing d).counts h.state (unpacked d.pool d.used p) ≡ true
+    → moved (unpacked d.pool d.used p) h.state ≡ Some t → Fits d p → r < REGISTERS → t.registers ≡ put h.state.registers r (Some x) → t.slots ≡ h.state.slots
+    → t.outputs ≡ h.state.outputs → Draft (record d { packed = d.packed ++ p ∷ []; written = set d.written r true })
 draft-register d p r x t h has is ok lt registers slots outputs =
     let s = h.state in
     let size = length_push d.packed p in
@@ -252,7 +278,10 @@ draft-register d p r x t h has is ok lt registers slots outputs =
     }
 
 -- an instruction that writes none
-draft-plain : (d : Parts) (p : Packed) (t : State) (h : Draft d) → has_numbers (listing d).counts h.state (unpacked d.pool d.used p) ≡ true → moved (unpacked d.pool d.used p) h.state ≡ Some t → Fits d p → t.registers ≡ h.state.registers → t.slots ≡ h.state.slots → length t.outputs ≡ length h.state.outputs → (given' : BTreeSet ℕ) → ((k : ℕ) → contains nat_cmp given' k ≡ is_some (get_or t.outputs k None)) → Draft (record d { packed = d.packed ++ p ∷ []; given = given' })
+draft-plain : (d : Parts) (p : Packed) (t : State) (h : Draft d) → has_numbers (listing d).counts h.state (unpacked d.pool d.used p) ≡ true
+    → moved (unpacked d.pool d.used p) h.state ≡ Some t → Fits d p → t.registers ≡ h.state.registers → t.slots ≡ h.state.slots
+    → length t.outputs ≡ length h.state.outputs → (given' : BTreeSet ℕ) → ((k : ℕ) → contains nat_cmp given' k ≡ is_some (get_or t.outputs k None))
+    → Draft (record d { packed = d.packed ++ p ∷ []; given = given' })
 draft-plain d p t h has is ok registers slots outputs given' each =
     let s = h.state in
     let size = length_push d.packed p in
@@ -270,7 +299,8 @@ draft-plain d p t h has is ok registers slots outputs given' each =
       given = each;
     }
 
-pub draft-take : (d : Parts) (r n : ℕ) → Draft d → IsRight (listing d) (Take r n) → Draft (record d { packed = d.packed ++ Takes r n ∷ []; written = set d.written r true })
+pub draft-take : (d : Parts) (r n : ℕ) → Draft d → IsRight (listing d) (Take r n)
+    → Draft (record d { packed = d.packed ++ Takes r n ∷ []; written = set d.written r true })
 draft-take d r n h right =
     let p = right-parts (listing d) (Take r n) h.state h.read right in
     let q = and_parts (ltb r REGISTERS) (ltb n d.inputs) p.0 in
@@ -290,9 +320,11 @@ draft-do d op r a b c h right =
     let y = then-some (s.registers b) _ p.1 x.2 in
     let z = map-some (s.registers c) _ p.1 y.2 in
     let t = with_node r (DoNode op x.0 y.0 z.0) s in
-    draft-register d (Does op r a b c) r (length s.nodes) t h p.0 (p.2 ∙ ap (λ (t : State). Some t) (sym z.2)) (lt, ltb-true a REGISTERS qa.0, ltb-true b REGISTERS qb.0, ltb-true c REGISTERS qc.0) lt refl refl refl
+    draft-register d (Does op r a b c) r (length s.nodes) t h p.0 (p.2 ∙ ap (λ (t : State). Some t) (sym z.2))
+    (lt, ltb-true a REGISTERS qa.0, ltb-true b REGISTERS qb.0, ltb-true c REGISTERS qc.0) lt refl refl refl
 
-pub draft-load : (d : Parts) (r k j : ℕ) → Draft d → IsRight (listing d) (Load r k) → j < length d.used → get_or d.used j 0 ≡ k → Draft (record d { packed = d.packed ++ Loads r j ∷ []; written = set d.written r true })
+pub draft-load : (d : Parts) (r k j : ℕ) → Draft d → IsRight (listing d) (Load r k) → j < length d.used → get_or d.used j 0 ≡ k
+    → Draft (record d { packed = d.packed ++ Loads r j ∷ []; written = set d.written r true })
 draft-load d r k j h right below at =
     let s = h.state in
     let right' = subst (λ i. IsRight (listing d) (Load r i)) (sym at) right in
@@ -300,9 +332,11 @@ draft-load d r k j h right below at =
     let q = and_parts (ltb r REGISTERS) _ p.0 in
     let lt = ltb-true r REGISTERS q.0 in
     let x = map-some (s.slots (get_or d.used j 0)) _ p.1 p.2 in
-    draft-register d (Loads r j) r x.0 p.1 h p.0 p.2 (lt, below) lt (ap (λ (t : State). t.registers) (sym x.2)) (ap (λ (t : State). t.slots) (sym x.2)) (ap (λ (t : State). t.outputs) (sym x.2))
+    draft-register d (Loads r j) r x.0 p.1 h p.0 p.2 (lt, below) lt (ap (λ (t : State). t.registers) (sym x.2)) (ap (λ (t : State). t.slots) (sym x.2))
+    (ap (λ (t : State). t.outputs) (sym x.2))
 
-pub draft-check : (d : Parts) (g r : ℕ) (over_only : Bool) (label : ℕ) → Draft d → IsRight (listing d) (Test g r over_only label) → Draft (record d { packed = d.packed ++ Checks g r over_only label ∷ [] })
+pub draft-check : (d : Parts) (g r : ℕ) (over_only : Bool) (label : ℕ) → Draft d → IsRight (listing d) (Test g r over_only label)
+    → Draft (record d { packed = d.packed ++ Checks g r over_only label ∷ [] })
 draft-check d g r over_only label h right =
     let s = h.state in
     let p = right-parts (listing d) (Test g r over_only label) s h.read right in
@@ -311,10 +345,12 @@ draft-check d g r over_only label h right =
     let x = then-some (s.registers g) _ p.1 p.2 in
     let y = map-some (s.registers r) _ p.1 x.2 in
     let outputs = ap (λ (t : State). t.outputs) y.2 in
-    draft-plain d (Checks g r over_only label) p.1 h p.0 p.2 (ltb-true g REGISTERS q.0, ltb-true r REGISTERS qr.0) (ap (λ (t : State). t.registers) (sym y.2)) (ap (λ (t : State). t.slots) (sym y.2)) (ap length (sym outputs)) d.given
+    draft-plain d (Checks g r over_only label) p.1 h p.0 p.2 (ltb-true g REGISTERS q.0, ltb-true r REGISTERS qr.0) (ap (λ (t : State). t.registers) (sym y.2))
+    (ap (λ (t : State). t.slots) (sym y.2)) (ap length (sym outputs)) d.given
     (λ k. h.given k ∙ ap (λ (os : List (Option ℕ)). is_some (get_or os k None)) outputs)
 
-pub draft-output : (d : Parts) (k r : ℕ) (given' : BTreeSet ℕ) → Draft d → IsRight (listing d) (Output k r) → Updates nat_cmp d.given given' k true → Draft (record d { packed = d.packed ++ Outputs k r ∷ []; given = given' })
+pub draft-output : (d : Parts) (k r : ℕ) (given' : BTreeSet ℕ) → Draft d → IsRight (listing d) (Output k r) → Updates nat_cmp d.given given' k true
+    → Draft (record d { packed = d.packed ++ Outputs k r ∷ []; given = given' })
 draft-output d k r given' h right updates =
     let s = h.state in
     let p = right-parts (listing d) (Output k r) s h.read right in
@@ -323,21 +359,27 @@ draft-output d k r given' h right updates =
     let below = ltb-true k d.outs q.0 in
     let x = map-some (s.registers r) _ p.1 p.2 in
     let outputs = ap (λ (t : State). t.outputs) x.2 in
-    draft-plain d (Outputs k r) p.1 h p.0 p.2 (below, ltb-true r REGISTERS qr.0) (ap (λ (t : State). t.registers) (sym x.2)) (ap (λ (t : State). t.slots) (sym x.2)) (ap length (sym outputs) ∙ length-set s.outputs k (Some x.0)) given'
-    (λ j. outputs-put d.given given' s.outputs k x.0 updates (omega (arith, h.count)) h.given j ∙ ap (λ (os : List (Option ℕ)). is_some (get_or os j None)) outputs)
+    draft-plain d (Outputs k r) p.1 h p.0 p.2 (below, ltb-true r REGISTERS qr.0) (ap (λ (t : State). t.registers) (sym x.2))
+    (ap (λ (t : State). t.slots) (sym x.2)) (ap length (sym outputs) ∙ length-set s.outputs k (Some x.0)) given'
+    (λ j. outputs-put d.given given' s.outputs k x.0 updates (omega (arith, h.count)) h.given j
+    ∙ ap (λ (os : List (Option ℕ)). is_some (get_or os j None)) outputs)
 
 -- the same code, with one more literal in the pool
 literal-same : (d : Parts) (v : Value) → Draft d → listing d ≡ listing (record d { pool = d.pool ++ v ∷ [] })
-literal-same d v h = ap (λ (is : List Instr). record { counts = (listing d).counts; instrs = is }) (map-same (Fits d) (unpacked d.pool d.used) (unpacked (d.pool ++ v ∷ []) d.used) d.packed (λ p f. unpacked-literal d.inputs d.outs d.pool d.used v p f) h.packed)
+literal-same d v h = ap (λ (is : List Instr). record { counts = (listing d).counts; instrs = is })
+    (map-same (Fits d) (unpacked d.pool d.used) (unpacked (d.pool ++ v ∷ []) d.used) d.packed (λ p f. unpacked-literal d.inputs d.outs d.pool d.used v p f)
+    h.packed)
 
 -- the code after a literal
-pub literal-pushed : (d : Parts) (r : ℕ) (v : Value) → Draft d → listing (record d { packed = d.packed ++ Lits r (length d.pool) ∷ []; pool = d.pool ++ v ∷ [] }) ≡ with_instr (listing d) (Lit r v)
+pub literal-pushed : (d : Parts) (r : ℕ) (v : Value) → Draft d
+    → listing (record d { packed = d.packed ++ Lits r (length d.pool) ∷ []; pool = d.pool ++ v ∷ [] }) ≡ with_instr (listing d) (Lit r v)
 literal-pushed d r v h =
     pushed (record d { pool = d.pool ++ v ∷ [] }) (Lits r (length d.pool))
     ∙ ap (λ code. with_instr code (Lit r (get_or (d.pool ++ v ∷ []) (length d.pool) Undef))) (sym (literal-same d v h))
     ∙ ap (λ v. with_instr (listing d) (Lit r v)) (get_or_push d.pool v Undef (length d.pool) refl)
 
-pub draft-literal : (d : Parts) (r : ℕ) (v : Value) → Draft d → IsRight (listing d) (Lit r v) → Draft (record d { packed = d.packed ++ Lits r (length d.pool) ∷ []; pool = d.pool ++ v ∷ []; written = set d.written r true })
+pub draft-literal : (d : Parts) (r : ℕ) (v : Value) → Draft d → IsRight (listing d) (Lit r v)
+    → Draft (record d { packed = d.packed ++ Lits r (length d.pool) ∷ []; pool = d.pool ++ v ∷ []; written = set d.written r true })
 draft-literal d r v h right =
     let s = h.state in
     let p = right-parts (listing d) (Lit r v) s h.read right in
@@ -348,7 +390,9 @@ draft-literal d r v h right =
       state = with_node r (LitNode v) s;
       read = ap reading (literal-pushed d r v h) ∙ reads-on (listing d) (Lit r v) s (with_node r (LitNode v) s) h.read p.0 refl;
       packed = all-push (IsPacked d.inputs d.outs (length (d.pool ++ v ∷ [])) (length d.used)) d.packed (Lits r (length d.pool))
-          (all-weaker (Fits d) (IsPacked d.inputs d.outs (length (d.pool ++ v ∷ [])) (length d.used)) d.packed (λ p f. packed-more d.inputs d.outs (length d.pool) (length (d.pool ++ v ∷ [])) (length d.used) (length d.used) (omega (arith, more)) (omega arith) p f) h.packed)
+          (all-weaker (Fits d) (IsPacked d.inputs d.outs (length (d.pool ++ v ∷ [])) (length d.used)) d.packed
+          (λ p f. packed-more d.inputs d.outs (length d.pool) (length (d.pool ++ v ∷ [])) (length d.used) (length d.used) (omega (arith, more)) (omega arith)
+          p f) h.packed)
           (lt, omega (arith, more));
       few_literals = omega (arith, size, more, h.few_literals);
       few_slots = omega (arith, size, h.few_slots);
@@ -361,16 +405,19 @@ draft-literal d r v h right =
     }
 
 slot-same : (d : Parts) (used' : List ℕ) (k : ℕ) → Grown d.used used' k → Draft d → listing d ≡ listing (record d { used = used' })
-slot-same d used' k g h = ap (λ (is : List Instr). record { counts = (listing d).counts; instrs = is }) (map-same (Fits d) (unpacked d.pool d.used) (unpacked d.pool used') d.packed (λ p f. unpacked-slot d.inputs d.outs d.pool d.used used' k g p f) h.packed)
+slot-same d used' k g h = ap (λ (is : List Instr). record { counts = (listing d).counts; instrs = is })
+    (map-same (Fits d) (unpacked d.pool d.used) (unpacked d.pool used') d.packed (λ p f. unpacked-slot d.inputs d.outs d.pool d.used used' k g p f) h.packed)
 
 -- the code after a store
-pub slot-pushed : (d : Parts) (used' : List ℕ) (k r j : ℕ) → Grown d.used used' k → get_or used' j 0 ≡ k → Draft d → listing (record d { packed = d.packed ++ Stores j r ∷ []; used = used' }) ≡ with_instr (listing d) (Store k r)
+pub slot-pushed : (d : Parts) (used' : List ℕ) (k r j : ℕ) → Grown d.used used' k → get_or used' j 0 ≡ k → Draft d
+    → listing (record d { packed = d.packed ++ Stores j r ∷ []; used = used' }) ≡ with_instr (listing d) (Store k r)
 slot-pushed d used' k r j g at h =
     pushed (record d { used = used' }) (Stores j r)
     ∙ ap (λ code. with_instr code (Store (get_or used' j 0) r)) (sym (slot-same d used' k g h))
     ∙ ap (λ i. with_instr (listing d) (Store i r)) at
 
-pub draft-store : (d : Parts) (used' : List ℕ) (k r j : ℕ) → Draft d → IsRight (listing d) (Store k r) → Grown d.used used' k → j < length used' → get_or used' j 0 ≡ k → Draft (record d { packed = d.packed ++ Stores j r ∷ []; used = used' })
+pub draft-store : (d : Parts) (used' : List ℕ) (k r j : ℕ) → Draft d → IsRight (listing d) (Store k r) → Grown d.used used' k → j < length used'
+    → get_or used' j 0 ≡ k → Draft (record d { packed = d.packed ++ Stores j r ∷ []; used = used' })
 draft-store d used' k r j h right g below at =
     let s = h.state in
     let p = right-parts (listing d) (Store k r) s h.read right in
@@ -381,7 +428,8 @@ draft-store d used' k r j h right g below at =
       state = p.1;
       read = ap reading (slot-pushed d used' k r j g at h) ∙ reads-on (listing d) (Store k r) s p.1 h.read p.0 p.2;
       packed = all-push (IsPacked d.inputs d.outs (length d.pool) (length used')) d.packed (Stores j r)
-          (all-weaker (Fits d) (IsPacked d.inputs d.outs (length d.pool) (length used')) d.packed (λ p f. packed-more d.inputs d.outs (length d.pool) (length d.pool) (length d.used) (length used') (omega arith) g.longer p f) h.packed)
+          (all-weaker (Fits d) (IsPacked d.inputs d.outs (length d.pool) (length used')) d.packed
+          (λ p f. packed-more d.inputs d.outs (length d.pool) (length d.pool) (length d.used) (length used') (omega arith) g.longer p f) h.packed)
           (below, ltb-true r REGISTERS q.1);
       few_literals = omega (arith, size, h.few_literals);
       few_slots = omega (arith, size, h.few_slots, g.most);
@@ -400,10 +448,22 @@ draft-store d used' k r j h right g below at =
 
     there : (x y : ℕ) → (y ≡ k) ⊎ (y ≢ k) → is_some (put h.state.slots k (Some x) y) ≡ true → IsAmong y used'
     there x y (inl e) f = (j, below, at ∙ sym e)
-    there x y (inr ne) f = let a = h.known y (ap is_some (sym (put-other h.state.slots k (Some x) y ne)) ∙ f) in (a.0, omega (arith, g.longer, a.1), g.same a.0 a.1 ∙ a.2)
+    there x y (inr ne) f = let a = h.known y (ap is_some (sym (put-other h.state.slots k (Some x) y ne)) ∙ f) in
+        (a.0, omega (arith, g.longer, a.1), g.same a.0 a.1 ∙ a.2)
 
 -- nothing so far
-pub draft-empty : (inputs slots labels outs : ℕ) (given : BTreeSet ℕ) → given.keys ≡ [] → Draft (record { inputs = inputs; slots = slots; labels = labels; outs = outs; pool = []; used = []; packed = []; written = replicate REGISTERS false; given = given })
+pub draft-empty : (inputs slots labels outs : ℕ) (given : BTreeSet ℕ) → given.keys ≡ []
+    → Draft (record {
+      inputs = inputs;
+      slots = slots;
+      labels = labels;
+      outs = outs;
+      pool = [];
+      used = [];
+      packed = [];
+      written = replicate REGISTERS false;
+      given = given;
+    })
 draft-empty inputs slots labels outs given none = record {
   state = start outs;
   read = refl;
@@ -446,7 +506,8 @@ number-put : (m n : BTreeMap ℕ ℕ) (k d : ℕ) → tree.Updates nat_cmp m n k
 number-put m n k d h q = h.0 q ∙ ap (λ b. cond b (Some d) (get nat_cmp m q)) (cmp-eq k q)
 
 -- one more slot
-pub numbered-push : (m n : BTreeMap ℕ ℕ) (used : List ℕ) (k d : ℕ) → IsNumbered m used → tree.Updates nat_cmp m n k (Some d) → d ≡ length used → (IsAmong k used → ⊥) → IsNumbered n (used ++ k ∷ [])
+pub numbered-push : (m n : BTreeMap ℕ ℕ) (used : List ℕ) (k d : ℕ) → IsNumbered m used → tree.Updates nat_cmp m n k (Some d) → d ≡ length used
+    → (IsAmong k used → ⊥) → IsNumbered n (used ++ k ∷ [])
 numbered-push m n used k d h updates is away =
     let size = length_push used k in
     record {
@@ -465,27 +526,32 @@ numbered-push m n used k d h updates is away =
 
     all : (j : ℕ) → j < length used + 1 → (j ≡ length used) ⊎ (j ≢ length used) → get nat_cmp n (get_or (used ++ k ∷ []) j 0) ≡ Some j
     all j lt (inl e) =
-        ap (get nat_cmp n) (get_or_push used k 0 j (sym e)) ∙ number-put m n k d updates k ∙ ap (λ b. cond b (Some d) (get nat_cmp m k)) (eq-eqb k k refl) ∙ ap (λ (i : ℕ). Some i) (is ∙ sym e)
+        ap (get nat_cmp n) (get_or_push used k 0 j (sym e)) ∙ number-put m n k d updates k ∙ ap (λ b. cond b (Some d) (get nat_cmp m k)) (eq-eqb k k refl)
+        ∙ ap (λ (i : ℕ). Some i) (is ∙ sym e)
     all j lt (inr ne) =
         let lt' : j < length used = omega arith in
         let q = get_or used j 0 in
         let apart : k ≢ q = λ e. away (j, lt', sym e) in
-        ap (get nat_cmp n) (get_or_append_left used (k ∷ []) 0 j lt') ∙ number-put m n k d updates q ∙ ap (λ b. cond b (Some d) (get nat_cmp m q)) (ne_eqb k q apart) ∙ h.all j lt'
+        ap (get nat_cmp n) (get_or_append_left used (k ∷ []) 0 j lt') ∙ number-put m n k d updates q
+        ∙ ap (λ b. cond b (Some d) (get nat_cmp m q)) (ne_eqb k q apart) ∙ h.all j lt'
 
 pub numbered-distinct : (m : BTreeMap ℕ ℕ) (used : List ℕ) → IsNumbered m used → AreDistinct used
 numbered-distinct m used h = λ i j a b e. some-is i j (sym (h.all i a) ∙ ap (get nat_cmp m) e ∙ h.all j b)
 
 -- ---- whether all outputs were given
 
-pub whole-not : (d : Parts) (k : ℕ) → Draft d → k < d.outs → contains nat_cmp d.given k ≡ false → (s : State) → reading (listing d) ≡ Some s → false ≡ is_some (all_given s.outputs)
+pub whole-not : (d : Parts) (k : ℕ) → Draft d → k < d.outs → contains nat_cmp d.given k ≡ false → (s : State) → reading (listing d) ≡ Some s
+    → false ≡ is_some (all_given s.outputs)
 whole-not d k h lt out s e =
     let same = some-is h.state s (sym h.read ∙ e) in
     subst (λ (t : State). false ≡ is_some (all_given t.outputs)) same (sym (given-not h.state.outputs k (omega (arith, h.count)) (sym (h.given k) ∙ out)))
 
-pub whole-all : (d : Parts) → Draft d → ((k : ℕ) → k < d.outs → contains nat_cmp d.given k ≡ true) → (s : State) → reading (listing d) ≡ Some s → true ≡ is_some (all_given s.outputs)
+pub whole-all : (d : Parts) → Draft d → ((k : ℕ) → k < d.outs → contains nat_cmp d.given k ≡ true) → (s : State) → reading (listing d) ≡ Some s
+    → true ≡ is_some (all_given s.outputs)
 whole-all d h each s e =
     let same = some-is h.state s (sym h.read ∙ e) in
-    subst (λ (t : State). true ≡ is_some (all_given t.outputs)) same (sym (given-each h.state.outputs (λ k lt. sym (h.given k) ∙ each k (omega (arith, h.count)))))
+    subst (λ (t : State). true ≡ is_some (all_given t.outputs)) same
+    (sym (given-each h.state.outputs (λ k lt. sym (h.given k) ∙ each k (omega (arith, h.count)))))
 
 -- what is wrong with the end of code, by whether all outputs were given
 pub end-whole : (code : Listing) (s : State) → reading code ≡ Some s → true ≡ is_some (all_given s.outputs) → code_fault code ≡ None
@@ -514,7 +580,8 @@ pub record Rest (code whole : Listing) (k : ℕ) (left : List Instr) : Type 0 wh
 pub rest-start : (whole : Listing) → Rest (record { counts = whole.counts; instrs = [] }) whole 0 whole.instrs
 rest-start whole = record { state = start whole.counts.outputs; counts = refl; read = refl; fault = refl }
 
-pub rest-next : (code whole : Listing) (k : ℕ) (i : Instr) (left : List Instr) → Rest code whole k (i ∷ left) → wrong_behind code i ≡ None → Rest (with_instr code i) whole (suc k) left
+pub rest-next : (code whole : Listing) (k : ℕ) (i : Instr) (left : List Instr) → Rest code whole k (i ∷ left) → wrong_behind code i ≡ None
+    → Rest (with_instr code i) whole (suc k) left
 rest-next code whole k i left h right =
     let p = right-parts code i h.state h.read right in
     record {
@@ -524,6 +591,7 @@ rest-next code whole k i left h right =
       fault = sym (fault-step whole.counts h.state p.1 k i left (ap (λ n. has_numbers n h.state i) (sym h.counts) ∙ p.0) p.2) ∙ h.fault;
     }
 
-pub rest-wrong : (code whole : Listing) (k : ℕ) (i : Instr) (left : List Instr) (w : Wrong) → Rest code whole k (i ∷ left) → wrong_behind code i ≡ Some w → code_fault whole ≡ Some (placed k w)
+pub rest-wrong : (code whole : Listing) (k : ℕ) (i : Instr) (left : List Instr) (w : Wrong) → Rest code whole k (i ∷ left) → wrong_behind code i ≡ Some w
+    → code_fault whole ≡ Some (placed k w)
 rest-wrong code whole k i left w h wrong =
     sym h.fault ∙ fault-wrong whole.counts h.state k i left w (ap (λ n. wrong_at n h.state i) (sym h.counts) ∙ sym (wrong-is code i h.state h.read) ∙ wrong)

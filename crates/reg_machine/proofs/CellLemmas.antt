@@ -1,5 +1,6 @@
 -- The cells, one instruction after another.
-use Rattle.std.proofs.Common.{◌≡◌, ◌≢◌, ℕ, zero, suc, ◌<◌, ◌≤◌, Bool, true, false, List, [], ◌∷◌, length, get_or, set, map, drop, replicate, Option, None, Some, is_some, refl, ap, sym, ◌∙◌, subst, ⊎_elim, arith, drop-cons}
+use Rattle.std.proofs.Common.{◌≡◌, ◌≢◌, ℕ, zero, suc, ◌<◌, ◌≤◌, Bool, true, false, List, [], ◌∷◌, length, get_or, set, map, drop, replicate, Option, None, Some}
+use Rattle.std.proofs.Common.{is_some, refl, ap, sym, ◌∙◌, subst, ⊎_elim, arith, drop-cons}
 use Rattle.std.specs.Prelude.{if◌then◌else◌}
 use Rattle.std.specs.List.{AllByRecursion}
 use Rattle.std.proofs.lemmas.Bool.{cases_eq}
@@ -27,7 +28,8 @@ all-at P (x ∷ xs) (suc i) d h lt = all-at P xs i d h.1 (omega arith)
 -- values that are all undefined
 pub all-undefined : (values : List Value) → ((k : ℕ) → k < length values → at values k ≡ Undef) → values ≡ replicate (length values) Undef
 all-undefined [] each = refl
-all-undefined (v ∷ values) each = ap (λ x. x ∷ values) (each 0 (omega arith)) ∙ ap (λ xs. Undef ∷ xs) (all-undefined values (λ k lt. each (suc k) (omega arith)))
+all-undefined (v ∷ values) each = ap (λ x. x ∷ values) (each 0 (omega arith))
+    ∙ ap (λ xs. Undef ∷ xs) (all-undefined values (λ k lt. each (suc k) (omega arith)))
 
 at-undefined : (n k : ℕ) → at (replicate n Undef) k ≡ Undef
 at-undefined zero k = refl
@@ -39,7 +41,8 @@ length-undefined zero = refl
 length-undefined (suc n) = ap suc (length-undefined n)
 
 -- cells that are all undefined are those of a machine before its first instruction
-pub mirrors-fresh : (used : List ℕ) (n m : ℕ) (rs ss os : List Value) → n ≡ length used → rs ≡ replicate REGISTERS Undef → ss ≡ replicate n Undef → os ≡ replicate m Undef → (k : ℕ) → k ≡ m → Mirrors used (fresh k) rs ss os
+pub mirrors-fresh : (used : List ℕ) (n m : ℕ) (rs ss os : List Value) → n ≡ length used → rs ≡ replicate REGISTERS Undef → ss ≡ replicate n Undef
+    → os ≡ replicate m Undef → (k : ℕ) → k ≡ m → Mirrors used (fresh k) rs ss os
 mirrors-fresh used n m rs ss os room r s o k e = record {
   width = ap length r ∙ length-undefined REGISTERS;
   room = ap length s ∙ length-undefined n ∙ room;
@@ -50,12 +53,14 @@ mirrors-fresh used n m rs ss os room r s o k e = record {
 }
 
 -- a register is written
-mirrors-register : (used : List ℕ) (m : Machine) (rs ss os : List Value) (r : ℕ) (v w : Value) → Mirrors used m rs ss os → r < REGISTERS → v ≡ w → Mirrors used (record m { registers = put m.registers r w }) (set rs r v) ss os
+mirrors-register : (used : List ℕ) (m : Machine) (rs ss os : List Value) (r : ℕ) (v w : Value) → Mirrors used m rs ss os → r < REGISTERS → v ≡ w
+    → Mirrors used (record m { registers = put m.registers r w }) (set rs r v) ss os
 mirrors-register used m rs ss os r v w h lt is = record {
   width = length-set rs r v ∙ h.width;
   room = h.room;
   registers = λ q below. ⊎_elim
-      (λ (e : q ≡ r). subst (λ j. at (set rs r v) j ≡ put m.registers r w j) (sym e) (get_or-set_same rs r v Undef (omega (arith, h.width)) ∙ is ∙ sym (put-same m.registers r w)))
+      (λ (e : q ≡ r). subst (λ j. at (set rs r v) j ≡ put m.registers r w j) (sym e) (get_or-set_same rs r v Undef (omega (arith, h.width)) ∙ is
+      ∙ sym (put-same m.registers r w)))
       (λ (ne : q ≢ r). get_or-set_other rs r q v Undef ne ∙ h.registers q below ∙ sym (put-other m.registers r w q ne))
       (cases_eq q r);
   slots = h.slots;
@@ -67,12 +72,15 @@ mirrors-register used m rs ss os r v w h lt is = record {
 abbrev stop_by : Bool → ℕ → Value → Value → Option Stop
 stop_by over_only label guard condition = if is_one guard then stop_of over_only label condition else None
 
-same-stop : (used : List ℕ) (m : Machine) (rs ss os : List Value) (g r : ℕ) (over_only : Bool) (label : ℕ) → Mirrors used m rs ss os → g < REGISTERS → r < REGISTERS → stop_by over_only label (m.registers g) (m.registers r) ≡ stop_by over_only label (at rs g) (at rs r)
+same-stop : (used : List ℕ) (m : Machine) (rs ss os : List Value) (g r : ℕ) (over_only : Bool) (label : ℕ) → Mirrors used m rs ss os → g < REGISTERS
+    → r < REGISTERS → stop_by over_only label (m.registers g) (m.registers r) ≡ stop_by over_only label (at rs g) (at rs r)
 same-stop used m rs ss os g r over_only label h a b =
     ap (λ v. stop_by over_only label v (m.registers r)) (sym (h.registers g a)) ∙ ap (λ v. stop_by over_only label (at rs g) v) (sym (h.registers r b))
 
 -- one instruction ends both runs, or none
-mirrors-stop : (inputs pool : List Value) (used : List ℕ) (p : Packed) (m : Machine) (rs ss os : List Value) → IsPacked (length inputs) (length os) (length pool) (length used) p → Mirrors used m rs ss os → (act inputs (unpacked pool used p) m).ended ≡ stop_behind rs p
+mirrors-stop : (inputs pool : List Value) (used : List ℕ) (p : Packed) (m : Machine) (rs ss os : List Value)
+    → IsPacked (length inputs) (length os) (length pool) (length used) p → Mirrors used m rs ss os
+    → (act inputs (unpacked pool used p) m).ended ≡ stop_behind rs p
 mirrors-stop inputs pool used (Take r n) m rs ss os ok h = h.going
 mirrors-stop inputs pool used (Lit r k) m rs ss os ok h = h.going
 mirrors-stop inputs pool used (Do op r a b c) m rs ss os ok h = h.going
@@ -82,12 +90,15 @@ mirrors-stop inputs pool used (Check g r over_only label) m rs ss os ok h = same
 mirrors-stop inputs pool used (Output k r) m rs ss os ok h = h.going
 
 -- one instruction that doesn't end the run
-mirrors-act : (inputs pool : List Value) (used : List ℕ) (p : Packed) (m : Machine) (rs ss os : List Value) → AreDistinct used → IsPacked (length inputs) (length os) (length pool) (length used) p → Mirrors used m rs ss os → stop_behind rs p ≡ None → Mirrors used (act inputs (unpacked pool used p) m) (registers_behind inputs pool rs ss p) (slots_behind rs ss p) (outputs_behind rs os p)
+mirrors-act : (inputs pool : List Value) (used : List ℕ) (p : Packed) (m : Machine) (rs ss os : List Value) → AreDistinct used
+    → IsPacked (length inputs) (length os) (length pool) (length used) p → Mirrors used m rs ss os → stop_behind rs p ≡ None
+    → Mirrors used (act inputs (unpacked pool used p) m) (registers_behind inputs pool rs ss p) (slots_behind rs ss p) (outputs_behind rs os p)
 mirrors-act inputs pool used (Take r n) m rs ss os apart ok h go = mirrors-register used m rs ss os r (at inputs n) (at inputs n) h ok.0 refl
 mirrors-act inputs pool used (Lit r k) m rs ss os apart ok h go = mirrors-register used m rs ss os r (at pool k) (at pool k) h ok.0 refl
 mirrors-act inputs pool used (Do op r a b c) m rs ss os apart ok h go =
     mirrors-register used m rs ss os r (op_value op (at rs a) (at rs b) (at rs c)) (op_value op (m.registers a) (m.registers b) (m.registers c)) h ok.0
-    (ap (λ v. op_value op v (at rs b) (at rs c)) (h.registers a ok.1) ∙ ap (λ v. op_value op (m.registers a) v (at rs c)) (h.registers b ok.2) ∙ ap (λ v. op_value op (m.registers a) (m.registers b) v) (h.registers c ok.3))
+    (ap (λ v. op_value op v (at rs b) (at rs c)) (h.registers a ok.1) ∙ ap (λ v. op_value op (m.registers a) v (at rs c)) (h.registers b ok.2)
+    ∙ ap (λ v. op_value op (m.registers a) (m.registers b) v) (h.registers c ok.3))
 mirrors-act inputs pool used (Store k r) m rs ss os apart ok h go = record {
   width = h.width;
   room = length-set ss k (at rs r) ∙ h.room;
@@ -95,12 +106,14 @@ mirrors-act inputs pool used (Store k r) m rs ss os apart ok h go = record {
   slots = λ d below. ⊎_elim
       (λ (e : d ≡ k). subst (λ j. at (set ss k (at rs r)) j ≡ put m.slots (get_or used k 0) (m.registers r) (get_or used j 0)) (sym e)
       (get_or-set_same ss k (at rs r) Undef (omega (arith, ok.0, h.room)) ∙ h.registers r ok.1 ∙ sym (put-same m.slots (get_or used k 0) (m.registers r))))
-      (λ (ne : d ≢ k). get_or-set_other ss k d (at rs r) Undef ne ∙ h.slots d below ∙ sym (put-other m.slots (get_or used k 0) (m.registers r) (get_or used d 0) (λ e. ne (apart d k below ok.0 e))))
+      (λ (ne : d ≢ k). get_or-set_other ss k d (at rs r) Undef ne ∙ h.slots d below
+      ∙ sym (put-other m.slots (get_or used k 0) (m.registers r) (get_or used d 0) (λ e. ne (apart d k below ok.0 e))))
       (cases_eq d k);
   outputs = h.outputs;
   going = h.going;
 }
-mirrors-act inputs pool used (Load r k) m rs ss os apart ok h go = mirrors-register used m rs ss os r (at ss k) (m.slots (get_or used k 0)) h ok.0 (h.slots k ok.1)
+mirrors-act inputs pool used (Load r k) m rs ss os apart ok h go = mirrors-register used m rs ss os r (at ss k) (m.slots (get_or used k 0)) h ok.0
+    (h.slots k ok.1)
 mirrors-act inputs pool used (Check g r over_only label) m rs ss os apart ok h go = record {
   width = h.width;
   room = h.room;
@@ -127,21 +140,27 @@ acts-ended inputs m stop (i ∷ is) e = ap (λ o. acts inputs (act_at inputs o i
 abbrev pub Instrs : List Value → List ℕ → List Packed → List Instr
 Instrs pool used packed = map (unpacked pool used) packed
 
-acts-from : (inputs pool : List Value) (used : List ℕ) (packed : List Packed) (m : Machine) (i : ℕ) (p : Packed) → i < length packed → p ≡ get_or packed i p → m.ended ≡ None → acts inputs m (Instrs pool used (drop i packed)) ≡ acts inputs (act inputs (unpacked pool used p) m) (Instrs pool used (drop (suc i) packed))
+acts-from : (inputs pool : List Value) (used : List ℕ) (packed : List Packed) (m : Machine) (i : ℕ) (p : Packed) → i < length packed → p ≡ get_or packed i p
+    → m.ended ≡ None → acts inputs m (Instrs pool used (drop i packed)) ≡ acts inputs (act inputs (unpacked pool used p) m)
+    (Instrs pool used (drop (suc i) packed))
 acts-from inputs pool used packed m i p lt is e =
     ap (λ ps. acts inputs m (Instrs pool used ps)) (drop-cons packed i p lt)
     ∙ ap (λ q. acts inputs (act_at inputs m.ended (unpacked pool used q) m) (Instrs pool used (drop (suc i) packed))) (sym is)
     ∙ ap (λ o. acts inputs (act_at inputs o (unpacked pool used p) m) (Instrs pool used (drop (suc i) packed))) e
 
-pub goes-start : (inputs pool : List Value) (used : List ℕ) (packed : List Packed) (first : Machine) (rs ss os : List Value) → Mirrors used first rs ss os → GoesOn inputs pool used packed first 0 rs ss os
+pub goes-start : (inputs pool : List Value) (used : List ℕ) (packed : List Packed) (first : Machine) (rs ss os : List Value) → Mirrors used first rs ss os
+    → GoesOn inputs pool used packed first 0 rs ss os
 goes-start inputs pool used packed first rs ss os h = record { now = first; mirrors = h; rest = refl }
 
 -- its numbers are below the counts
-pub goes-ok : (inputs pool : List Value) (used : List ℕ) (packed : List Packed) (n : ℕ) (i : ℕ) (p : Packed) (first : Machine) (rs ss os : List Value) → AllByRecursion (IsPacked (length inputs) n (length pool) (length used)) packed → length os ≡ n → i < length packed → p ≡ get_or packed i p → GoesOn inputs pool used packed first i rs ss os → IsPacked (length inputs) (length os) (length pool) (length ss) p
+pub goes-ok : (inputs pool : List Value) (used : List ℕ) (packed : List Packed) (n : ℕ) (i : ℕ) (p : Packed) (first : Machine) (rs ss os : List Value)
+    → AllByRecursion (IsPacked (length inputs) n (length pool) (length used)) packed → length os ≡ n → i < length packed → p ≡ get_or packed i p
+    → GoesOn inputs pool used packed first i rs ss os → IsPacked (length inputs) (length os) (length pool) (length ss) p
 goes-ok inputs pool used packed n i p first rs ss os all size lt is h =
     subst (λ k. IsPacked (length inputs) k (length pool) (length ss) p) (sym size)
     (subst (λ k. IsPacked (length inputs) n (length pool) k p) (sym h.mirrors.room)
-    (subst (IsPacked (length inputs) n (length pool) (length used)) (sym is) (all-at (IsPacked (length inputs) n (length pool) (length used)) packed i p all lt)))
+    (subst (IsPacked (length inputs) n (length pool) (length used)) (sym is) (all-at (IsPacked (length inputs) n (length pool) (length used)) packed i p all
+    lt)))
 
 no-stop : (o : Option Stop) → is_some o ≡ false → o ≡ None
 no-stop None e = refl
@@ -176,7 +195,11 @@ at-any [] i d e lt = absurd (omega arith)
 at-any (x ∷ xs) zero d e lt = refl
 at-any (x ∷ xs) (suc i) d e lt = at-any xs i d e (omega arith)
 
-pub goes-next : (inputs pool : List Value) (used : List ℕ) (packed : List Packed) (i j : ℕ) (p : Packed) (first : Machine) (rs ss os rs' ss' os' : List Value) → AreDistinct used → i < length packed → p ≡ get_or packed i p → IsPacked (length inputs) (length os) (length pool) (length ss) p → GoesOn inputs pool used packed first i rs ss os → (o : Option Stop) → is_some o ≡ false → o ≡ stop_behind rs p → suc i ≡ j → rs' ≡ registers_behind inputs pool rs ss p → ss' ≡ slots_behind rs ss p → os' ≡ outputs_behind rs os p → GoesOn inputs pool used packed first j rs' ss' os'
+pub goes-next : (inputs pool : List Value) (used : List ℕ) (packed : List Packed) (i j : ℕ) (p : Packed) (first : Machine) (rs ss os rs' ss' os' : List Value)
+    → AreDistinct used → i < length packed → p ≡ get_or packed i p → IsPacked (length inputs) (length os) (length pool) (length ss) p
+    → GoesOn inputs pool used packed first i rs ss os → (o : Option Stop) → is_some o ≡ false → o ≡ stop_behind rs p → suc i ≡ j
+    → rs' ≡ registers_behind inputs pool rs ss p → ss' ≡ slots_behind rs ss p → os' ≡ outputs_behind rs os p
+    → GoesOn inputs pool used packed first j rs' ss' os'
 goes-next inputs pool used packed i j p first rs ss os rs' ss' os' apart lt is ok h stop none go e r s o =
     let ok' = subst (λ k. IsPacked (length inputs) (length os) (length pool) k p) h.mirrors.room ok in
     let mirrors = mirrors-act inputs pool used p h.now rs ss os apart ok' h.mirrors (sym go ∙ no-stop stop none) in
@@ -184,23 +207,34 @@ goes-next inputs pool used packed i j p first rs ss os rs' ss' os' apart lt is o
     (subst (λ vs. GoesOn inputs pool used packed first (suc i) vs ss' os') (sym r)
     (subst (λ vs. GoesOn inputs pool used packed first (suc i) (registers_behind inputs pool rs ss p) vs os') (sym s)
     (subst (λ vs. GoesOn inputs pool used packed first (suc i) (registers_behind inputs pool rs ss p) (slots_behind rs ss p) vs) (sym o)
-    (record { now = act inputs (unpacked pool used p) h.now; mirrors = mirrors; rest = sym (acts-from inputs pool used packed h.now i p lt is h.mirrors.going) ∙ h.rest }))))
+    (record {
+      now = act inputs (unpacked pool used p) h.now;
+      mirrors = mirrors;
+      rest = sym (acts-from inputs pool used packed h.now i p lt is h.mirrors.going)
+          ∙ h.rest;
+    }))))
 
 -- the run ends at this instruction
-pub goes-stop : (inputs pool : List Value) (used : List ℕ) (packed : List Packed) (n i : ℕ) (p : Packed) (rs ss os outputs : List Value) (o : Option Stop) → i < length packed → p ≡ get_or packed i p → IsPacked (length inputs) (length os) (length pool) (length ss) p → GoesOn inputs pool used packed (fresh n) i rs ss os → is_some o ≡ true → o ≡ stop_behind rs p → answer_of o outputs ≡ answer_behind inputs n (Instrs pool used packed)
+pub goes-stop : (inputs pool : List Value) (used : List ℕ) (packed : List Packed) (n i : ℕ) (p : Packed) (rs ss os outputs : List Value) (o : Option Stop)
+    → i < length packed → p ≡ get_or packed i p → IsPacked (length inputs) (length os) (length pool) (length ss) p
+    → GoesOn inputs pool used packed (fresh n) i rs ss os → is_some o ≡ true → o ≡ stop_behind rs p
+    → answer_of o outputs ≡ answer_behind inputs n (Instrs pool used packed)
 goes-stop inputs pool used packed n i p rs ss os outputs o lt is ok h some e =
     let found = a-stop o some in
     let stop = found.0 in
     let ok' = subst (λ k. IsPacked (length inputs) (length os) (length pool) k p) h.mirrors.room ok in
     let end = act inputs (unpacked pool used p) h.now in
     let ended : end.ended ≡ Some stop = mirrors-stop inputs pool used p h.now rs ss os ok' h.mirrors ∙ sym e ∙ found.1 in
-    let whole : end ≡ acts inputs (fresh n) (Instrs pool used packed) = sym (acts-ended inputs end stop (Instrs pool used (drop (suc i) packed)) ended) ∙ sym (acts-from inputs pool used packed h.now i p lt is h.mirrors.going) ∙ h.rest in
+    let whole : end ≡ acts inputs (fresh n) (Instrs pool used packed) = sym (acts-ended inputs end stop (Instrs pool used (drop (suc i) packed)) ended)
+    ∙ sym (acts-from inputs pool used packed h.now i p lt is h.mirrors.going) ∙ h.rest in
     ap (λ o. answer_of o outputs) found.1
     ∙ subst (λ (m : Machine). answer_of (Some stop) outputs ≡ answer_of m.ended m.outputs) whole (ap (λ o. answer_of o end.outputs) (sym ended))
 
 -- the run goes through all instructions
-pub goes-end : (inputs pool : List Value) (used : List ℕ) (packed : List Packed) (n i : ℕ) (rs ss os : List Value) → length packed ≤ i → GoesOn inputs pool used packed (fresh n) i rs ss os → answer_of None os ≡ answer_behind inputs n (Instrs pool used packed)
+pub goes-end : (inputs pool : List Value) (used : List ℕ) (packed : List Packed) (n i : ℕ) (rs ss os : List Value) → length packed ≤ i
+    → GoesOn inputs pool used packed (fresh n) i rs ss os → answer_of None os ≡ answer_behind inputs n (Instrs pool used packed)
 goes-end inputs pool used packed n i rs ss os le h =
-    let whole : h.now ≡ acts inputs (fresh n) (Instrs pool used packed) = ap (λ ps. acts inputs h.now (Instrs pool used ps)) (sym (drop_all i packed le)) ∙ h.rest in
+    let whole : h.now ≡ acts inputs (fresh n) (Instrs pool used packed) = ap (λ ps. acts inputs h.now (Instrs pool used ps)) (sym (drop_all i packed le))
+    ∙ h.rest in
     subst (λ (m : Machine). answer_of None os ≡ answer_of m.ended m.outputs) whole
     (ap (λ vs. answer_of None vs) h.mirrors.outputs ∙ ap (λ o. answer_of o h.now.outputs) (sym h.mirrors.going))

@@ -1,5 +1,6 @@
 -- Code, what is wrong with it, and the flat program that it spells.
-use Rattle.std.specs.Prelude.{ℕ, suc, ◌==◌, nat_lt, nat_le, ◌&&◌, ◌||◌, Bool, is_none, slice_index_or, List, [], ◌∷◌, ◌++◌, length, replicate, fold, slice_set, Option, Some, None, if◌then◌else◌}
+use Rattle.std.specs.Prelude.{ℕ, suc, ◌==◌, nat_lt, nat_le, ◌&&◌, ◌||◌, Bool, is_none, slice_index_or, List, [], ◌∷◌, ◌++◌, length, replicate, fold, slice_set}
+use Rattle.std.specs.Prelude.{Option, Some, None, if◌then◌else◌}
 use Rattle.std.specs.Option.{option_and_then, option_map, option_map_or}
 use Rattle.m_fixed.specs.declared.operator.Op.{Op}
 use Rattle.m_fixed.specs.Operators.{arity_of}
@@ -39,7 +40,10 @@ with_instr code instr = record code { instrs = code.instrs ++ instr ∷ [] }
 
 -- code with another count of slots
 abbrev pub with_slots : Listing → ℕ → Listing
-with_slots code slots = record { counts = record { inputs = code.counts.inputs; slots = slots; labels = code.counts.labels; outputs = code.counts.outputs }; instrs = code.instrs }
+with_slots code slots = record {
+  counts = record { inputs = code.counts.inputs; slots = slots; labels = code.counts.labels; outputs = code.counts.outputs };
+  instrs = code.instrs;
+}
 
 -- ---- what is known of code so far
 
@@ -104,7 +108,8 @@ moved (Store k r) s =
 moved (Load r k) s =
     option_map (λ x. record s { registers = put s.registers r (Some x); loaded = put s.loaded x (suc (s.loaded x)) }) (s.slots k)
 moved (Test g r over_only label) s =
-    option_and_then (λ x. option_map (λ y. record s { checks = s.checks ++ record { guard = x; condition = y; over_only = over_only; label = label } ∷ [] }) (s.registers r)) (s.registers g)
+    option_and_then (λ x. option_map (λ y. record s { checks = s.checks ++ record { guard = x; condition = y; over_only = over_only; label = label } ∷ [] })
+    (s.registers r)) (s.registers g)
 moved (Output k r) s = option_map (λ x. record s { outputs = slice_set s.outputs k (Some x) }) (s.registers r)
 
 -- what is known after an instruction of which nothing is wrong

@@ -7,7 +7,8 @@ use Rattle.register_alloc.specs.inner.Chain.{IsNext}
 use Rattle.register_alloc.proofs.OutputLemmas.{part-other}
 
 -- outputs of other nodes are passed over
-part-skip : (p d k j : ℕ) (outputs : List ℕ) → k + d ≡ j → j ≤ length outputs → ((i : ℕ) → k ≤ i → i < j → get_or outputs i 0 ≢ p) → given_part p k outputs ≡ given_part p j outputs
+part-skip : (p d k j : ℕ) (outputs : List ℕ) → k + d ≡ j → j ≤ length outputs → ((i : ℕ) → k ≤ i → i < j → get_or outputs i 0 ≢ p)
+    → given_part p k outputs ≡ given_part p j outputs
 part-skip p zero k j outputs e le others = ap (λ m. given_part p m outputs) (let z : k ≡ j = omega arith in z)
 part-skip p (suc d) k j outputs e le others =
     let lt : k < length outputs = omega arith in
@@ -21,6 +22,7 @@ part-next-output p k j outputs h =
     part-skip p (j - k) k j outputs (omega arith) h.within h.between
 
 -- the next output of a node
-pub sound-skip : {flat : Flat} {made read checked : ℕ} {code : Listing} {r s : ℕ → Option ℕ} {n : ℕ} (p k j : ℕ) (outputs : List ℕ) → Sound flat made read checked (given_part p k outputs) code r s n → IsNext outputs p k j → Sound flat made read checked (given_part p j outputs) code r s n
+pub sound-skip : {flat : Flat} {made read checked : ℕ} {code : Listing} {r s : ℕ → Option ℕ} {n : ℕ} (p k j : ℕ) (outputs : List ℕ)
+    → Sound flat made read checked (given_part p k outputs) code r s n → IsNext outputs p k j → Sound flat made read checked (given_part p j outputs) code r s n
 sound-skip {flat} {made} {read} {checked} {code} {r} {s} {n} p k j outputs h next =
     subst (λ (given : List (Option ℕ)). Sound flat made read checked given code r s n) (part-next-output p k j outputs next) h

@@ -69,7 +69,8 @@ places f p (suc m) n apart each =
     omega (arith, without-one p h.0 n h.2 h.3)
 
 -- and with one more number that passes and isn't in the table
-pub places-and : (f : ℕ → Option ℕ) (p : ℕ → Bool) (m n y : ℕ) → AreApart f → Fills f p m n → p y ≡ true → y < n → ((k : ℕ) → k < m → f k ≡ Some y → ⊥) → m < count_below p n
+pub places-and : (f : ℕ → Option ℕ) (p : ℕ → Bool) (m n y : ℕ) → AreApart f → Fills f p m n → p y ≡ true → y < n → ((k : ℕ) → k < m → f k ≡ Some y → ⊥)
+    → m < count_below p n
 places-and f p m n y apart each passes lt away =
     let rest : m ≤ count_below (without p y) n = places f (without p y) m n apart (fills-without f p m n y each away) in
     omega (arith, without-one p y n passes lt)
@@ -79,7 +80,8 @@ below-width flat q zero lt = absurd (omega arith)
 below-width flat q (suc n) lt =
     ⊎_elim
     (λ (e : n ≡ q).
-    let same : count_below (is_held flat n) (length flat.nodes) ≡ count_below (is_held flat q) (length flat.nodes) = ap (λ p. count_below (is_held flat p) (length flat.nodes)) e in
+    let same : count_below (is_held flat n) (length flat.nodes) ≡ count_below (is_held flat q) (length flat.nodes) = ap
+    (λ p. count_below (is_held flat p) (length flat.nodes)) e in
     omega arith)
     (λ (ne : n ≢ q).
     let lt' : q < n = omega arith in

@@ -1,5 +1,6 @@
 -- Slots with their index and their free list, one change after another.
-use Rattle.std.proofs.Common.{◌≡◌, ◌≢◌, ℕ, zero, suc, ◌+◌, ◌<◌, ◌≤◌, true, cond, eqb, ◌⊎◌, List, [], ◌∷◌, ◌++◌, length, set, Option, None, Some, is_some, refl, ap, sym, ◌∙◌, subst, inl, inr, ⊎_elim, arith}
+use Rattle.std.proofs.Common.{◌≡◌, ◌≢◌, ℕ, zero, suc, ◌+◌, ◌<◌, ◌≤◌, true, cond, eqb, ◌⊎◌, List, [], ◌∷◌, ◌++◌, length, set, Option, None, Some, is_some, refl}
+use Rattle.std.proofs.Common.{ap, sym, ◌∙◌, subst, inl, inr, ⊎_elim, arith}
 use Rattle.std.proofs.lemmas.Bool.{cases_eq, cases_lt, eq-eqb, ne_eqb}
 use Rattle.std.proofs.lemmas.List.{get_or_push, get_or_past, get_or_append_left, length_push, length-set}
 use Rattle.std.proofs.lemmas.List.Sums.{sum_by_push}
@@ -34,14 +35,16 @@ put-free f k x j e =
     (ne, sym (put-other f k (Some x) j ne) ∙ e)
 
 -- a node that is nowhere gets a slot without an owner
-placed-put : (owners places : ℕ → Option ℕ) (k x : ℕ) → ((j y : ℕ) → owners j ≡ Some y → places y ≡ Some j) → ((j : ℕ) → owners j ≡ Some x → ⊥) → (j y : ℕ) → put owners k (Some x) j ≡ Some y → put places x (Some k) y ≡ Some j
+placed-put : (owners places : ℕ → Option ℕ) (k x : ℕ) → ((j y : ℕ) → owners j ≡ Some y → places y ≡ Some j) → ((j : ℕ) → owners j ≡ Some x → ⊥) → (j y : ℕ)
+    → put owners k (Some x) j ≡ Some y → put places x (Some k) y ≡ Some j
 placed-put owners places k x placed away j y e =
     ⊎_elim
     (λ p. subst (λ z. put places x (Some k) z ≡ Some j) p.1 (put-same places x (Some k) ∙ ap (λ (n : ℕ). Some n) (sym p.0)))
     (λ p. let ne : y ≢ x = λ is. away j (p.1 ∙ ap (λ (n : ℕ). Some n) is) in put-other places x (Some k) y ne ∙ placed j y p.1)
     (put-cases owners k x j y e)
 
-owned-put : (owners places : ℕ → Option ℕ) (k x : ℕ) → ((y j : ℕ) → places y ≡ Some j → owners j ≡ Some y) → owners k ≡ None → (y j : ℕ) → put places x (Some k) y ≡ Some j → put owners k (Some x) j ≡ Some y
+owned-put : (owners places : ℕ → Option ℕ) (k x : ℕ) → ((y j : ℕ) → places y ≡ Some j → owners j ≡ Some y) → owners k ≡ None → (y j : ℕ)
+    → put places x (Some k) y ≡ Some j → put owners k (Some x) j ≡ Some y
 owned-put owners places k x owned free y j e =
     ⊎_elim
     (λ p. subst (λ z. put owners k (Some x) z ≡ Some y) p.1 (put-same owners k (Some x) ∙ ap (λ (n : ℕ). Some n) (sym p.0)))
@@ -54,7 +57,8 @@ owned-put owners places k x owned free y j e =
 pub free-last : {owners places : ℕ → Option ℕ} {n : ℕ} (free : List ℕ) (k : ℕ) → IsIndexed owners places n (free ++ k ∷ []) → (k < n) × (owners k ≡ None)
 free-last {owners} {places} {n} free k h = h.empty k (omega (arith, times-same k free))
 
-pub indexed-reuse : {owners places : ℕ → Option ℕ} {n : ℕ} (free : List ℕ) (k x : ℕ) → IsIndexed owners places n (free ++ k ∷ []) → ((j : ℕ) → owners j ≡ Some x → ⊥) → IsIndexed (put owners k (Some x)) (put places x (Some k)) n free
+pub indexed-reuse : {owners places : ℕ → Option ℕ} {n : ℕ} (free : List ℕ) (k x : ℕ) → IsIndexed owners places n (free ++ k ∷ [])
+    → ((j : ℕ) → owners j ≡ Some x → ⊥) → IsIndexed (put owners k (Some x)) (put places x (Some k)) n free
 indexed-reuse {owners} {places} {n} free k x h away =
     let last = free-last free k h in
     let once : times k free ≡ 0 = let one = h.listed k last.0 last.1 in omega (arith, times-same k free) in
@@ -68,7 +72,8 @@ indexed-reuse {owners} {places} {n} free k x h away =
       listed = λ j lt e. let p = put-free owners k x j e in sym (times-other j k free p.0) ∙ h.listed j lt p.1;
     }
 
-pub indexed-new : {owners places : ℕ → Option ℕ} {n : ℕ} (x : ℕ) → IsIndexed owners places n [] → owners n ≡ None → ((j : ℕ) → owners j ≡ Some x → ⊥) → IsIndexed (put owners n (Some x)) (put places x (Some n)) (suc n) []
+pub indexed-new : {owners places : ℕ → Option ℕ} {n : ℕ} (x : ℕ) → IsIndexed owners places n [] → owners n ≡ None → ((j : ℕ) → owners j ≡ Some x → ⊥)
+    → IsIndexed (put owners n (Some x)) (put places x (Some n)) (suc n) []
 indexed-new {owners} {places} {n} x h past away = record {
   placed = placed-put owners places n x h.placed away;
   owned = owned-put owners places n x h.owned past;
@@ -77,7 +82,8 @@ indexed-new {owners} {places} {n} x h past away = record {
 }
 
 -- a slot loses its owner
-pub indexed-clear : {owners places : ℕ → Option ℕ} {n : ℕ} {free : List ℕ} (k x : ℕ) → IsIndexed owners places n free → owners k ≡ Some x → k < n → IsIndexed (put owners k None) (put places x None) n (free ++ k ∷ [])
+pub indexed-clear : {owners places : ℕ → Option ℕ} {n : ℕ} {free : List ℕ} (k x : ℕ) → IsIndexed owners places n free → owners k ≡ Some x → k < n
+    → IsIndexed (put owners k None) (put places x None) n (free ++ k ∷ [])
 indexed-clear {owners} {places} {n} {free} k x h at lt = record {
   placed = λ j y e.
       let p = put-none owners k j y e in
@@ -91,7 +97,11 @@ indexed-clear {owners} {places} {n} {free} k x h at lt = record {
   empty = λ j some.
       ⊎_elim
       (λ (is : j ≡ k). (let z : j < n = omega arith in z, ap (put owners k None) is ∙ put-same owners k None))
-      (λ (ne : j ≢ k). let more : 0 < times j free = omega (arith, times-other j k free ne) in ((h.empty j more).0, put-other owners k None j ne ∙ (h.empty j more).1))
+      (λ (ne : j ≢ k). let more : 0 < times j free = omega (arith, times-other j k free ne) in (
+        (h.empty j more).0,
+        put-other owners k None j ne
+            ∙ (h.empty j more).1,
+      ))
       (cases_eq j k);
   listed = λ j lt e.
       ⊎_elim
@@ -111,7 +121,8 @@ pub look-push : (table : List (Option ℕ)) (entry : Option ℕ) → put (look t
 look-push table entry =
     let each : (j : ℕ) → put (look table) (length table) entry j ≡ look (table ++ entry ∷ []) j = λ j.
     ⊎_elim
-    (λ (is : j ≡ length table). subst (λ i. put (look table) (length table) entry i ≡ look (table ++ entry ∷ []) i) (sym is) (put-same (look table) (length table) entry ∙ sym (get_or_push table entry None (length table) refl)))
+    (λ (is : j ≡ length table). subst (λ i. put (look table) (length table) entry i ≡ look (table ++ entry ∷ []) i) (sym is)
+    (put-same (look table) (length table) entry ∙ sym (get_or_push table entry None (length table) refl)))
     (λ (ne : j ≢ length table). put-other (look table) (length table) entry j ne ∙ other j ne)
     (cases_eq j (length table)) in
     λ i. λ j. each j i
@@ -123,7 +134,8 @@ look-push table entry =
         (cases_lt j (length table))
 
 -- `indexed-clear` of lists
-pub indexed-cleared : (owners places : List (Option ℕ)) (free : List ℕ) (k x : ℕ) → IsIndexed (look owners) (look places) (length owners) free → look owners k ≡ Some x → IsIndexed (look (set owners k None)) (look (set places x None)) (length (set owners k None)) (free ++ k ∷ [])
+pub indexed-cleared : (owners places : List (Option ℕ)) (free : List ℕ) (k x : ℕ) → IsIndexed (look owners) (look places) (length owners) free
+    → look owners k ≡ Some x → IsIndexed (look (set owners k None)) (look (set places x None)) (length (set owners k None)) (free ++ k ∷ [])
 indexed-cleared owners places free k x h at =
     let lt = look-within owners k x at in
     let lt' = look-within places x k (h.placed k x at) in
@@ -133,24 +145,31 @@ indexed-cleared owners places free k x h at =
     (indexed-clear k x h at lt)))
 
 -- what a cleared list says
-pub cleared-only : (owners : List (Option ℕ)) (k x : ℕ) → ((i j y : ℕ) → look owners i ≡ Some y → look owners j ≡ Some y → i ≡ j) → look owners k ≡ Some x → (j y : ℕ) → look (set owners k None) j ≡ Some y → (look owners j ≡ Some y) × (y ≢ x)
+pub cleared-only : (owners : List (Option ℕ)) (k x : ℕ) → ((i j y : ℕ) → look owners i ≡ Some y → look owners j ≡ Some y → i ≡ j) → look owners k ≡ Some x
+    → (j y : ℕ) → look (set owners k None) j ≡ Some y → (look owners j ≡ Some y) × (y ≢ x)
 cleared-only owners k x apart at j y e =
     let p = put-none (look owners) k j y (ap (λ f. f j) (look-set owners k None (look-within owners k x at)) ∙ e) in
     (p.1, λ is. p.0 (apart j k y p.1 (at ∙ ap (λ (n : ℕ). Some n) (sym is))))
 
-pub indexed-apart : (owners places : ℕ → Option ℕ) (n : ℕ) (free : List ℕ) → IsIndexed owners places n free → (i j y : ℕ) → owners i ≡ Some y → owners j ≡ Some y → i ≡ j
+pub indexed-apart : (owners places : ℕ → Option ℕ) (n : ℕ) (free : List ℕ) → IsIndexed owners places n free → (i j y : ℕ) → owners i ≡ Some y
+    → owners j ≡ Some y → i ≡ j
 indexed-apart owners places n free h i j y a b = same-number i j (sym (h.placed i y a) ∙ h.placed j y b)
 
 -- `indexed-reuse` and `indexed-new` of lists, where the table of places was made longer
-pub indexed-reused : (owners places places' : List (Option ℕ)) (free : List ℕ) (k x : ℕ) → IsIndexed (look owners) (look places) (length owners) (free ++ k ∷ []) → ((j : ℕ) → look places' j ≡ look places j) → x < length places' → ((j : ℕ) → look owners j ≡ Some x → ⊥) → IsIndexed (look (set owners k (Some x))) (look (set places' x (Some k))) (length (set owners k (Some x))) free
+pub indexed-reused : (owners places places' : List (Option ℕ)) (free : List ℕ) (k x : ℕ)
+    → IsIndexed (look owners) (look places) (length owners) (free ++ k ∷ []) → ((j : ℕ) → look places' j ≡ look places j) → x < length places'
+    → ((j : ℕ) → look owners j ≡ Some x → ⊥) → IsIndexed (look (set owners k (Some x))) (look (set places' x (Some k))) (length (set owners k (Some x))) free
 indexed-reused owners places places' free k x h same lt away =
-    let h' : IsIndexed (look owners) (look places') (length owners) (free ++ k ∷ []) = subst (λ f. IsIndexed (look owners) f (length owners) (free ++ k ∷ [])) (λ i. λ j. sym (same j) i) h in
+    let h' : IsIndexed (look owners) (look places') (length owners) (free ++ k ∷ []) = subst (λ f. IsIndexed (look owners) f (length owners) (free ++ k ∷ []))
+    (λ i. λ j. sym (same j) i) h in
     subst (λ n. IsIndexed (look (set owners k (Some x))) (look (set places' x (Some k))) n free) (sym (length-set owners k (Some x)))
     (subst (λ f. IsIndexed f (look (set places' x (Some k))) (length owners) free) (look-set owners k (Some x) (free-last free k h).0)
     (subst (λ f. IsIndexed (put (look owners) k (Some x)) f (length owners) free) (look-set places' x (Some k) lt)
     (indexed-reuse free k x h' away)))
 
-pub indexed-grown : (owners places places' : List (Option ℕ)) (x : ℕ) → IsIndexed (look owners) (look places) (length owners) [] → ((j : ℕ) → look places' j ≡ look places j) → x < length places' → ((j : ℕ) → look owners j ≡ Some x → ⊥) → IsIndexed (look (owners ++ Some x ∷ [])) (look (set places' x (Some (length owners)))) (length (owners ++ Some x ∷ [])) []
+pub indexed-grown : (owners places places' : List (Option ℕ)) (x : ℕ) → IsIndexed (look owners) (look places) (length owners) []
+    → ((j : ℕ) → look places' j ≡ look places j) → x < length places' → ((j : ℕ) → look owners j ≡ Some x → ⊥)
+    → IsIndexed (look (owners ++ Some x ∷ [])) (look (set places' x (Some (length owners)))) (length (owners ++ Some x ∷ [])) []
 indexed-grown owners places places' x h same lt away =
     let n = length owners in
     let h' : IsIndexed (look owners) (look places') n [] = subst (λ f. IsIndexed (look owners) f n []) (λ i. λ j. sym (same j) i) h in

@@ -1,12 +1,14 @@
 -- The allocator's invariant, one instruction after another.
-use Rattle.std.proofs.Common.{◌≡◌, ◌≢◌, ℕ, zero, suc, ◌+◌, ◌-◌, ◌*◌, ◌<◌, ◌≤◌, Bool, true, false, cond, eqb, ltb, max, ◌⊎◌, List, [], ◌∷◌, ◌++◌, length, get_or, set, take, drop, map, Option, None, Some, is_some, refl, ap, sym, ◌∙◌, subst, inl, inr, ⊎_elim, arith}
+use Rattle.std.proofs.Common.{◌≡◌, ◌≢◌, ℕ, zero, suc, ◌+◌, ◌-◌, ◌*◌, ◌<◌, ◌≤◌, Bool, true, false, cond, eqb, ltb, max, ◌⊎◌, List, [], ◌∷◌, ◌++◌, length, get_or}
+use Rattle.std.proofs.Common.{set, take, drop, map, Option, None, Some, is_some, refl, ap, sym, ◌∙◌, subst, inl, inr, ⊎_elim, arith}
 use mathlib.Core.Bool.{◌&&◌}
 use Rattle.std.specs.Prelude.{if◌then◌else◌}
 use Rattle.std.specs.Option.{option_and_then, option_map, option_map_or, is_none}
 use Rattle.std.specs.List.{sum_by}
 use Rattle.std.proofs.Math.Seq.{take-suc, drop-cons}
 use Rattle.std.proofs.lemmas.Bool.{cases_eq, and_from, lt-ltb, le-ltb, cases_lt, or_left, eq-eqb, true≢false}
-use Rattle.std.proofs.lemmas.List.{length-take-le, get_or_at, length-map, length-append, map-append, append_assoc, append-nil, set_at, take-append-drop, take_all, drop_all, length_push}
+use Rattle.std.proofs.lemmas.List.{length-take-le, get_or_at, length-map, length-append, map-append, append_assoc, append-nil, set_at, take-append-drop}
+use Rattle.std.proofs.lemmas.List.{take_all, drop_all, length_push}
 use Rattle.std.proofs.lemmas.List.Sums.{fold_push, sum_by_push}
 use Rattle.m_fixed.specs.declared.amount.Value.TheVariants.{Undef}
 use Rattle.m_fixed.specs.declared.operator.Op.{Op}
@@ -19,7 +21,8 @@ use Rattle.reg_machine.specs.declared.instr.TheConstants.{REGISTERS}
 use Rattle.reg_machine.specs.declared.instr.Instr.{Instr}
 use Rattle.reg_machine.specs.declared.instr.Instr.TheVariants.{Store, Load, Check as Test, Output}
 use Rattle.reg_machine.specs.declared.wrong.Wrong.TheVariants.{Number as NumberWrong, Order as OrderWrong}
-use Rattle.reg_machine.specs.Flow.{Counts, Listing, State, put, start, step, with_node, with_instr, with_slots, has_numbers, moved, reading, wrong_at, wrong_behind, repeats_first, loads_of}
+use Rattle.reg_machine.specs.Flow.{Counts, Listing, State, put, start, step, with_node, with_instr, with_slots, has_numbers, moved, reading, wrong_at}
+use Rattle.reg_machine.specs.Flow.{wrong_behind, repeats_first, loads_of}
 use Rattle.reg_machine.proofs.BuilderLemmas.{reads-on, wrong-is}
 use Rattle.register_alloc.specs.declared.moment.TheConstants.{MOST}
 use Rattle.register_alloc.specs.declared.sources.Sources.{Sources}
@@ -27,15 +30,20 @@ use Rattle.register_alloc.specs.Width.{reads, check_reads, reads_by, tests_by, o
 use Rattle.register_alloc.specs.Allocation.{is_spill, spills_of, IsStoredTo}
 use Rattle.register_alloc.specs.inner.Tables.{look, In, is_live, is_busy}
 use Rattle.register_alloc.specs.inner.Valid.{IsInput}
-use Rattle.register_alloc.specs.inner.Sound.{Once, Few, Sound, Counted, Spells, HasSources, instr_of, Cleared, nodes_read, checks_read, given_before, given_part, count_some, count_given}
+use Rattle.register_alloc.specs.inner.Sound.{Once, Few, Sound, Counted, Spells, HasSources, instr_of, Cleared, nodes_read, checks_read, given_before}
+use Rattle.register_alloc.specs.inner.Sound.{given_part, count_some, count_given}
 use Rattle.register_alloc.proofs.CountLemmas.{places-and, held-width, width-nodes}
-use Rattle.register_alloc.proofs.LiveLemmas.{live-parts, live-held, live-read, dies-read, live-checked, dies-checked, live-made, live-still, moment-rises, moment-reads}
+use Rattle.register_alloc.proofs.LiveLemmas.{live-parts, live-held, live-read, dies-read, live-checked, dies-checked, live-made, live-still, moment-rises}
+use Rattle.register_alloc.proofs.LiveLemmas.{moment-reads}
 use Rattle.register_alloc.proofs.TableLemmas.{none≢some, put-same, put-other, put-cases, in-other, look-set, tables-store, tables-write, tables-pass}
-use Rattle.register_alloc.proofs.StepLemmas.{Next, reading-push, right-push, loads-read, spills-push, few-push, used-push, used-here, next-store, next-load, next-node, next-test, next-give, put-suc, spill-node}
-use Rattle.register_alloc.proofs.OutputLemmas.{part-at, part-next, part-other, part-this, part-free, length-part, part-none, part-all, count-set, count-gave, count-least, given-least, part-least}
+use Rattle.register_alloc.proofs.StepLemmas.{Next, reading-push, right-push, loads-read, spills-push, few-push, used-push, used-here, next-store, next-load}
+use Rattle.register_alloc.proofs.StepLemmas.{next-node, next-test, next-give, put-suc, spill-node}
+use Rattle.register_alloc.proofs.OutputLemmas.{part-at, part-next, part-other, part-this, part-free, length-part, part-none, part-all, count-set, count-gave}
+use Rattle.register_alloc.proofs.OutputLemmas.{count-least, given-least, part-least}
 
 -- any number of slots that the allocator comes to may stand in the code
-pub slots-fit : {flat : Flat} {made read checked : ℕ} {given : List (Option ℕ)} {code : Listing} {r s : ℕ → Option ℕ} {n : ℕ} → Sound flat made read checked given code r s n → (m : ℕ) → m ≤ width_of flat → m ≤ code.counts.slots
+pub slots-fit : {flat : Flat} {made read checked : ℕ} {given : List (Option ℕ)} {code : Listing} {r s : ℕ → Option ℕ} {n : ℕ}
+    → Sound flat made read checked given code r s n → (m : ℕ) → m ≤ width_of flat → m ≤ code.counts.slots
 slots-fit {flat} {made} {read} {checked} {given} {code} {r} {s} {n} h m le =
     let most : width_of flat ≤ length flat.nodes = width-nodes flat in
     let few : length flat.nodes ≤ MOST = h.order.few_nodes in
@@ -43,7 +51,9 @@ slots-fit {flat} {made} {read} {checked} {given} {code} {r} {s} {n} h m le =
     omega arith
 
 -- all slots stand for live nodes, and one more node is live: they are fewer than the width
-pub slots-below : {flat : Flat} {made read checked : ℕ} {given : List (Option ℕ)} {code : Listing} {r s : ℕ → Option ℕ} {n : ℕ} → Sound flat made read checked given code r s n → (x : ℕ) → is_live flat made read checked x ≡ true → (In s x → ⊥) → ((k : ℕ) → k < n → is_some (s k) ≡ true) → n < width_of flat
+pub slots-below : {flat : Flat} {made read checked : ℕ} {given : List (Option ℕ)} {code : Listing} {r s : ℕ → Option ℕ} {n : ℕ}
+    → Sound flat made read checked given code r s n → (x : ℕ) → is_live flat made read checked x ≡ true → (In s x → ⊥)
+    → ((k : ℕ) → k < n → is_some (s k) ≡ true) → n < width_of flat
 slots-below {flat} {made} {read} {checked} {given} {code} {r} {s} {n} h x live away all =
     let order = h.order in
     let parts = live-parts flat made read checked x live in
@@ -54,7 +64,8 @@ slots-below {flat} {made} {read} {checked} {given} {code} {r} {s} {n} h x live a
     let l = h.tables.owned k e.0 e.1 in
     let p = live-parts flat made read checked e.0 l in
     (e.0, e.1, live-held flat made read checked e.0 order l, omega arith) in
-    let more = places-and s (is_held flat (read - 1)) n (length flat.nodes) x h.tables.one_slot each (live-held flat made read checked x order live) (omega arith) (λ k lt e. away (record { place = k; is = e })) in
+    let more = places-and s (is_held flat (read - 1)) n (length flat.nodes) x h.tables.one_slot each (live-held flat made read checked x order live)
+    (omega arith) (λ k lt e. away (record { place = k; is = e })) in
     let q : read - 1 < length flat.nodes = omega arith in
     omega (arith, held-width flat (read - 1) q)
   where
@@ -67,7 +78,9 @@ busy-from live None e = absurd (true≢false (sym e))
 busy-from live (Some x) e = (x, refl, e)
 
 -- all registers stand for live nodes, and one more node is held: there are fewer than the width
-pub registers-below : {flat : Flat} {made read checked : ℕ} {given : List (Option ℕ)} {code : Listing} {r s : ℕ → Option ℕ} {n : ℕ} → Sound flat made read checked given code r s n → (x : ℕ) → 0 < read → x < length flat.nodes → is_held flat (read - 1) x ≡ true → (In r x → ⊥) → ((k : ℕ) → k < REGISTERS → is_busy (is_live flat made read checked) (r k) ≡ true) → REGISTERS < width_of flat
+pub registers-below : {flat : Flat} {made read checked : ℕ} {given : List (Option ℕ)} {code : Listing} {r s : ℕ → Option ℕ} {n : ℕ}
+    → Sound flat made read checked given code r s n → (x : ℕ) → 0 < read → x < length flat.nodes → is_held flat (read - 1) x ≡ true → (In r x → ⊥)
+    → ((k : ℕ) → k < REGISTERS → is_busy (is_live flat made read checked) (r k) ≡ true) → REGISTERS < width_of flat
 registers-below {flat} {made} {read} {checked} {given} {code} {r} {s} {n} h x some below held away all =
     let order = h.order in
     let most : made ≤ read = order.made_read in
@@ -76,7 +89,8 @@ registers-below {flat} {made} {read} {checked} {given} {code} {r} {s} {n} h x so
     let e = busy-from (is_live flat made read checked) (r k) (all k lt) in
     let p = live-parts flat made read checked e.0 e.2 in
     (e.0, e.1, live-held flat made read checked e.0 order e.2, omega arith) in
-    let more = places-and r (is_held flat (read - 1)) REGISTERS (length flat.nodes) x h.tables.one_register each held below (λ k lt e. away (record { place = k; is = e })) in
+    let more = places-and r (is_held flat (read - 1)) REGISTERS (length flat.nodes) x h.tables.one_register each held below
+    (λ k lt e. away (record { place = k; is = e })) in
     let q : read - 1 < length flat.nodes = omega arith in
     omega (arith, held-width flat (read - 1) q)
 
@@ -84,37 +98,48 @@ registers-below {flat} {made} {read} {checked} {given} {code} {r} {s} {n} h x so
 pub spare-idle : (live : ℕ → Bool) (o : Option ℕ) (s : ℕ → Option ℕ) → is_busy live o ≡ false → (x : ℕ) → o ≡ Some x → live x ≡ true → In s x
 spare-idle live o s idle x e l = absurd (true≢false (sym l ∙ sym (ap (is_busy live) e) ∙ idle))
 
-once-store : (stored : ℕ → ℕ) (x k made : ℕ) (live : ℕ → Bool) (s : ℕ → Option ℕ) → ((y : ℕ) → Once (stored y) y made live s) → live x ≡ true → x < made → s k ≡ None → (In s x → ⊥) → (y : ℕ) → Once (put stored x (suc (stored x)) y) y made live (put s k (Some x))
+once-store : (stored : ℕ → ℕ) (x k made : ℕ) (live : ℕ → Bool) (s : ℕ → Option ℕ) → ((y : ℕ) → Once (stored y) y made live s) → live x ≡ true → x < made
+    → s k ≡ None → (In s x → ⊥) → (y : ℕ) → Once (put stored x (suc (stored x)) y) y made live (put s k (Some x))
 once-store stored x k made live s once lives lt free away y =
     ⊎_elim
     (λ (e : y ≡ x).
     let fresh : stored x ≡ 0 = ⊎_elim (λ z. z) (λ p. absurd (away (p.2 lives))) (once x) in
     let one : put stored x (suc (stored x)) x ≡ 1 = put-same stored x (suc (stored x)) ∙ ap suc fresh in
-    subst (λ z. Once (put stored x (suc (stored x)) z) z made live (put s k (Some x))) (sym e) (inr (one, lt, λ l. record { place = k; is = put-same s k (Some x) })))
+    subst (λ z. Once (put stored x (suc (stored x)) z) z made live (put s k (Some x))) (sym e)
+    (inr (one, lt, λ l. record { place = k; is = put-same s k (Some x) })))
     (λ (ne : y ≢ x).
     let same = put-other stored x (suc (stored x)) y ne in
     ⊎_elim (λ z. inl (same ∙ z)) (λ p. inr (same ∙ p.0, p.1, λ l. in-other s k x y free (p.2 l))) (once y))
     (cases_eq y x)
 
 -- what a register holds, by the table
-held-by : {flat : Flat} {made read checked : ℕ} {given : List (Option ℕ)} {code : Listing} {r s : ℕ → Option ℕ} {n : ℕ} → (h : Sound flat made read checked given code r s n) → (i x : ℕ) → r i ≡ Some x → h.spelled.state.registers i ≡ Some x
+held-by : {flat : Flat} {made read checked : ℕ} {given : List (Option ℕ)} {code : Listing} {r s : ℕ → Option ℕ} {n : ℕ}
+    → (h : Sound flat made read checked given code r s n) → (i x : ℕ) → r i ≡ Some x → h.spelled.state.registers i ≡ Some x
 held-by h i x at = ap (λ (f : ℕ → Option ℕ). f i) h.spelled.registers ∙ at
 
 -- nothing is wrong with an instruction that may stand after the code so far
-right-next : {flat : Flat} {made read checked : ℕ} {given : List (Option ℕ)} {code : Listing} {r s : ℕ → Option ℕ} {n : ℕ} → (h : Sound flat made read checked given code r s n) → (m : ℕ) (i : Instr) (after : State) → n ≤ m → m ≤ width_of flat → Next code m h.spelled.state i after → wrong_behind code i ≡ None
+right-next : {flat : Flat} {made read checked : ℕ} {given : List (Option ℕ)} {code : Listing} {r s : ℕ → Option ℕ} {n : ℕ}
+    → (h : Sound flat made read checked given code r s n) → (m : ℕ) (i : Instr) (after : State) → n ≤ m → m ≤ width_of flat
+    → Next code m h.spelled.state i after → wrong_behind code i ≡ None
 right-next {flat} {made} {read} {checked} {given} {code} {r} {s} {n} h m i after le fits next =
     right-push code i n m h.spelled.state after h.spelled.read le (slots-fit h m fits) next
 
 -- how often a node is loaded after such an instruction
-loads-next : {flat : Flat} {made read checked : ℕ} {given : List (Option ℕ)} {code : Listing} {r s : ℕ → Option ℕ} {n : ℕ} → (h : Sound flat made read checked given code r s n) → (m : ℕ) (i : Instr) (after : State) → n ≤ m → m ≤ width_of flat → Next code m h.spelled.state i after → (y : ℕ) → loads_of y (with_instr code i) ≡ after.loaded y
+loads-next : {flat : Flat} {made read checked : ℕ} {given : List (Option ℕ)} {code : Listing} {r s : ℕ → Option ℕ} {n : ℕ}
+    → (h : Sound flat made read checked given code r s n) → (m : ℕ) (i : Instr) (after : State) → n ≤ m → m ≤ width_of flat
+    → Next code m h.spelled.state i after → (y : ℕ) → loads_of y (with_instr code i) ≡ after.loaded y
 loads-next {flat} {made} {read} {checked} {given} {code} {r} {s} {n} h m i after le fits next y =
     loads-read (with_instr code i) m after (reading-push code i n m h.spelled.state after h.spelled.read le next) (slots-fit h m fits) y
 
-loads-now : {flat : Flat} {made read checked : ℕ} {given : List (Option ℕ)} {code : Listing} {r s : ℕ → Option ℕ} {n : ℕ} → (h : Sound flat made read checked given code r s n) → (y : ℕ) → loads_of y code ≡ h.spelled.state.loaded y
+loads-now : {flat : Flat} {made read checked : ℕ} {given : List (Option ℕ)} {code : Listing} {r s : ℕ → Option ℕ} {n : ℕ}
+    → (h : Sound flat made read checked given code r s n) → (y : ℕ) → loads_of y code ≡ h.spelled.state.loaded y
 loads-now {flat} {made} {read} {checked} {given} {code} {r} {s} {n} h y = loads-read code n h.spelled.state h.spelled.read (slots-fit h n h.few.within) y
 
 -- a live node of a register is stored in a free slot, old or new
-pub sound-store : {flat : Flat} {made read checked : ℕ} {given : List (Option ℕ)} {code : Listing} {r s : ℕ → Option ℕ} {n : ℕ} → Sound flat made read checked given code r s n → (k i x m : ℕ) → s k ≡ None → k < m → n ≤ m → ((j : ℕ) → j < m → (j < n) ⊎ (k ≡ j)) → m ≤ width_of flat → REGISTERS < width_of flat → i < REGISTERS → r i ≡ Some x → is_live flat made read checked x ≡ true → (In s x → ⊥) → Sound flat made read checked given (with_instr code (Store k i)) r (put s k (Some x)) m
+pub sound-store : {flat : Flat} {made read checked : ℕ} {given : List (Option ℕ)} {code : Listing} {r s : ℕ → Option ℕ} {n : ℕ}
+    → Sound flat made read checked given code r s n → (k i x m : ℕ) → s k ≡ None → k < m → n ≤ m → ((j : ℕ) → j < m → (j < n) ⊎ (k ≡ j)) → m ≤ width_of flat
+    → REGISTERS < width_of flat → i < REGISTERS → r i ≡ Some x → is_live flat made read checked x ≡ true → (In s x → ⊥)
+    → Sound flat made read checked given (with_instr code (Store k i)) r (put s k (Some x)) m
 sound-store {flat} {made} {read} {checked} {given} {code} {r} {s} {n} h k i x m free lt le grows fits crowded below at lives away =
     let live = is_live flat made read checked in
     let t = h.spelled.state in
@@ -149,7 +174,10 @@ sound-store {flat} {made} {read} {checked} {given} {code} {r} {s} {n} h k i x m 
     }
 
 -- a node of a slot is loaded into a register that may be written
-pub sound-load : {flat : Flat} {made read checked : ℕ} {given : List (Option ℕ)} {code : Listing} {r s : ℕ → Option ℕ} {n : ℕ} → Sound flat made read checked given code r s n → (k i x : ℕ) → k < REGISTERS → s i ≡ Some x → (In r x → ⊥) → ((y : ℕ) → r k ≡ Some y → is_live flat made read checked y ≡ true → In s y) → Sound flat made read checked given (with_instr code (Load k i)) (put r k (Some x)) s n
+pub sound-load : {flat : Flat} {made read checked : ℕ} {given : List (Option ℕ)} {code : Listing} {r s : ℕ → Option ℕ} {n : ℕ}
+    → Sound flat made read checked given code r s n → (k i x : ℕ) → k < REGISTERS → s i ≡ Some x → (In r x → ⊥)
+    → ((y : ℕ) → r k ≡ Some y → is_live flat made read checked y ≡ true → In s y)
+    → Sound flat made read checked given (with_instr code (Load k i)) (put r k (Some x)) s n
 sound-load {flat} {made} {read} {checked} {given} {code} {r} {s} {n} h k i x lt at away spare =
     let live = is_live flat made read checked in
     let t = h.spelled.state in
@@ -174,11 +202,14 @@ sound-load {flat} {made} {read} {checked} {given} {code} {r} {s} {n} h k i x lt 
       few = record { within = h.few.within; direct = λ z. let none = (h.few.direct z).0 in let some : i < n = h.spelled.within i x at in absurd (omega arith) };
     }
 
-pub right-load : {flat : Flat} {made read checked : ℕ} {given : List (Option ℕ)} {code : Listing} {r s : ℕ → Option ℕ} {n : ℕ} → Sound flat made read checked given code r s n → (k i x : ℕ) → k < REGISTERS → s i ≡ Some x → wrong_behind code (Load k i) ≡ None
+pub right-load : {flat : Flat} {made read checked : ℕ} {given : List (Option ℕ)} {code : Listing} {r s : ℕ → Option ℕ} {n : ℕ}
+    → Sound flat made read checked given code r s n → (k i x : ℕ) → k < REGISTERS → s i ≡ Some x → wrong_behind code (Load k i) ≡ None
 right-load {flat} {made} {read} {checked} {given} {code} {r} {s} {n} h k i x lt at =
     right-next h n (Load k i) _ (omega arith) h.few.within (next-load code n k i x h.spelled.state (h.spelled.within i x at) lt (h.spelled.slots i x at))
 
-pub loads-load : {flat : Flat} {made read checked : ℕ} {given : List (Option ℕ)} {code : Listing} {r s : ℕ → Option ℕ} {n : ℕ} → Sound flat made read checked given code r s n → (k i x : ℕ) → k < REGISTERS → s i ≡ Some x → (y : ℕ) → loads_of y (with_instr code (Load k i)) ≤ loads_of y code + one_if (eqb x y)
+pub loads-load : {flat : Flat} {made read checked : ℕ} {given : List (Option ℕ)} {code : Listing} {r s : ℕ → Option ℕ} {n : ℕ}
+    → Sound flat made read checked given code r s n → (k i x : ℕ) → k < REGISTERS → s i ≡ Some x → (y : ℕ)
+    → loads_of y (with_instr code (Load k i)) ≤ loads_of y code + one_if (eqb x y)
 loads-load {flat} {made} {read} {checked} {given} {code} {r} {s} {n} h k i x lt at y =
     let t = h.spelled.state in
     let now = loads-now h y in
@@ -186,23 +217,33 @@ loads-load {flat} {made} {read} {checked} {given} {code} {r} {s} {n} h k i x lt 
     omega (arith, put-suc t.loaded x y)
 
 -- the next node may be made
-next-made : {flat : Flat} {made read checked : ℕ} {given : List (Option ℕ)} {code : Listing} {r s : ℕ → Option ℕ} {n : ℕ} → (h : Sound flat made read checked given code r s n) → (k : ℕ) (node : Node) (q : Sources) → made < read → node ≡ node_at flat.nodes made → k < REGISTERS → HasSources r node q → Next code n h.spelled.state (instr_of node k q) (with_node k node h.spelled.state)
+next-made : {flat : Flat} {made read checked : ℕ} {given : List (Option ℕ)} {code : Listing} {r s : ℕ → Option ℕ} {n : ℕ}
+    → (h : Sound flat made read checked given code r s n) → (k : ℕ) (node : Node) (q : Sources) → made < read → node ≡ node_at flat.nodes made → k < REGISTERS
+    → HasSources r node q → Next code n h.spelled.state (instr_of node k q) (with_node k node h.spelled.state)
 next-made {flat} {made} {read} {checked} {given} {code} {r} {s} {n} h k node q some is lt has =
     let within : read ≤ length flat.nodes = h.order.read_within in
     let below : made < length flat.nodes = omega arith in
-    next-node code n k node q h.spelled.state lt (subst (λ (x : Node). IsInput code.counts.inputs x) (sym is) (h.spelled.counted.takes made (Number Undef) below))
+    next-node code n k node q h.spelled.state lt
+    (subst (λ (x : Node). IsInput code.counts.inputs x) (sym is) (h.spelled.counted.takes made (Number Undef) below))
     (subst (λ (f : ℕ → Option ℕ). HasSources f node q) (sym h.spelled.registers) has)
 
-pub right-make : {flat : Flat} {made read checked : ℕ} {given : List (Option ℕ)} {code : Listing} {r s : ℕ → Option ℕ} {n : ℕ} → Sound flat made read checked given code r s n → (k : ℕ) (node : Node) (q : Sources) → made < read → node ≡ node_at flat.nodes made → k < REGISTERS → HasSources r node q → wrong_behind code (instr_of node k q) ≡ None
+pub right-make : {flat : Flat} {made read checked : ℕ} {given : List (Option ℕ)} {code : Listing} {r s : ℕ → Option ℕ} {n : ℕ}
+    → Sound flat made read checked given code r s n → (k : ℕ) (node : Node) (q : Sources) → made < read → node ≡ node_at flat.nodes made → k < REGISTERS
+    → HasSources r node q → wrong_behind code (instr_of node k q) ≡ None
 right-make {flat} {made} {read} {checked} {given} {code} {r} {s} {n} h k node q some is lt has =
     right-next h n (instr_of node k q) _ (omega arith) h.few.within (next-made h k node q some is lt has)
 
-pub loads-make : {flat : Flat} {made read checked : ℕ} {given : List (Option ℕ)} {code : Listing} {r s : ℕ → Option ℕ} {n : ℕ} → Sound flat made read checked given code r s n → (k : ℕ) (node : Node) (q : Sources) → made < read → node ≡ node_at flat.nodes made → k < REGISTERS → HasSources r node q → (y : ℕ) → loads_of y (with_instr code (instr_of node k q)) ≡ loads_of y code
+pub loads-make : {flat : Flat} {made read checked : ℕ} {given : List (Option ℕ)} {code : Listing} {r s : ℕ → Option ℕ} {n : ℕ}
+    → Sound flat made read checked given code r s n → (k : ℕ) (node : Node) (q : Sources) → made < read → node ≡ node_at flat.nodes made → k < REGISTERS
+    → HasSources r node q → (y : ℕ) → loads_of y (with_instr code (instr_of node k q)) ≡ loads_of y code
 loads-make {flat} {made} {read} {checked} {given} {code} {r} {s} {n} h k node q some is lt has y =
     loads-next h n (instr_of node k q) _ (omega arith) h.few.within (next-made h k node q some is lt has) y ∙ sym (loads-now h y)
 
 -- the next node is made in a register that may be written
-pub sound-make : {flat : Flat} {made read checked : ℕ} {given : List (Option ℕ)} {code : Listing} {r s : ℕ → Option ℕ} {n : ℕ} → Sound flat made read checked given code r s n → (k : ℕ) (node : Node) (q : Sources) → made < read → node ≡ node_at flat.nodes made → k < REGISTERS → HasSources r node q → ((y : ℕ) → r k ≡ Some y → is_live flat made read checked y ≡ true → In s y) → Sound flat (suc made) read checked given (with_instr code (instr_of node k q)) (put r k (Some made)) s n
+pub sound-make : {flat : Flat} {made read checked : ℕ} {given : List (Option ℕ)} {code : Listing} {r s : ℕ → Option ℕ} {n : ℕ}
+    → Sound flat made read checked given code r s n → (k : ℕ) (node : Node) (q : Sources) → made < read → node ≡ node_at flat.nodes made → k < REGISTERS
+    → HasSources r node q → ((y : ℕ) → r k ≡ Some y → is_live flat made read checked y ≡ true → In s y)
+    → Sound flat (suc made) read checked given (with_instr code (instr_of node k q)) (put r k (Some made)) s n
 sound-make {flat} {made} {read} {checked} {given} {code} {r} {s} {n} h k node q some is lt has spare =
     let live = is_live flat made read checked in
     let live' = is_live flat (suc made) read checked in
@@ -212,8 +253,18 @@ sound-make {flat} {made} {read} {checked} {given} {code} {r} {s} {n} h k node q 
     let below : made < length flat.nodes = omega arith in
     let size : length t.nodes ≡ made = ap length h.spelled.nodes ∙ length-take-le made flat.nodes (omega arith) in
     record {
-      order = record { few_nodes = order.few_nodes; few_checks = order.few_checks; few_outputs = order.few_outputs; made_read = some; read_within = order.read_within; checked_within = order.checked_within; late = order.late };
-      tables = tables-write live live' made (suc made) r s k made h.tables (omega arith) (omega arith) (λ p. let lt : made < made = h.tables.earlier p.place made p.is in absurd (omega arith)) spare (λ y l. live-still flat made read checked y l) (λ y l. live-made flat made read checked y l);
+      order = record {
+        few_nodes = order.few_nodes;
+        few_checks = order.few_checks;
+        few_outputs = order.few_outputs;
+        made_read = some;
+        read_within = order.read_within;
+        checked_within = order.checked_within;
+        late = order.late;
+      };
+      tables = tables-write live live' made (suc made) r s k made h.tables (omega arith) (omega arith)
+          (λ p. let lt : made < made = h.tables.earlier p.place made p.is in absurd (omega arith)) spare (λ y l. live-still flat made read checked y l)
+          (λ y l. live-made flat made read checked y l);
       spelled = record {
         state = with_node k node t;
         counted = h.spelled.counted;
@@ -226,14 +277,22 @@ sound-make {flat} {made} {read} {checked} {given} {code} {r} {s} {n} h k node q 
         checks = h.spelled.checks;
         outputs = h.spelled.outputs;
         stored = λ y. ⊎_elim (λ z. inl z)
-            (λ p. inr (p.0, omega (arith, p.1), λ l. p.2 (⊎_elim (λ (e : y ≡ made). absurd (omega (arith, p.1))) (λ l'. l') (live-made flat made read checked y l))))
+            (λ p. inr (
+              p.0,
+              omega (arith, p.1),
+              λ l. p.2
+                  (⊎_elim (λ (e : y ≡ made). absurd (omega (arith, p.1))) (λ l'. l') (live-made flat made read checked y l)),
+            ))
             (h.spelled.stored y);
       };
       few = few-push flat code n (instr_of node k q) h.few (spill-node node k q);
     }
 
 -- the arguments of a node are read, and slots lose those that are dead
-pub sound-pass : {flat : Flat} {made read checked : ℕ} {given : List (Option ℕ)} {code : Listing} {r s : ℕ → Option ℕ} {n : ℕ} → Sound flat made read checked given code r s n → (node : Node) (s' : ℕ → Option ℕ) → read < length flat.nodes → node ≡ node_at flat.nodes read → (checked < length flat.checks → read ≤ moment_from 0 flat.checks checked) → Cleared (λ x. reads x node) (is_live flat made (suc read) checked) s s' → Sound flat made (suc read) checked given code r s' n
+pub sound-pass : {flat : Flat} {made read checked : ℕ} {given : List (Option ℕ)} {code : Listing} {r s : ℕ → Option ℕ} {n : ℕ}
+    → Sound flat made read checked given code r s n → (node : Node) (s' : ℕ → Option ℕ) → read < length flat.nodes → node ≡ node_at flat.nodes read
+    → (checked < length flat.checks → read ≤ moment_from 0 flat.checks checked) → Cleared (λ x. reads x node) (is_live flat made (suc read) checked) s s'
+    → Sound flat made (suc read) checked given code r s' n
 sound-pass {flat} {made} {read} {checked} {given} {code} {r} {s} {n} h node s' below is late clear =
     let live = is_live flat made read checked in
     let live' = is_live flat made (suc read) checked in
@@ -246,8 +305,17 @@ sound-pass {flat} {made} {read} {checked} {given} {code} {r} {s} {n} h node s' b
     (λ there. there)
     (dies-read flat made read checked y (Number Undef) below (h.tables.owned k y o.0)) in
     record {
-      order = record { few_nodes = order.few_nodes; few_checks = order.few_checks; few_outputs = order.few_outputs; made_read = omega arith; read_within = below; checked_within = order.checked_within; late = λ lt. omega (arith, late lt) };
-      tables = tables-pass live live' made r s s' h.tables (λ y l. live-read flat made read checked y node below l) (λ k y e. ((clear.only k y e).0, lives k y e)) clear.stays;
+      order = record {
+        few_nodes = order.few_nodes;
+        few_checks = order.few_checks;
+        few_outputs = order.few_outputs;
+        made_read = omega arith;
+        read_within = below;
+        checked_within = order.checked_within;
+        late = λ lt. omega (arith, late lt);
+      };
+      tables = tables-pass live live' made r s s' h.tables (λ y l. live-read flat made read checked y node below l)
+          (λ k y e. ((clear.only k y e).0, lives k y e)) clear.stays;
       spelled = record {
         state = h.spelled.state;
         counted = h.spelled.counted;
@@ -260,28 +328,47 @@ sound-pass {flat} {made} {read} {checked} {given} {code} {r} {s} {n} h node s' b
         checks = h.spelled.checks;
         outputs = h.spelled.outputs;
         stored = λ y. ⊎_elim (λ z. inl z)
-            (λ p. inr (p.0, p.1, λ l. let w = p.2 (live-read flat made read checked y node below l) in record { place = w.place; is = clear.stays w.place y w.is l }))
+            (λ p. inr (
+              p.0,
+              p.1,
+              λ l. let w = p.2 (live-read flat made read checked y node below l) in
+                  record { place = w.place; is = clear.stays w.place y w.is l },
+            ))
             (h.spelled.stored y);
       };
       few = h.few;
     }
 
 -- the next check may be done
-next-tested : {flat : Flat} {made read checked : ℕ} {given : List (Option ℕ)} {code : Listing} {r s : ℕ → Option ℕ} {n : ℕ} → (h : Sound flat made read checked given code r s n) → (check : Check) (g k : ℕ) → checked < length flat.checks → check ≡ get_or flat.checks checked check → g < REGISTERS → k < REGISTERS → r g ≡ Some check.guard → r k ≡ Some check.condition → Next code n h.spelled.state (Test g k check.over_only check.label) (record h.spelled.state { checks = h.spelled.state.checks ++ check ∷ [] })
+next-tested : {flat : Flat} {made read checked : ℕ} {given : List (Option ℕ)} {code : Listing} {r s : ℕ → Option ℕ} {n : ℕ}
+    → (h : Sound flat made read checked given code r s n) → (check : Check) (g k : ℕ) → checked < length flat.checks → check ≡ get_or flat.checks checked check
+    → g < REGISTERS → k < REGISTERS → r g ≡ Some check.guard → r k ≡ Some check.condition
+    → Next code n h.spelled.state (Test g k check.over_only check.label) (record h.spelled.state { checks = h.spelled.state.checks ++ check ∷ [] })
 next-tested {flat} {made} {read} {checked} {given} {code} {r} {s} {n} h check g k below is lt lt' guard condition =
-    next-test code n g k check h.spelled.state lt lt' (subst (λ (x : Check). x.label < code.counts.labels) (sym is) (h.spelled.counted.labels checked check below))
+    next-test code n g k check h.spelled.state lt lt'
+    (subst (λ (x : Check). x.label < code.counts.labels) (sym is) (h.spelled.counted.labels checked check below))
     (held-by h g check.guard guard) (held-by h k check.condition condition)
 
-pub right-test : {flat : Flat} {made read checked : ℕ} {given : List (Option ℕ)} {code : Listing} {r s : ℕ → Option ℕ} {n : ℕ} → Sound flat made read checked given code r s n → (check : Check) (g k : ℕ) → checked < length flat.checks → check ≡ get_or flat.checks checked check → g < REGISTERS → k < REGISTERS → r g ≡ Some check.guard → r k ≡ Some check.condition → wrong_behind code (Test g k check.over_only check.label) ≡ None
+pub right-test : {flat : Flat} {made read checked : ℕ} {given : List (Option ℕ)} {code : Listing} {r s : ℕ → Option ℕ} {n : ℕ}
+    → Sound flat made read checked given code r s n → (check : Check) (g k : ℕ) → checked < length flat.checks → check ≡ get_or flat.checks checked check
+    → g < REGISTERS → k < REGISTERS → r g ≡ Some check.guard → r k ≡ Some check.condition → wrong_behind code (Test g k check.over_only check.label) ≡ None
 right-test {flat} {made} {read} {checked} {given} {code} {r} {s} {n} h check g k below is lt lt' guard condition =
     right-next h n (Test g k check.over_only check.label) _ (omega arith) h.few.within (next-tested h check g k below is lt lt' guard condition)
 
-pub loads-test : {flat : Flat} {made read checked : ℕ} {given : List (Option ℕ)} {code : Listing} {r s : ℕ → Option ℕ} {n : ℕ} → Sound flat made read checked given code r s n → (check : Check) (g k : ℕ) → checked < length flat.checks → check ≡ get_or flat.checks checked check → g < REGISTERS → k < REGISTERS → r g ≡ Some check.guard → r k ≡ Some check.condition → (y : ℕ) → loads_of y (with_instr code (Test g k check.over_only check.label)) ≡ loads_of y code
+pub loads-test : {flat : Flat} {made read checked : ℕ} {given : List (Option ℕ)} {code : Listing} {r s : ℕ → Option ℕ} {n : ℕ}
+    → Sound flat made read checked given code r s n → (check : Check) (g k : ℕ) → checked < length flat.checks → check ≡ get_or flat.checks checked check
+    → g < REGISTERS → k < REGISTERS → r g ≡ Some check.guard → r k ≡ Some check.condition → (y : ℕ)
+    → loads_of y (with_instr code (Test g k check.over_only check.label)) ≡ loads_of y code
 loads-test {flat} {made} {read} {checked} {given} {code} {r} {s} {n} h check g k below is lt lt' guard condition y =
-    loads-next h n (Test g k check.over_only check.label) _ (omega arith) h.few.within (next-tested h check g k below is lt lt' guard condition) y ∙ sym (loads-now h y)
+    loads-next h n (Test g k check.over_only check.label) _ (omega arith) h.few.within (next-tested h check g k below is lt lt' guard condition) y
+    ∙ sym (loads-now h y)
 
 -- a check is done, and slots lose what is dead of what it read
-pub sound-test : {flat : Flat} {made read checked : ℕ} {given : List (Option ℕ)} {code : Listing} {r s : ℕ → Option ℕ} {n : ℕ} → Sound flat made read checked given code r s n → (check : Check) (g k : ℕ) (s' : ℕ → Option ℕ) → checked < length flat.checks → check ≡ get_or flat.checks checked check → g < REGISTERS → k < REGISTERS → r g ≡ Some check.guard → r k ≡ Some check.condition → Cleared (λ x. check_reads x check) (is_live flat made read (suc checked)) s s' → Sound flat made read (suc checked) given (with_instr code (Test g k check.over_only check.label)) r s' n
+pub sound-test : {flat : Flat} {made read checked : ℕ} {given : List (Option ℕ)} {code : Listing} {r s : ℕ → Option ℕ} {n : ℕ}
+    → Sound flat made read checked given code r s n → (check : Check) (g k : ℕ) (s' : ℕ → Option ℕ) → checked < length flat.checks
+    → check ≡ get_or flat.checks checked check → g < REGISTERS → k < REGISTERS → r g ≡ Some check.guard → r k ≡ Some check.condition
+    → Cleared (λ x. check_reads x check) (is_live flat made read (suc checked)) s s'
+    → Sound flat made read (suc checked) given (with_instr code (Test g k check.over_only check.label)) r s' n
 sound-test {flat} {made} {read} {checked} {given} {code} {r} {s} {n} h check g k s' below is lt lt' guard condition clear =
     let live = is_live flat made read checked in
     let live' = is_live flat made read (suc checked) in
@@ -294,41 +381,65 @@ sound-test {flat} {made} {read} {checked} {given} {code} {r} {s} {n} h check g k
     (λ there. there)
     (dies-checked flat made read checked y check below (h.tables.owned k y o.0)) in
     record {
-      order = record { few_nodes = order.few_nodes; few_checks = order.few_checks; few_outputs = order.few_outputs; made_read = order.made_read; read_within = order.read_within; checked_within = below; late = λ lt. omega (arith, order.late below, moment-rises 0 flat.checks checked) };
-      tables = tables-pass live live' made r s s' h.tables (λ y l. live-checked flat made read checked y check below l) (λ k y e. ((clear.only k y e).0, lives k y e)) clear.stays;
+      order = record {
+        few_nodes = order.few_nodes;
+        few_checks = order.few_checks;
+        few_outputs = order.few_outputs;
+        made_read = order.made_read;
+        read_within = order.read_within;
+        checked_within = below;
+        late = λ lt. omega (arith, order.late below, moment-rises 0 flat.checks checked);
+      };
+      tables = tables-pass live live' made r s s' h.tables (λ y l. live-checked flat made read checked y check below l)
+          (λ k y e. ((clear.only k y e).0, lives k y e)) clear.stays;
       spelled = record {
         state = record t { checks = t.checks ++ check ∷ [] };
         counted = h.spelled.counted;
-        read = reading-push code (Test g k check.over_only check.label) n n t _ h.spelled.read (omega arith) (next-tested h check g k below is lt lt' guard condition);
+        read = reading-push code (Test g k check.over_only check.label) n n t _ h.spelled.read (omega arith)
+            (next-tested h check g k below is lt lt' guard condition);
         registers = h.spelled.registers;
         slots = λ k y e. h.spelled.slots k y (clear.only k y e).0;
         within = λ k y e. h.spelled.within k y (clear.only k y e).0;
         used = λ j l. used-push code (Test g k check.over_only check.label) j (h.spelled.used j l);
         nodes = h.spelled.nodes;
-        checks = ap (λ xs. xs ++ check ∷ []) h.spelled.checks ∙ ap (λ x. take checked flat.checks ++ x ∷ []) is ∙ sym (take-suc flat.checks checked check below);
+        checks = ap (λ xs. xs ++ check ∷ []) h.spelled.checks ∙ ap (λ x. take checked flat.checks ++ x ∷ []) is
+            ∙ sym (take-suc flat.checks checked check below);
         outputs = h.spelled.outputs;
         stored = λ y. ⊎_elim (λ z. inl z)
-            (λ p. inr (p.0, p.1, λ l. let w = p.2 (live-checked flat made read checked y check below l) in record { place = w.place; is = clear.stays w.place y w.is l }))
+            (λ p. inr (
+              p.0,
+              p.1,
+              λ l. let w = p.2 (live-checked flat made read checked y check below l) in
+                  record { place = w.place; is = clear.stays w.place y w.is l },
+            ))
             (h.spelled.stored y);
       };
       few = few-push flat code n (Test g k check.over_only check.label) h.few refl;
     }
 
 -- an output may be given
-next-given : {flat : Flat} {made read checked : ℕ} {given : List (Option ℕ)} {code : Listing} {r s : ℕ → Option ℕ} {n : ℕ} → (h : Sound flat made read checked given code r s n) → (j k x : ℕ) → j < length flat.outputs → k < REGISTERS → get_or given j None ≡ None → r k ≡ Some x → Next code n h.spelled.state (Output j k) (record h.spelled.state { outputs = set h.spelled.state.outputs j (Some x) })
+next-given : {flat : Flat} {made read checked : ℕ} {given : List (Option ℕ)} {code : Listing} {r s : ℕ → Option ℕ} {n : ℕ}
+    → (h : Sound flat made read checked given code r s n) → (j k x : ℕ) → j < length flat.outputs → k < REGISTERS → get_or given j None ≡ None → r k ≡ Some x
+    → Next code n h.spelled.state (Output j k) (record h.spelled.state { outputs = set h.spelled.state.outputs j (Some x) })
 next-given {flat} {made} {read} {checked} {given} {code} {r} {s} {n} h j k x lt lt' free at =
     let count : code.counts.outputs ≡ length flat.outputs = h.spelled.counted.outputs in
     next-give code n j k x h.spelled.state (omega arith) lt' (ap (λ os. get_or os j None) h.spelled.outputs ∙ free) (held-by h k x at)
 
-pub right-give : {flat : Flat} {made read checked : ℕ} {given : List (Option ℕ)} {code : Listing} {r s : ℕ → Option ℕ} {n : ℕ} → Sound flat made read checked given code r s n → (j k x : ℕ) → j < length flat.outputs → k < REGISTERS → get_or given j None ≡ None → r k ≡ Some x → wrong_behind code (Output j k) ≡ None
+pub right-give : {flat : Flat} {made read checked : ℕ} {given : List (Option ℕ)} {code : Listing} {r s : ℕ → Option ℕ} {n : ℕ}
+    → Sound flat made read checked given code r s n → (j k x : ℕ) → j < length flat.outputs → k < REGISTERS → get_or given j None ≡ None → r k ≡ Some x
+    → wrong_behind code (Output j k) ≡ None
 right-give {flat} {made} {read} {checked} {given} {code} {r} {s} {n} h j k x lt lt' free at =
     right-next h n (Output j k) _ (omega arith) h.few.within (next-given h j k x lt lt' free at)
 
-pub loads-give : {flat : Flat} {made read checked : ℕ} {given : List (Option ℕ)} {code : Listing} {r s : ℕ → Option ℕ} {n : ℕ} → Sound flat made read checked given code r s n → (j k x : ℕ) → j < length flat.outputs → k < REGISTERS → get_or given j None ≡ None → r k ≡ Some x → (y : ℕ) → loads_of y (with_instr code (Output j k)) ≡ loads_of y code
+pub loads-give : {flat : Flat} {made read checked : ℕ} {given : List (Option ℕ)} {code : Listing} {r s : ℕ → Option ℕ} {n : ℕ}
+    → Sound flat made read checked given code r s n → (j k x : ℕ) → j < length flat.outputs → k < REGISTERS → get_or given j None ≡ None → r k ≡ Some x
+    → (y : ℕ) → loads_of y (with_instr code (Output j k)) ≡ loads_of y code
 loads-give {flat} {made} {read} {checked} {given} {code} {r} {s} {n} h j k x lt lt' free at y =
     loads-next h n (Output j k) _ (omega arith) h.few.within (next-given h j k x lt lt' free at) y ∙ sym (loads-now h y)
 
-pub sound-give : {flat : Flat} {made read checked : ℕ} {given : List (Option ℕ)} {code : Listing} {r s : ℕ → Option ℕ} {n : ℕ} → Sound flat made read checked given code r s n → (j k x : ℕ) → j < length flat.outputs → k < REGISTERS → get_or given j None ≡ None → r k ≡ Some x → Sound flat made read checked (set given j (Some x)) (with_instr code (Output j k)) r s n
+pub sound-give : {flat : Flat} {made read checked : ℕ} {given : List (Option ℕ)} {code : Listing} {r s : ℕ → Option ℕ} {n : ℕ}
+    → Sound flat made read checked given code r s n → (j k x : ℕ) → j < length flat.outputs → k < REGISTERS → get_or given j None ≡ None → r k ≡ Some x
+    → Sound flat made read checked (set given j (Some x)) (with_instr code (Output j k)) r s n
 sound-give {flat} {made} {read} {checked} {given} {code} {r} {s} {n} h j k x lt lt' free at =
     let t = h.spelled.state in
     record {
@@ -351,7 +462,10 @@ sound-give {flat} {made} {read} {checked} {given} {code} {r} {s} {n} h j k x lt 
     }
 
 -- a new slot, or a free one, is within the width
-slots-more : {flat : Flat} {made read checked : ℕ} {given : List (Option ℕ)} {code : Listing} {r : ℕ → Option ℕ} (old : List (Option ℕ)) (size : ℕ) → Sound flat made read checked given code r (look old) (length old) → (x : ℕ) → (size ≡ length old) ⊎ ((size ≡ suc (length old)) × ((j : ℕ) → j < length old → is_some (look old j) ≡ true)) → is_live flat made read checked x ≡ true → ((j : ℕ) → look old j ≡ Some x → ⊥) → (length old ≤ size) × (size ≤ width_of flat)
+slots-more : {flat : Flat} {made read checked : ℕ} {given : List (Option ℕ)} {code : Listing} {r : ℕ → Option ℕ} (old : List (Option ℕ)) (size : ℕ)
+    → Sound flat made read checked given code r (look old) (length old) → (x : ℕ)
+    → (size ≡ length old) ⊎ ((size ≡ suc (length old)) × ((j : ℕ) → j < length old → is_some (look old j) ≡ true)) → is_live flat made read checked x ≡ true
+    → ((j : ℕ) → look old j ≡ Some x → ⊥) → (length old ≤ size) × (size ≤ width_of flat)
 slots-more {flat} old size h x grows live away =
     let away' : In (look old) x → ⊥ = λ p. away p.place p.is in
     let more = slots-below h x live away' in
@@ -359,7 +473,9 @@ slots-more {flat} old size h x grows live away =
     ⊎_elim (λ e. (omega arith, omega arith)) (λ p. (omega (arith, p.0), omega (arith, p.0, more p.1))) grows
 
 -- a slot is an old one, or the free one that is taken
-slots-grown : (old : List (Option ℕ)) (size k : ℕ) → look old k ≡ None → k < size → (size ≡ length old) ⊎ ((size ≡ suc (length old)) × ((j : ℕ) → j < length old → is_some (look old j) ≡ true)) → (j : ℕ) → j < size → (j < length old) ⊎ (k ≡ j)
+slots-grown : (old : List (Option ℕ)) (size k : ℕ) → look old k ≡ None → k < size
+    → (size ≡ length old) ⊎ ((size ≡ suc (length old)) × ((j : ℕ) → j < length old → is_some (look old j) ≡ true)) → (j : ℕ) → j < size
+    → (j < length old) ⊎ (k ≡ j)
 slots-grown old size k free lt grows j below =
     ⊎_elim
     (λ (same : size ≡ length old). inl (omega arith))
@@ -373,24 +489,38 @@ slots-grown old size k free lt grows j below =
     grows
 
 -- `sound-store` by what `occupy` of the slots says
-pub sound-stored : {flat : Flat} {made read checked : ℕ} {given : List (Option ℕ)} {code : Listing} {r : ℕ → Option ℕ} (old new : List (Option ℕ)) → Sound flat made read checked given code r (look old) (length old) → (k i x : ℕ) → k < length new → look old k ≡ None → ((j : ℕ) → look new j ≡ put (look old) k (Some x) j) → (length new ≡ length old) ⊎ ((length new ≡ suc (length old)) × ((j : ℕ) → j < length old → is_some (look old j) ≡ true)) → REGISTERS < width_of flat → i < REGISTERS → r i ≡ Some x → is_live flat made read checked x ≡ true → ((j : ℕ) → look old j ≡ Some x → ⊥) → Sound flat made read checked given (with_instr code (Store k i)) r (look new) (length new)
+pub sound-stored : {flat : Flat} {made read checked : ℕ} {given : List (Option ℕ)} {code : Listing} {r : ℕ → Option ℕ} (old new : List (Option ℕ))
+    → Sound flat made read checked given code r (look old) (length old) → (k i x : ℕ) → k < length new → look old k ≡ None
+    → ((j : ℕ) → look new j ≡ put (look old) k (Some x) j)
+    → (length new ≡ length old) ⊎ ((length new ≡ suc (length old)) × ((j : ℕ) → j < length old → is_some (look old j) ≡ true)) → REGISTERS < width_of flat
+    → i < REGISTERS → r i ≡ Some x → is_live flat made read checked x ≡ true → ((j : ℕ) → look old j ≡ Some x → ⊥)
+    → Sound flat made read checked given (with_instr code (Store k i)) r (look new) (length new)
 sound-stored {flat} {made} {read} {checked} {given} {code} {r} old new h k i x lt free same grows crowded below at live away =
     let fits = slots-more old (length new) h x grows live away in
     subst (λ (f : ℕ → Option ℕ). Sound flat made read checked given (with_instr code (Store k i)) r f (length new)) (λ i. λ j. sym (same j) i)
     (sound-store h k i x (length new) free lt fits.0 (slots-grown old (length new) k free lt grows) fits.1 crowded below at live (λ p. away p.place p.is))
 
-pub right-stored : {flat : Flat} {made read checked : ℕ} {given : List (Option ℕ)} {code : Listing} {r : ℕ → Option ℕ} (old : List (Option ℕ)) (size : ℕ) → Sound flat made read checked given code r (look old) (length old) → (k i x : ℕ) → k < size → (size ≡ length old) ⊎ ((size ≡ suc (length old)) × ((j : ℕ) → j < length old → is_some (look old j) ≡ true)) → i < REGISTERS → r i ≡ Some x → is_live flat made read checked x ≡ true → ((j : ℕ) → look old j ≡ Some x → ⊥) → wrong_behind code (Store k i) ≡ None
+pub right-stored : {flat : Flat} {made read checked : ℕ} {given : List (Option ℕ)} {code : Listing} {r : ℕ → Option ℕ} (old : List (Option ℕ)) (size : ℕ)
+    → Sound flat made read checked given code r (look old) (length old) → (k i x : ℕ) → k < size
+    → (size ≡ length old) ⊎ ((size ≡ suc (length old)) × ((j : ℕ) → j < length old → is_some (look old j) ≡ true)) → i < REGISTERS → r i ≡ Some x
+    → is_live flat made read checked x ≡ true → ((j : ℕ) → look old j ≡ Some x → ⊥) → wrong_behind code (Store k i) ≡ None
 right-stored {flat} {made} {read} {checked} {given} {code} {r} old size h k i x lt grows below at live away =
     let fits = slots-more old size h x grows live away in
     right-next h size (Store k i) _ fits.0 fits.1 (next-store code size k i x h.spelled.state lt below (held-by h i x at))
 
-pub loads-stored : {flat : Flat} {made read checked : ℕ} {given : List (Option ℕ)} {code : Listing} {r : ℕ → Option ℕ} (old : List (Option ℕ)) (size : ℕ) → Sound flat made read checked given code r (look old) (length old) → (k i x : ℕ) → k < size → (size ≡ length old) ⊎ ((size ≡ suc (length old)) × ((j : ℕ) → j < length old → is_some (look old j) ≡ true)) → i < REGISTERS → r i ≡ Some x → is_live flat made read checked x ≡ true → ((j : ℕ) → look old j ≡ Some x → ⊥) → (y : ℕ) → loads_of y (with_instr code (Store k i)) ≡ loads_of y code
+pub loads-stored : {flat : Flat} {made read checked : ℕ} {given : List (Option ℕ)} {code : Listing} {r : ℕ → Option ℕ} (old : List (Option ℕ)) (size : ℕ)
+    → Sound flat made read checked given code r (look old) (length old) → (k i x : ℕ) → k < size
+    → (size ≡ length old) ⊎ ((size ≡ suc (length old)) × ((j : ℕ) → j < length old → is_some (look old j) ≡ true)) → i < REGISTERS → r i ≡ Some x
+    → is_live flat made read checked x ≡ true → ((j : ℕ) → look old j ≡ Some x → ⊥) → (y : ℕ) → loads_of y (with_instr code (Store k i)) ≡ loads_of y code
 loads-stored {flat} {made} {read} {checked} {given} {code} {r} old size h k i x lt grows below at live away y =
     let fits = slots-more old size h x grows live away in
     loads-next h size (Store k i) _ fits.0 fits.1 (next-store code size k i x h.spelled.state lt below (held-by h i x at)) y ∙ sym (loads-now h y)
 
 -- a slot's number is one of 32 bits
-pub slot-small : {flat : Flat} {made read checked : ℕ} {given : List (Option ℕ)} {code : Listing} {r : ℕ → Option ℕ} (old : List (Option ℕ)) (size : ℕ) → Sound flat made read checked given code r (look old) (length old) → (x : ℕ) → (size ≡ length old) ⊎ ((size ≡ suc (length old)) × ((j : ℕ) → j < length old → is_some (look old j) ≡ true)) → is_live flat made read checked x ≡ true → ((j : ℕ) → look old j ≡ Some x → ⊥) → size ≤ 200000000
+pub slot-small : {flat : Flat} {made read checked : ℕ} {given : List (Option ℕ)} {code : Listing} {r : ℕ → Option ℕ} (old : List (Option ℕ)) (size : ℕ)
+    → Sound flat made read checked given code r (look old) (length old) → (x : ℕ)
+    → (size ≡ length old) ⊎ ((size ≡ suc (length old)) × ((j : ℕ) → j < length old → is_some (look old j) ≡ true)) → is_live flat made read checked x ≡ true
+    → ((j : ℕ) → look old j ≡ Some x → ⊥) → size ≤ 200000000
 slot-small {flat} {made} {read} {checked} {given} {code} {r} old size h x grows live away =
     let fits = slots-more old size h x grows live away in
     let most = width-nodes flat in
@@ -398,80 +528,116 @@ slot-small {flat} {made} {read} {checked} {given} {code} {r} old size h x grows 
     omega (arith, fits.1)
 
 -- `sound-load` of lists
-pub sound-loaded : {flat : Flat} {made read checked : ℕ} {given : List (Option ℕ)} {code : Listing} {s : ℕ → Option ℕ} {n : ℕ} (table : List (Option ℕ)) → Sound flat made read checked given code (look table) s n → (k i x : ℕ) → k < REGISTERS → k < length table → s i ≡ Some x → ((j : ℕ) → look table j ≡ Some x → ⊥) → ((y : ℕ) → look table k ≡ Some y → is_live flat made read checked y ≡ true → In s y) → Sound flat made read checked given (with_instr code (Load k i)) (look (set table k (Some x))) s n
+pub sound-loaded : {flat : Flat} {made read checked : ℕ} {given : List (Option ℕ)} {code : Listing} {s : ℕ → Option ℕ} {n : ℕ} (table : List (Option ℕ))
+    → Sound flat made read checked given code (look table) s n → (k i x : ℕ) → k < REGISTERS → k < length table → s i ≡ Some x
+    → ((j : ℕ) → look table j ≡ Some x → ⊥) → ((y : ℕ) → look table k ≡ Some y → is_live flat made read checked y ≡ true → In s y)
+    → Sound flat made read checked given (with_instr code (Load k i)) (look (set table k (Some x))) s n
 sound-loaded {flat} {made} {read} {checked} {given} {code} {s} {n} table h k i x lt within at away spare =
     subst (λ (f : ℕ → Option ℕ). Sound flat made read checked given (with_instr code (Load k i)) f s n) (look-set table k (Some x) within)
     (sound-load h k i x lt at (λ p. away p.place p.is) spare)
 
 -- `sound-make` of lists
-pub sound-made : {flat : Flat} {made read checked : ℕ} {given : List (Option ℕ)} {code : Listing} {s : ℕ → Option ℕ} {n : ℕ} (table : List (Option ℕ)) → Sound flat made read checked given code (look table) s n → (k : ℕ) (node : Node) (q : Sources) → made < read → node ≡ node_at flat.nodes made → k < REGISTERS → k < length table → HasSources (look table) node q → ((y : ℕ) → look table k ≡ Some y → is_live flat made read checked y ≡ true → In s y) → Sound flat (suc made) read checked given (with_instr code (instr_of node k q)) (look (set table k (Some made))) s n
+pub sound-made : {flat : Flat} {made read checked : ℕ} {given : List (Option ℕ)} {code : Listing} {s : ℕ → Option ℕ} {n : ℕ} (table : List (Option ℕ))
+    → Sound flat made read checked given code (look table) s n → (k : ℕ) (node : Node) (q : Sources) → made < read → node ≡ node_at flat.nodes made
+    → k < REGISTERS → k < length table → HasSources (look table) node q → ((y : ℕ) → look table k ≡ Some y → is_live flat made read checked y ≡ true → In s y)
+    → Sound flat (suc made) read checked given (with_instr code (instr_of node k q)) (look (set table k (Some made))) s n
 sound-made {flat} {made} {read} {checked} {given} {code} {s} {n} table h k node q some is lt within has spare =
     subst (λ (f : ℕ → Option ℕ). Sound flat (suc made) read checked given (with_instr code (instr_of node k q)) f s n) (look-set table k (Some made) within)
     (sound-make h k node q some is lt has spare)
 
 -- `sound-pass` with numbers that are equal
-pub sound-passed : {flat : Flat} {made read checked : ℕ} {given : List (Option ℕ)} {code : Listing} {r s : ℕ → Option ℕ} {n : ℕ} → Sound flat made read checked given code r s n → (node : Node) (s' : ℕ → Option ℕ) (read' n' : ℕ) → suc read ≡ read' → n ≡ n' → read < length flat.nodes → node ≡ node_at flat.nodes read → (checked < length flat.checks → read ≤ moment_from 0 flat.checks checked) → Cleared (λ x. reads x node) (is_live flat made read' checked) s s' → Sound flat made read' checked given code r s' n'
+pub sound-passed : {flat : Flat} {made read checked : ℕ} {given : List (Option ℕ)} {code : Listing} {r s : ℕ → Option ℕ} {n : ℕ}
+    → Sound flat made read checked given code r s n → (node : Node) (s' : ℕ → Option ℕ) (read' n' : ℕ) → suc read ≡ read' → n ≡ n' → read < length flat.nodes
+    → node ≡ node_at flat.nodes read → (checked < length flat.checks → read ≤ moment_from 0 flat.checks checked)
+    → Cleared (λ x. reads x node) (is_live flat made read' checked) s s' → Sound flat made read' checked given code r s' n'
 sound-passed {flat} {made} {read} {checked} {given} {code} {r} {s} {n} h node s' read' n' e f below is late =
     subst (λ m. Cleared (λ x. reads x node) (is_live flat made m checked) s s' → Sound flat made m checked given code r s' n') e
     (λ clear. subst (λ m. Sound flat made (suc read) checked given code r s' m) f (sound-pass h node s' below is late clear))
 
 -- `sound-test` with numbers that are equal
-pub sound-tested : {flat : Flat} {made read checked : ℕ} {given : List (Option ℕ)} {code : Listing} {r s : ℕ → Option ℕ} {n : ℕ} → Sound flat made read checked given code r s n → (check : Check) (g k : ℕ) (s' : ℕ → Option ℕ) (checked' n' : ℕ) → suc checked ≡ checked' → n ≡ n' → checked < length flat.checks → check ≡ get_or flat.checks checked check → g < REGISTERS → k < REGISTERS → r g ≡ Some check.guard → r k ≡ Some check.condition → Cleared (λ x. check_reads x check) (is_live flat made read checked') s s' → Sound flat made read checked' given (with_instr code (Test g k check.over_only check.label)) r s' n'
+pub sound-tested : {flat : Flat} {made read checked : ℕ} {given : List (Option ℕ)} {code : Listing} {r s : ℕ → Option ℕ} {n : ℕ}
+    → Sound flat made read checked given code r s n → (check : Check) (g k : ℕ) (s' : ℕ → Option ℕ) (checked' n' : ℕ) → suc checked ≡ checked' → n ≡ n'
+    → checked < length flat.checks → check ≡ get_or flat.checks checked check → g < REGISTERS → k < REGISTERS → r g ≡ Some check.guard
+    → r k ≡ Some check.condition → Cleared (λ x. check_reads x check) (is_live flat made read checked') s s'
+    → Sound flat made read checked' given (with_instr code (Test g k check.over_only check.label)) r s' n'
 sound-tested {flat} {made} {read} {checked} {given} {code} {r} {s} {n} h check g k s' checked' n' e f below is lt lt' guard condition =
-    subst (λ m. Cleared (λ x. check_reads x check) (is_live flat made read m) s s' → Sound flat made read m given (with_instr code (Test g k check.over_only check.label)) r s' n') e
-    (λ clear. subst (λ m. Sound flat made read (suc checked) given (with_instr code (Test g k check.over_only check.label)) r s' m) f (sound-test h check g k s' below is lt lt' guard condition clear))
+    subst (λ m. Cleared (λ x. check_reads x check) (is_live flat made read m) s s'
+    → Sound flat made read m given (with_instr code (Test g k check.over_only check.label)) r s' n') e
+    (λ clear. subst (λ m. Sound flat made read (suc checked) given (with_instr code (Test g k check.over_only check.label)) r s' m) f
+    (sound-test h check g k s' below is lt lt' guard condition clear))
 
 -- `sound-made` with a number that is equal
-pub sound-made-at : {flat : Flat} {made read checked : ℕ} {given : List (Option ℕ)} {code : Listing} {s : ℕ → Option ℕ} {n : ℕ} (table : List (Option ℕ)) → Sound flat made read checked given code (look table) s n → (made' : ℕ) → suc made ≡ made' → (k : ℕ) (node : Node) (q : Sources) → made < read → node ≡ node_at flat.nodes made → k < REGISTERS → k < length table → HasSources (look table) node q → ((y : ℕ) → look table k ≡ Some y → is_live flat made read checked y ≡ true → In s y) → Sound flat made' read checked given (with_instr code (instr_of node k q)) (look (set table k (Some made))) s n
+pub sound-made-at : {flat : Flat} {made read checked : ℕ} {given : List (Option ℕ)} {code : Listing} {s : ℕ → Option ℕ} {n : ℕ} (table : List (Option ℕ))
+    → Sound flat made read checked given code (look table) s n → (made' : ℕ) → suc made ≡ made' → (k : ℕ) (node : Node) (q : Sources) → made < read
+    → node ≡ node_at flat.nodes made → k < REGISTERS → k < length table → HasSources (look table) node q
+    → ((y : ℕ) → look table k ≡ Some y → is_live flat made read checked y ≡ true → In s y)
+    → Sound flat made' read checked given (with_instr code (instr_of node k q)) (look (set table k (Some made))) s n
 sound-made-at {flat} {made} {read} {checked} {given} {code} {s} {n} table h made' e k node q some is lt within has spare =
-    subst (λ m. Sound flat m read checked given (with_instr code (instr_of node k q)) (look (set table k (Some made))) s n) e (sound-made table h k node q some is lt within has spare)
+    subst (λ m. Sound flat m read checked given (with_instr code (instr_of node k q)) (look (set table k (Some made))) s n) e
+    (sound-made table h k node q some is lt within has spare)
 
 -- where all registers stand for live nodes at the next node, there are fewer than the width
-pub turn-crowded : {flat : Flat} {made read checked : ℕ} {given : List (Option ℕ)} {code : Listing} {r s : ℕ → Option ℕ} {n : ℕ} → Sound flat made read checked given code r s n → read ≡ suc made → made < length flat.nodes → ((k : ℕ) → k < REGISTERS → is_busy (is_live flat made read checked) (r k) ≡ true) → REGISTERS < width_of flat
+pub turn-crowded : {flat : Flat} {made read checked : ℕ} {given : List (Option ℕ)} {code : Listing} {r s : ℕ → Option ℕ} {n : ℕ}
+    → Sound flat made read checked given code r s n → read ≡ suc made → made < length flat.nodes
+    → ((k : ℕ) → k < REGISTERS → is_busy (is_live flat made read checked) (r k) ≡ true) → REGISTERS < width_of flat
 turn-crowded {flat} {made} {read} {checked} {given} {code} {r} {s} {n} h e below all =
     let same : made ≡ read - 1 = omega arith in
     let held : is_held flat (read - 1) made ≡ true = or_left (eqb made (read - 1)) _ (eq-eqb made (read - 1) same) in
     registers-below h made (omega arith) below held (λ p. let lt : made < made = h.tables.earlier p.place made p.is in absurd (omega arith)) all
 
 -- the reads of one more node
-pub reads-more : (flat : Flat) (made : ℕ) (node : Node) → made < length flat.nodes → node ≡ node_at flat.nodes made → (y : ℕ) → nodes_read flat (suc made) y ≡ nodes_read flat made y + reads_by y node
+pub reads-more : (flat : Flat) (made : ℕ) (node : Node) → made < length flat.nodes → node ≡ node_at flat.nodes made → (y : ℕ)
+    → nodes_read flat (suc made) y ≡ nodes_read flat made y + reads_by y node
 reads-more flat made node below is y =
-    ap (sum_by (reads_by y)) (take-suc flat.nodes made (Number Undef) below) ∙ sum_by_push (reads_by y) (take made flat.nodes) (node_at flat.nodes made) ∙ ap (λ x. nodes_read flat made y + reads_by y x) (sym is)
+    ap (sum_by (reads_by y)) (take-suc flat.nodes made (Number Undef) below) ∙ sum_by_push (reads_by y) (take made flat.nodes) (node_at flat.nodes made)
+    ∙ ap (λ x. nodes_read flat made y + reads_by y x) (sym is)
 
 -- the reads of one more check
-pub tests-more : (flat : Flat) (checked : ℕ) (check : Check) → checked < length flat.checks → check ≡ get_or flat.checks checked check → (y : ℕ) → checks_read flat (suc checked) y ≡ checks_read flat checked y + tests_by y check
+pub tests-more : (flat : Flat) (checked : ℕ) (check : Check) → checked < length flat.checks → check ≡ get_or flat.checks checked check → (y : ℕ)
+    → checks_read flat (suc checked) y ≡ checks_read flat checked y + tests_by y check
 tests-more flat checked check below is y =
-    ap (sum_by (tests_by y)) (take-suc flat.checks checked check below) ∙ sum_by_push (tests_by y) (take checked flat.checks) (get_or flat.checks checked check) ∙ ap (λ x. checks_read flat checked y + tests_by y x) (sym is)
+    ap (sum_by (tests_by y)) (take-suc flat.checks checked check below) ∙ sum_by_push (tests_by y) (take checked flat.checks) (get_or flat.checks checked check)
+    ∙ ap (λ x. checks_read flat checked y + tests_by y x) (sym is)
 
 -- the next check isn't ready
-pub settled-from : (flat : Flat) (made checked : ℕ) (check : Check) → check ≡ get_or flat.checks checked check → made ≤ max check.guard check.condition → checked < length flat.checks → made ≤ moment_from 0 flat.checks checked
+pub settled-from : (flat : Flat) (made checked : ℕ) (check : Check) → check ≡ get_or flat.checks checked check → made ≤ max check.guard check.condition
+    → checked < length flat.checks → made ≤ moment_from 0 flat.checks checked
 settled-from flat made checked check is le lt =
     let guard : check.guard ≡ (get_or flat.checks checked check).guard = ap (λ (c : Check). c.guard) is in
     let condition : check.condition ≡ (get_or flat.checks checked check).condition = ap (λ (c : Check). c.condition) is in
     omega (arith, moment-reads 0 flat.checks checked check lt)
 
 -- one of the outputs is given, or isn't of this node
-pub sound-gave : {flat : Flat} {made read checked : ℕ} {code : Listing} {r s : ℕ → Option ℕ} {n : ℕ} (p j : ℕ) → Sound flat made read checked (given_part p j flat.outputs) code r s n → (j' k : ℕ) → suc j ≡ j' → j < length flat.outputs → k < REGISTERS → r k ≡ Some p → get_or flat.outputs j 0 ≡ p → Sound flat made read checked (given_part p j' flat.outputs) (with_instr code (Output j k)) r s n
+pub sound-gave : {flat : Flat} {made read checked : ℕ} {code : Listing} {r s : ℕ → Option ℕ} {n : ℕ} (p j : ℕ)
+    → Sound flat made read checked (given_part p j flat.outputs) code r s n → (j' k : ℕ) → suc j ≡ j' → j < length flat.outputs → k < REGISTERS → r k ≡ Some p
+    → get_or flat.outputs j 0 ≡ p → Sound flat made read checked (given_part p j' flat.outputs) (with_instr code (Output j k)) r s n
 sound-gave {flat} {made} {read} {checked} {code} {r} {s} {n} p j h j' k e lt lt' at is =
     subst (λ (given : List (Option ℕ)). Sound flat made read checked given (with_instr code (Output j k)) r s n)
     (part-this p j flat.outputs lt is ∙ ap (λ m. given_part p m flat.outputs) e)
     (sound-give h j k p lt lt' (part-free p j flat.outputs lt is) at)
 
-pub right-gave : {flat : Flat} {made read checked : ℕ} {code : Listing} {r s : ℕ → Option ℕ} {n : ℕ} (p j : ℕ) → Sound flat made read checked (given_part p j flat.outputs) code r s n → (k : ℕ) → j < length flat.outputs → k < REGISTERS → r k ≡ Some p → get_or flat.outputs j 0 ≡ p → wrong_behind code (Output j k) ≡ None
+pub right-gave : {flat : Flat} {made read checked : ℕ} {code : Listing} {r s : ℕ → Option ℕ} {n : ℕ} (p j : ℕ)
+    → Sound flat made read checked (given_part p j flat.outputs) code r s n → (k : ℕ) → j < length flat.outputs → k < REGISTERS → r k ≡ Some p
+    → get_or flat.outputs j 0 ≡ p → wrong_behind code (Output j k) ≡ None
 right-gave {flat} p j h k lt lt' at is = right-give h j k p lt lt' (part-free p j flat.outputs lt is) at
 
-pub loads-gave : {flat : Flat} {made read checked : ℕ} {code : Listing} {r s : ℕ → Option ℕ} {n : ℕ} (p j : ℕ) → Sound flat made read checked (given_part p j flat.outputs) code r s n → (k : ℕ) → j < length flat.outputs → k < REGISTERS → r k ≡ Some p → get_or flat.outputs j 0 ≡ p → (y : ℕ) → loads_of y (with_instr code (Output j k)) ≡ loads_of y code
+pub loads-gave : {flat : Flat} {made read checked : ℕ} {code : Listing} {r s : ℕ → Option ℕ} {n : ℕ} (p j : ℕ)
+    → Sound flat made read checked (given_part p j flat.outputs) code r s n → (k : ℕ) → j < length flat.outputs → k < REGISTERS → r k ≡ Some p
+    → get_or flat.outputs j 0 ≡ p → (y : ℕ) → loads_of y (with_instr code (Output j k)) ≡ loads_of y code
 loads-gave {flat} p j h k lt lt' at is y = loads-give h j k p lt lt' (part-free p j flat.outputs lt is) at y
 
 -- slots are fewer than numbers of 32 bits
-pub slots-small : {flat : Flat} {made read checked : ℕ} {given : List (Option ℕ)} {code : Listing} {r s : ℕ → Option ℕ} {n : ℕ} → Sound flat made read checked given code r s n → n ≤ 200000000
+pub slots-small : {flat : Flat} {made read checked : ℕ} {given : List (Option ℕ)} {code : Listing} {r s : ℕ → Option ℕ} {n : ℕ}
+    → Sound flat made read checked given code r s n → n ≤ 200000000
 slots-small {flat} {made} {read} {checked} {given} {code} {r} {s} {n} h =
     let within : n ≤ width_of flat = h.few.within in
     let few : length flat.nodes ≤ MOST = h.order.few_nodes in
     omega (arith, width-nodes flat)
 
 -- there is room for the instructions of one more node, and of one more check
-pub turn-room : {flat : Flat} {made read checked : ℕ} {given : List (Option ℕ)} {code : Listing} {r s : ℕ → Option ℕ} {n : ℕ} → Sound flat made read checked given code r s n → length code.instrs ≤ 8 * made + 5 * checked + count_given made flat.outputs → length code.instrs + 8 + length flat.outputs < 4294967295
+pub turn-room : {flat : Flat} {made read checked : ℕ} {given : List (Option ℕ)} {code : Listing} {r s : ℕ → Option ℕ} {n : ℕ}
+    → Sound flat made read checked given code r s n → length code.instrs ≤ 8 * made + 5 * checked + count_given made flat.outputs
+    → length code.instrs + 8 + length flat.outputs < 4294967295
 turn-room {flat} {made} {read} {checked} {given} {code} {r} {s} {n} h short =
     let nodes : length flat.nodes ≤ MOST = h.order.few_nodes in
     let checks : length flat.checks ≤ MOST = h.order.few_checks in

@@ -1,12 +1,14 @@
 -- Instructions that may stand after code, and what is known after them.
-use Rattle.std.proofs.Common.{◌≡◌, ◌≢◌, ℕ, zero, suc, ◌+◌, ◌-◌, ◌*◌, ◌<◌, ◌≤◌, Bool, true, false, cond, eqb, ltb, max, ◌⊎◌, List, [], ◌∷◌, ◌++◌, length, get_or, set, take, drop, map, Option, None, Some, is_some, refl, ap, sym, ◌∙◌, subst, inl, inr, ⊎_elim, arith}
+use Rattle.std.proofs.Common.{◌≡◌, ◌≢◌, ℕ, zero, suc, ◌+◌, ◌-◌, ◌*◌, ◌<◌, ◌≤◌, Bool, true, false, cond, eqb, ltb, max, ◌⊎◌, List, [], ◌∷◌, ◌++◌, length, get_or}
+use Rattle.std.proofs.Common.{set, take, drop, map, Option, None, Some, is_some, refl, ap, sym, ◌∙◌, subst, inl, inr, ⊎_elim, arith}
 use mathlib.Core.Bool.{◌&&◌}
 use Rattle.std.specs.Prelude.{if◌then◌else◌}
 use Rattle.std.specs.Option.{option_and_then, option_map, option_map_or, is_none}
 use Rattle.std.specs.List.{sum_by, list_any}
 use Rattle.std.proofs.Math.Seq.{take-suc, drop-cons}
 use Rattle.std.proofs.lemmas.Bool.{cases_eq, and_from, lt-ltb, le-ltb, cases_lt, or_left, or_right, eq-eqb, true≢false}
-use Rattle.std.proofs.lemmas.List.{length-take-le, get_or_at, length-map, length-append, map-append, append_assoc, append-nil, set_at, take-append-drop, take_all, drop_all, length_push}
+use Rattle.std.proofs.lemmas.List.{length-take-le, get_or_at, length-map, length-append, map-append, append_assoc, append-nil, set_at, take-append-drop}
+use Rattle.std.proofs.lemmas.List.{take_all, drop_all, length_push}
 use Rattle.std.proofs.lemmas.List.Sums.{fold_push, sum_by_push}
 use Rattle.std.proofs.lemmas.List.Folds.{list_any-append}
 use Rattle.m_fixed.specs.declared.amount.Value.TheVariants.{Undef}
@@ -20,7 +22,8 @@ use Rattle.reg_machine.specs.declared.instr.TheConstants.{REGISTERS}
 use Rattle.reg_machine.specs.declared.instr.Instr.{Instr}
 use Rattle.reg_machine.specs.declared.instr.Instr.TheVariants.{Store, Load, Check as Test, Output}
 use Rattle.reg_machine.specs.declared.wrong.Wrong.TheVariants.{Number as NumberWrong, Order as OrderWrong}
-use Rattle.reg_machine.specs.Flow.{Counts, Listing, State, put, start, step, with_node, with_instr, with_slots, has_numbers, moved, reading, wrong_at, wrong_behind, repeats_first, loads_of}
+use Rattle.reg_machine.specs.Flow.{Counts, Listing, State, put, start, step, with_node, with_instr, with_slots, has_numbers, moved, reading, wrong_at}
+use Rattle.reg_machine.specs.Flow.{wrong_behind, repeats_first, loads_of}
 use Rattle.reg_machine.proofs.BuilderLemmas.{reads-on, wrong-is}
 use Rattle.register_alloc.specs.declared.moment.TheConstants.{MOST}
 use Rattle.register_alloc.specs.declared.sources.Sources.{Sources}
@@ -28,7 +31,8 @@ use Rattle.register_alloc.specs.Width.{reads, check_reads, reads_by, tests_by, o
 use Rattle.register_alloc.specs.Allocation.{is_spill, spills_of, stores_to, IsStoredTo}
 use Rattle.register_alloc.specs.inner.Tables.{look, In, is_live, is_busy}
 use Rattle.register_alloc.specs.inner.Valid.{IsInput}
-use Rattle.register_alloc.specs.inner.Sound.{Once, Few, Sound, Counted, Spells, HasSources, instr_of, Cleared, nodes_read, checks_read, given_before, given_part, count_some, count_given}
+use Rattle.register_alloc.specs.inner.Sound.{Once, Few, Sound, Counted, Spells, HasSources, instr_of, Cleared, nodes_read, checks_read, given_before}
+use Rattle.register_alloc.specs.inner.Sound.{given_part, count_some, count_given}
 use Rattle.register_alloc.proofs.TableLemmas.{none≢some, put-same, put-other, put-cases, in-other, look-set, tables-store, tables-write, tables-pass}
 
 -- An instruction that may stand after code of which `before` is known, where it has `count` slots or more; `after` is known
@@ -38,13 +42,15 @@ pub record Next (code : Listing) (count : ℕ) (before : State) (i : Instr) (aft
   pub moves : moved i before ≡ Some after
 
 -- one more instruction is read
-pub reading-push : (code : Listing) (i : Instr) (count more : ℕ) (s t : State) → ((n : ℕ) → count ≤ n → reading (with_slots code n) ≡ Some s) → count ≤ more → Next code more s i t → (n : ℕ) → more ≤ n → reading (with_slots (with_instr code i) n) ≡ Some t
+pub reading-push : (code : Listing) (i : Instr) (count more : ℕ) (s t : State) → ((n : ℕ) → count ≤ n → reading (with_slots code n) ≡ Some s) → count ≤ more
+    → Next code more s i t → (n : ℕ) → more ≤ n → reading (with_slots (with_instr code i) n) ≡ Some t
 reading-push code i count more s t read le next n le' =
     let all : count ≤ n = omega arith in
     reads-on (with_slots code n) i s t (read n all) (next.has n le') next.moves
 
 -- nothing is wrong with it
-pub right-push : (code : Listing) (i : Instr) (count more : ℕ) (s t : State) → ((n : ℕ) → count ≤ n → reading (with_slots code n) ≡ Some s) → count ≤ more → more ≤ code.counts.slots → Next code more s i t → wrong_behind code i ≡ None
+pub right-push : (code : Listing) (i : Instr) (count more : ℕ) (s t : State) → ((n : ℕ) → count ≤ n → reading (with_slots code n) ≡ Some s) → count ≤ more
+    → more ≤ code.counts.slots → Next code more s i t → wrong_behind code i ≡ None
 right-push code i count more s t read le fits next =
     let all : count ≤ code.counts.slots = omega arith in
     wrong-is code i s (read code.counts.slots all)
@@ -52,7 +58,8 @@ right-push code i count more s t read le fits next =
     ∙ ap (λ o. if is_none o then Some OrderWrong else None) next.moves
 
 -- how often nodes are loaded, by what is known
-pub loads-read : (code : Listing) (count : ℕ) (s : State) → ((n : ℕ) → count ≤ n → reading (with_slots code n) ≡ Some s) → count ≤ code.counts.slots → (y : ℕ) → loads_of y code ≡ s.loaded y
+pub loads-read : (code : Listing) (count : ℕ) (s : State) → ((n : ℕ) → count ≤ n → reading (with_slots code n) ≡ Some s) → count ≤ code.counts.slots → (y : ℕ)
+    → loads_of y code ≡ s.loaded y
 loads-read code count s read fits y = ap (λ (o : Option State). option_map_or (λ (s : State). s.loaded y) o 0) (read code.counts.slots fits)
 
 pub spills-push : (code : Listing) (i : Instr) → is_spill i ≡ false → spills_of (with_instr code i) ≡ spills_of code
@@ -74,20 +81,23 @@ used-here code k r =
 
 -- ---- the instructions
 
-pub next-store : (code : Listing) (m k i x : ℕ) (t : State) → k < m → i < REGISTERS → t.registers i ≡ Some x → Next code m t (Store k i) (record t { slots = put t.slots k (Some x); stored = put t.stored x (suc (t.stored x)) })
+pub next-store : (code : Listing) (m k i x : ℕ) (t : State) → k < m → i < REGISTERS → t.registers i ≡ Some x
+    → Next code m t (Store k i) (record t { slots = put t.slots k (Some x); stored = put t.stored x (suc (t.stored x)) })
 next-store code m k i x t lt below holds = record {
   has = λ n le. and_from (ltb k n) (ltb i REGISTERS) (lt-ltb k n (omega arith)) (lt-ltb i REGISTERS below);
   moves = ap (option_map (λ (x : ℕ). record t { slots = put t.slots k (Some x); stored = put t.stored x (suc (t.stored x)) })) holds;
 }
 
-pub next-load : (code : Listing) (m k i x : ℕ) (t : State) → i < m → k < REGISTERS → t.slots i ≡ Some x → Next code m t (Load k i) (record t { registers = put t.registers k (Some x); loaded = put t.loaded x (suc (t.loaded x)) })
+pub next-load : (code : Listing) (m k i x : ℕ) (t : State) → i < m → k < REGISTERS → t.slots i ≡ Some x
+    → Next code m t (Load k i) (record t { registers = put t.registers k (Some x); loaded = put t.loaded x (suc (t.loaded x)) })
 next-load code m k i x t lt below holds = record {
   has = λ n le. and_from (ltb k REGISTERS) (ltb i n) (lt-ltb k REGISTERS below) (lt-ltb i n (omega arith));
   moves = ap (option_map (λ (x : ℕ). record t { registers = put t.registers k (Some x); loaded = put t.loaded x (suc (t.loaded x)) })) holds;
 }
 
 -- the instruction of a node makes it
-pub next-node : (code : Listing) (m k : ℕ) (node : Node) (q : Sources) (t : State) → k < REGISTERS → IsInput code.counts.inputs node → HasSources t.registers node q → Next code m t (instr_of node k q) (with_node k node t)
+pub next-node : (code : Listing) (m k : ℕ) (node : Node) (q : Sources) (t : State) → k < REGISTERS → IsInput code.counts.inputs node
+    → HasSources t.registers node q → Next code m t (instr_of node k q) (with_node k node t)
 next-node code m k (Input n) q t below inputs has = record {
   has = λ _ le. and_from (ltb k REGISTERS) (ltb n code.counts.inputs) (lt-ltb k REGISTERS below) (lt-ltb n code.counts.inputs inputs);
   moves = refl;
@@ -100,22 +110,33 @@ next-node code m k (Work op a b c) q t below inputs has = record {
       (and_from (ltb q.second REGISTERS) _ (lt-ltb q.second REGISTERS has.4)
       (and_from (ltb q.third REGISTERS) (repeats_first op q.first q.second q.third) (lt-ltb q.third REGISTERS has.5) has.6)));
   moves =
-      ap (option_and_then (λ (x : ℕ). option_and_then (λ (y : ℕ). option_map (λ (z : ℕ). with_node k (Work op x y z) t) (t.registers q.third)) (t.registers q.second))) has.0
+      ap (option_and_then (λ (x : ℕ). option_and_then (λ (y : ℕ). option_map (λ (z : ℕ). with_node k (Work op x y z) t) (t.registers q.third))
+      (t.registers q.second))) has.0
       ∙ ap (option_and_then (λ (y : ℕ). option_map (λ (z : ℕ). with_node k (Work op a y z) t) (t.registers q.third))) has.1
       ∙ ap (option_map (λ (z : ℕ). with_node k (Work op a b z) t)) has.2;
 }
 
-pub next-test : (code : Listing) (m g k : ℕ) (check : Check) (t : State) → g < REGISTERS → k < REGISTERS → check.label < code.counts.labels → t.registers g ≡ Some check.guard → t.registers k ≡ Some check.condition → Next code m t (Test g k check.over_only check.label) (record t { checks = t.checks ++ check ∷ [] })
+pub next-test : (code : Listing) (m g k : ℕ) (check : Check) (t : State) → g < REGISTERS → k < REGISTERS → check.label < code.counts.labels
+    → t.registers g ≡ Some check.guard → t.registers k ≡ Some check.condition
+    → Next code m t (Test g k check.over_only check.label) (record t { checks = t.checks ++ check ∷ [] })
 next-test code m g k check t below below' label guard condition = record {
-  has = λ _ le. and_from (ltb g REGISTERS) _ (lt-ltb g REGISTERS below) (and_from (ltb k REGISTERS) (ltb check.label code.counts.labels) (lt-ltb k REGISTERS below') (lt-ltb check.label code.counts.labels label));
+  has = λ _ le. and_from (ltb g REGISTERS) _ (lt-ltb g REGISTERS below)
+      (and_from (ltb k REGISTERS) (ltb check.label code.counts.labels) (lt-ltb k REGISTERS below') (lt-ltb check.label code.counts.labels label));
   moves =
-      ap (option_and_then (λ (x : ℕ). option_map (λ (y : ℕ). record t { checks = t.checks ++ record { guard = x; condition = y; over_only = check.over_only; label = check.label } ∷ [] }) (t.registers k))) guard
-      ∙ ap (option_map (λ (y : ℕ). record t { checks = t.checks ++ record { guard = check.guard; condition = y; over_only = check.over_only; label = check.label } ∷ [] })) condition;
+      ap (option_and_then (λ (x : ℕ). option_map
+      (λ (y : ℕ). record t { checks = t.checks ++ record { guard = x; condition = y; over_only = check.over_only; label = check.label } ∷ [] })
+      (t.registers k))) guard
+      ∙ ap (option_map (λ (y : ℕ). record t {
+        checks = t.checks
+            ++ record { guard = check.guard; condition = y; over_only = check.over_only; label = check.label } ∷ [];
+      })) condition;
 }
 
-pub next-give : (code : Listing) (m j k x : ℕ) (t : State) → j < code.counts.outputs → k < REGISTERS → get_or t.outputs j None ≡ None → t.registers k ≡ Some x → Next code m t (Output j k) (record t { outputs = set t.outputs j (Some x) })
+pub next-give : (code : Listing) (m j k x : ℕ) (t : State) → j < code.counts.outputs → k < REGISTERS → get_or t.outputs j None ≡ None → t.registers k ≡ Some x
+    → Next code m t (Output j k) (record t { outputs = set t.outputs j (Some x) })
 next-give code m j k x t lt below free holds = record {
-  has = λ _ le. and_from (ltb j code.counts.outputs) _ (lt-ltb j code.counts.outputs lt) (and_from (ltb k REGISTERS) (is_none (get_or t.outputs j None)) (lt-ltb k REGISTERS below) (ap is_none free));
+  has = λ _ le. and_from (ltb j code.counts.outputs) _ (lt-ltb j code.counts.outputs lt)
+      (and_from (ltb k REGISTERS) (is_none (get_or t.outputs j None)) (lt-ltb k REGISTERS below) (ap is_none free));
   moves = ap (option_map (λ (x : ℕ). record t { outputs = set t.outputs j (Some x) })) holds;
 }
 

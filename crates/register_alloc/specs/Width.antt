@@ -1,5 +1,6 @@
 -- Which nodes of a flat program are held at a node, and how many at most.
-use Rattle.std.specs.Prelude.{◌≡◌, ◌<◌, ◌≤◌, ℕ, zero, suc, ◌+◌, ◌==◌, nat_lt, nat_le, max, Bool, true, false, slice_index_or, ◌&&◌, ◌||◌, List, [], ◌∷◌, length, drop}
+use Rattle.std.specs.Prelude.{◌≡◌, ◌<◌, ◌≤◌, ℕ, zero, suc, ◌+◌, ◌==◌, nat_lt, nat_le, max, Bool, true, false, slice_index_or, ◌&&◌, ◌||◌, List, [], ◌∷◌, length}
+use Rattle.std.specs.Prelude.{drop}
 use Rattle.std.specs.List.{list_any, sum_by}
 use Rattle.m_fixed.specs.Operators.{arity_of}
 use Rattle.flat_code.specs.declared.program.Node.{Node}

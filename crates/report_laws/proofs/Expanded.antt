@@ -1,5 +1,6 @@
 -- The literals of rules without loops: those that were spelled, and the numbers that letters and `X` stand for.
-use Rattle.std.proofs.Common.{◌≡◌, ℕ, zero, suc, ◌+◌, ◌*◌, ◌<◌, ◌≤◌, Bool, true, false, cond, nat_le, List, [], ◌∷◌, length, map, filter, Option, None, Some, pos, refl, leb-true, arith}
+use Rattle.std.proofs.Common.{◌≡◌, ℕ, zero, suc, ◌+◌, ◌*◌, ◌<◌, ◌≤◌, Bool, true, false, cond, nat_le, List, [], ◌∷◌, length, map, filter, Option, None, Some}
+use Rattle.std.proofs.Common.{pos, refl, leb-true, arith}
 use Rattle.std.specs.Prelude.{IfSome, IsTrue}
 use Rattle.std.specs.Char.{is_ascii_digit}
 use Rattle.std.specs.Str.{bytes_eq}
@@ -13,7 +14,8 @@ use Rattle.m_fixed.specs.Amounts.{IsAmount, unit}
 use Rattle.m_fixed.specs.Text.{is_digits, only_digits}
 use Rattle.m_fixed.proofs.Decimals.{both, digit_small}
 use Rattle.m_ast.specs.Items.{variable_size}
-use Rattle.m_ast.specs.Syntax.{Syntax, lit, named, the_x, cell, apply, chain, among, loop, Terms, no_terms, a_term, Links, no_links, a_link, Members, no_members, a_member}
+use Rattle.m_ast.specs.Syntax.{Syntax, lit, named, the_x, cell, apply, chain, among, loop, Terms, no_terms, a_term, Links, no_links, a_link, Members}
+use Rattle.m_ast.specs.Syntax.{no_members, a_member}
 use Rattle.m_ast.specs.declared.item.Formula.{Formula}
 use Rattle.m_ast.specs.declared.item.Item.{Item}
 use Rattle.m_ast.specs.declared.item.Item.TheVariants.{Variable, Rule, Verif, Error, Silent}
@@ -46,9 +48,11 @@ digit_word (d ∷ ds) h =
 word_value : (word : List ℕ) → is_number_word word ≡ true → digits_value 10 word < 1_000_000_000_000
 word_value word h =
     let p = both (is_digits word) (nat_le (length word) 12) h in
-    digits_value_short (numerals_by_value (AllDigits 10) holds_digits) word 12 (digit_word word (both (only_digits word) _ p.0).0) (leb-true (length word) 12 p.1)
+    digits_value_short (numerals_by_value (AllDigits 10) holds_digits) word 12 (digit_word word (both (only_digits word) _ p.0).0)
+    (leb-true (length word) 12 p.1)
 
-word_meaning : (word : List ℕ) (place : Place) (b : Bool) → is_number_word word ≡ b → SaysAmounts (cond b (number_term (digits_value 10 word)) (named word place))
+word_meaning : (word : List ℕ) (place : Place) (b : Bool) → is_number_word word ≡ b
+    → SaysAmounts (cond b (number_term (digits_value 10 word)) (named word place))
 word_meaning word place true h = small_amount (digits_value 10 word) (word_value word h)
 word_meaning word place false h = tt
 
@@ -76,7 +80,8 @@ all_mapped f Q h [] = tt
 all_mapped f Q h (x ∷ xs) = (h x, all_mapped f Q h xs)
 
 mutual
-  expanded_meaning : (cell_number : Option ℕ) (letters : Letters) (t : Syntax) → IsSmall cell_number → SaysAmounts t → SaysAmounts (expanded cell_number letters t)
+  expanded_meaning : (cell_number : Option ℕ) (letters : Letters) (t : Syntax) → IsSmall cell_number → SaysAmounts t
+      → SaysAmounts (expanded cell_number letters t)
   expanded_meaning k letters (lit v) s h = h
   expanded_meaning k letters (named word place) s h = word_meaning (replaced letters word) place (is_number_word (replaced letters word)) refl
   expanded_meaning k letters (the_x place) s h = x_meaning k place s
@@ -88,17 +93,25 @@ mutual
       summed_meaning (map (λ bound. expanded k bound a) (instances header.indexes letters))
       (all_mapped (λ bound. expanded k bound a) SaysAmounts (λ bound. expanded_meaning k bound a s h) (instances header.indexes letters))
 
-  expanded_terms_mean : (cell_number : Option ℕ) (letters : Letters) (all : Terms) → IsSmall cell_number → TermsSayAmounts all → TermsSayAmounts (expanded_terms cell_number letters all)
+  expanded_terms_mean : (cell_number : Option ℕ) (letters : Letters) (all : Terms) → IsSmall cell_number → TermsSayAmounts all
+      → TermsSayAmounts (expanded_terms cell_number letters all)
   expanded_terms_mean k letters no_terms s h = tt
   expanded_terms_mean k letters (a_term a rest) s h = (expanded_meaning k letters a s h.0, expanded_terms_mean k letters rest s h.1)
 
-  expanded_links_mean : (cell_number : Option ℕ) (letters : Letters) (all : Links) → IsSmall cell_number → LinksSayAmounts all → LinksSayAmounts (expanded_links cell_number letters all)
+  expanded_links_mean : (cell_number : Option ℕ) (letters : Letters) (all : Links) → IsSmall cell_number → LinksSayAmounts all
+      → LinksSayAmounts (expanded_links cell_number letters all)
   expanded_links_mean k letters no_links s h = tt
   expanded_links_mean k letters (a_link op a rest) s h = (expanded_meaning k letters a s h.0, expanded_links_mean k letters rest s h.1)
 
-  expanded_members_mean : (cell_number : Option ℕ) (letters : Letters) (all : Members) → IsSmall cell_number → MembersSayAmounts all → MembersSayAmounts (expanded_members cell_number letters all)
+  expanded_members_mean : (cell_number : Option ℕ) (letters : Letters) (all : Members) → IsSmall cell_number → MembersSayAmounts all
+      → MembersSayAmounts (expanded_members cell_number letters all)
   expanded_members_mean k letters no_members s h = tt
-  expanded_members_mean k letters (a_member a b rest) s h = (expanded_meaning k letters a s h.0, expanded_meaning k letters b s h.1, expanded_members_mean k letters rest s h.2)
+  expanded_members_mean k letters (a_member a b rest) s h = (
+    expanded_meaning k letters a s h.0,
+    expanded_meaning k letters b s h.1,
+    expanded_members_mean k
+        letters rest s h.2,
+  )
 
 -- ---- definitions
 
@@ -112,25 +125,31 @@ few_among : (vs : List Declaration) (name : List ℕ) → AllByRecursion HasFewC
 few_among [] name h = tt
 few_among (v ∷ vs) name h = by (bytes_eq name v.item.name) (few_among vs name h.1)
   where
-    by : (b : Bool) → IfSome (size_among vs name) (λ size. size ≤ TABLE_CELLS) → IfSome (cond b (variable_size v.item) (size_among vs name)) (λ size. size ≤ TABLE_CELLS)
+    by : (b : Bool) → IfSome (size_among vs name) (λ size. size ≤ TABLE_CELLS)
+        → IfSome (cond b (variable_size v.item) (size_among vs name)) (λ size. size ≤ TABLE_CELLS)
     by true k = h.0
     by false k = k
 
-cells_mean : (formula : Formula) (letters : Letters) (first n : ℕ) → first + n ≤ TABLE_CELLS → FormulaSays formula → AllByRecursion DefinitionSays (map (defined_cell formula letters) (range_with_len first n))
+cells_mean : (formula : Formula) (letters : Letters) (first n : ℕ) → first + n ≤ TABLE_CELLS → FormulaSays formula
+    → AllByRecursion DefinitionSays (map (defined_cell formula letters) (range_with_len first n))
 cells_mean formula letters first zero few h = tt
 cells_mean formula letters first (suc n) few h =
     (expanded_meaning (Some first) letters formula.term (omega (arith, few)) h, cells_mean formula letters (first + 1) n (omega (arith, few)) h)
 
-each_meaning : (formula : Formula) (letters : Letters) (size : Option ℕ) → IfSome size (λ s. s ≤ TABLE_CELLS) → FormulaSays formula → AllByRecursion DefinitionSays (each_cell formula letters size)
+each_meaning : (formula : Formula) (letters : Letters) (size : Option ℕ) → IfSome size (λ s. s ≤ TABLE_CELLS) → FormulaSays formula
+    → AllByRecursion DefinitionSays (each_cell formula letters size)
 each_meaning formula letters None few h = (expanded_meaning None letters formula.term tt h, tt)
 each_meaning formula letters (Some size) few h = cells_mean formula letters 0 size (omega (arith, few)) h
 
-slot_meaning : (declared : Declared) (formula : Formula) (slot : Slot) (letters : Letters) → AllByRecursion HasFewCells declared.variables → FormulaSays formula → AllByRecursion DefinitionSays (definitions_at declared formula slot letters)
+slot_meaning : (declared : Declared) (formula : Formula) (slot : Slot) (letters : Letters) → AllByRecursion HasFewCells declared.variables → FormulaSays formula
+    → AllByRecursion DefinitionSays (definitions_at declared formula slot letters)
 slot_meaning declared formula Whole letters few h = (expanded_meaning None letters formula.term tt h, tt)
 slot_meaning declared formula (Cell k) letters few h = (expanded_meaning None letters formula.term tt h, tt)
-slot_meaning declared formula Every letters few h = each_meaning formula letters (table_size declared (replaced letters formula.target)) (few_among declared.variables (replaced letters formula.target) few) h
+slot_meaning declared formula Every letters few h = each_meaning formula letters (table_size declared (replaced letters formula.target))
+    (few_among declared.variables (replaced letters formula.target) few) h
 
-all_flat : {A B : Type 0} (f : A → List B) (P : A → Type 0) (Q : B → Type 0) → ((x : A) → P x → AllByRecursion Q (f x)) → (xs : List A) → AllByRecursion P xs → AllByRecursion Q (flat_map f xs)
+all_flat : {A B : Type 0} (f : A → List B) (P : A → Type 0) (Q : B → Type 0) → ((x : A) → P x → AllByRecursion Q (f x)) → (xs : List A) → AllByRecursion P xs
+    → AllByRecursion Q (flat_map f xs)
 all_flat f P Q h [] a = tt
 all_flat f P Q h (x ∷ xs) a = all_append Q (f x) (flat_map f xs) (h x a.0) (all_flat f P Q h xs a.1)
 
@@ -138,12 +157,15 @@ every : {A : Type 0} (xs : List A) → AllByRecursion (λ x. Unit {0}) xs
 every [] = tt
 every (x ∷ xs) = (tt, every xs)
 
-formula_meaning : (declared : Declared) → AllByRecursion HasFewCells declared.variables → (formula : Formula) → FormulaSays formula → AllByRecursion DefinitionSays (formula_definitions declared formula)
+formula_meaning : (declared : Declared) → AllByRecursion HasFewCells declared.variables → (formula : Formula) → FormulaSays formula
+    → AllByRecursion DefinitionSays (formula_definitions declared formula)
 formula_meaning declared few formula h =
-    all_flat (definitions_at declared formula formula.slot) (λ letters. Unit {0}) DefinitionSays (λ letters u. slot_meaning declared formula formula.slot letters few h)
+    all_flat (definitions_at declared formula formula.slot) (λ letters. Unit {0}) DefinitionSays
+    (λ letters u. slot_meaning declared formula formula.slot letters few h)
     (instances (all_indexes formula.loops) no_letters) (every (instances (all_indexes formula.loops) no_letters))
 
-item_meaning : (declared : Declared) → AllByRecursion HasFewCells declared.variables → (item : Item) → ItemSays item → AllByRecursion DefinitionSays (item_definitions declared item)
+item_meaning : (declared : Declared) → AllByRecursion HasFewCells declared.variables → (item : Item) → ItemSays item
+    → AllByRecursion DefinitionSays (item_definitions declared item)
 item_meaning declared few (Variable v) h = tt
 item_meaning declared few (Rule r) h = all_flat (formula_definitions declared) FormulaSays DefinitionSays (formula_meaning declared few) r.formulas h
 item_meaning declared few (Verif v) h = tt
@@ -158,7 +180,9 @@ all_kept P test (x ∷ xs) h = by (test x) (all_kept P test xs h.1)
     by true k = (h.0, k)
     by false k = k
 
-pub definitions_mean : (items : List Item) (application : List ℕ) (declared : Declared) → AllByRecursion HasFewCells declared.variables → AllByRecursion ItemSays items
+pub definitions_mean : (items : List Item) (application : List ℕ) (declared : Declared) → AllByRecursion HasFewCells declared.variables
+    → AllByRecursion ItemSays items
     → AllByRecursion DefinitionSays (expansion items application declared).definitions
 definitions_mean items application declared few h =
-    all_flat (item_definitions declared) ItemSays DefinitionSays (item_meaning declared few) (filter (counts_in application) items) (all_kept ItemSays (counts_in application) items h)
+    all_flat (item_definitions declared) ItemSays DefinitionSays (item_meaning declared few) (filter (counts_in application) items)
+    (all_kept ItemSays (counts_in application) items h)

@@ -18,11 +18,13 @@ use Rattle.m_ast.specs.declared.variable.Role.{Role}
 use Rattle.m_ast.specs.declared.variable.Role.TheVariants.{Input, Computed, Constant}
 use Rattle.m_lexer.specs.Chains.{First, first, ended, further}
 use Rattle.m_items.specs.Tokens.{amount, amount_of, word}
-use Rattle.m_items.specs.DeclarationGrammar.{SpellsAmount, positive, negative, SpellsVariable, input, computed, constant, SpellsDeclaration, a_variable, an_error, an_application, a_chaining}
+use Rattle.m_items.specs.DeclarationGrammar.{SpellsAmount, positive, negative, SpellsVariable, input, computed, constant, SpellsDeclaration, a_variable}
+use Rattle.m_items.specs.DeclarationGrammar.{an_error, an_application, a_chaining}
 use Rattle.m_items.proofs.DeclarationPassLaws.{applications_passes, declaration_passes}
 use Rattle.m_items.specs.Many.{Many, no_more, one_more, one}
 use Rattle.m_items.specs.declared.head.Head.{Head}
-use Rattle.m_items.specs.RuleGrammar.{SpellsHead, head, SpellsLoops, SpellsSlot, no_index, every_cell, one_cell, SpellsFormula, formula, SpellsChaining, unchained, chained, SpellsRule, rule}
+use Rattle.m_items.specs.RuleGrammar.{SpellsHead, head, SpellsLoops, SpellsSlot, no_index, every_cell, one_cell, SpellsFormula, formula, SpellsChaining}
+use Rattle.m_items.specs.RuleGrammar.{unchained, chained, SpellsRule, rule}
 use Rattle.m_items.proofs.RulePassLaws.{loop_passes, verification_passes}
 use Rattle.m_items.specs.Grammar.{SpellsItem, a_declaration, a_rule, a_verification}
 use Rattle.rule_base.specs.Files.{SayAll, no_files, a_file}
@@ -76,7 +78,8 @@ declaration_meaning (a_chaining k d e s) a = tt
 
 -- ---- rules
 
-many_keep : {A : Type 0} (R : A → List Token → List Token → Type 0) (Good : A → Type 0) → Keeps Good R → {xs : List A} {ts rest : List Token} → Many R xs ts rest → HaveAmount ts → AllByRecursion Good xs × HaveAmount rest
+many_keep : {A : Type 0} (R : A → List Token → List Token → Type 0) (Good : A → Type 0) → Keeps Good R → {xs : List A} {ts rest : List Token}
+    → Many R xs ts rest → HaveAmount ts → AllByRecursion Good xs × HaveAmount rest
 many_keep R Good keeps no_more a = (tt, a)
 many_keep R Good keeps (one_more d e) a =
     let k = keeps _ _ _ d a in

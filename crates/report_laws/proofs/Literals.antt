@@ -15,11 +15,15 @@ use Rattle.m_lexer.specs.declared.token.Sign.TheVariants as signs
 use Rattle.m_lexer.specs.Tokens.{Spells, word as a_word, key as a_key, number as a_number, text as a_text, sign as a_sign, Lexes}
 use Rattle.m_ast.specs.declared.term.Link.{Link}
 use Rattle.m_ast.specs.declared.term.Member.{Member}
-use Rattle.m_ast.specs.Syntax.{Syntax, lit, named, the_x, cell, apply, chain, among, loop, Terms, no_terms, a_term, Links, no_links, a_link, Members, no_members, a_member}
+use Rattle.m_ast.specs.Syntax.{Syntax, lit, named, the_x, cell, apply, chain, among, loop, Terms, no_terms, a_term, Links, no_links, a_link, Members}
+use Rattle.m_ast.specs.Syntax.{no_members, a_member}
 use Rattle.m_ast.specs.View.{links_of, members_of}
 use Rattle.m_lexer.specs.Chains.{First, first, Chain, ended, further}
 use Rattle.m_terms.specs.Tokens.{is_sign, joined}
-use Rattle.m_terms.specs.Grammar.{addition, multiplication, conjunction, disjunction, link, gathered, Gathered, gather, SpellsPrim, number, word, own, read, brackets, either, only, called, called_two, looped, SpellsFactor, plain, minus, SpellsProduct, SpellsSum, SpellsSigned, positive, negative, SpellsMember, amount, name, range, SpellsMembers, SpellsRelation, alone, compared, inside, outside, SpellsNegation, affirmed, negated, SpellsConjunction, SpellsExpr, SpellsInner}
+use Rattle.m_terms.specs.Grammar.{addition, multiplication, conjunction, disjunction, link, gathered, Gathered, gather, SpellsPrim, number, word, own, read}
+use Rattle.m_terms.specs.Grammar.{brackets, either, only, called, called_two, looped, SpellsFactor, plain, minus, SpellsProduct, SpellsSum, SpellsSigned}
+use Rattle.m_terms.specs.Grammar.{positive, negative, SpellsMember, amount, name, range, SpellsMembers, SpellsRelation, alone, compared, inside, outside}
+use Rattle.m_terms.specs.Grammar.{SpellsNegation, affirmed, negated, SpellsConjunction, SpellsExpr, SpellsInner}
 use Rattle.m_terms.specs.Terms.{SpellsTerm}
 use Rattle.m_terms.proofs.Passes.{Behind}
 use Rattle.m_terms.proofs.HeaderLaws.{header_passes}
@@ -86,7 +90,8 @@ first_left (first e) a = a.1
 
 -- ---- what stands any number of times
 
-chain_keeps : {A B X : Type 0} (opens : Token → Option B) (made : B → A → X) (R : A → List Token → List Token → Type 0) (Good : A → Type 0) (Fine : X → Type 0) → Keeps Good R → ((b : B) (x : A) → Good x → Fine (made b x))
+chain_keeps : {A B X : Type 0} (opens : Token → Option B) (made : B → A → X) (R : A → List Token → List Token → Type 0) (Good : A → Type 0) (Fine : X → Type 0)
+    → Keeps Good R → ((b : B) (x : A) → Good x → Fine (made b x))
     → {xs : List X} {ts rest : List Token} → Chain opens made R xs ts rest → HaveAmount ts → AllByRecursion Fine xs × HaveAmount rest
 chain_keeps opens made R Good Fine keeps fine ended a = (tt, a)
 chain_keeps opens made R Good Fine keeps fine (further {b = b} {x = x} o d c) a =

@@ -1,5 +1,6 @@
 -- What operators, terms and cells have for values: where literals and what is given are values of amounts, so are all.
-use Rattle.std.proofs.Common.{◌≡◌, ℕ, zero, suc, ◌+◌, ◌==◌, Bool, true, false, not, cond, nat_lt, nat_le, List, [], ◌∷◌, length, get_or, Option, None, Some, Ok, Err, ℤ, pos, negsuc, neg_ℤ, unsigned_abs, refl, ap, arith}
+use Rattle.std.proofs.Common.{◌≡◌, ℕ, zero, suc, ◌+◌, ◌==◌, Bool, true, false, not, cond, nat_lt, nat_le, List, [], ◌∷◌, length, get_or, Option, None, Some, Ok}
+use Rattle.std.proofs.Common.{Err, ℤ, pos, negsuc, neg_ℤ, unsigned_abs, refl, ap, arith}
 use Rattle.std.specs.Prelude.{IfSome}
 use Rattle.std.specs.List.{AllByRecursion}
 use Rattle.std.specs.Option.{option_map_or}
@@ -114,7 +115,8 @@ listed_value [] k h = tt
 listed_value (v ∷ vs) zero h = h.0
 listed_value (v ∷ vs) (suc k) h = listed_value vs k h.1
 
-picked_cell : (values : Environment) → AreValues values → (first size k : ℕ) (b : Bool) → IsValue (picked_value values (cond b (Cell (first + k)) (Fixed Undef)))
+picked_cell : (values : Environment) → AreValues values → (first size k : ℕ) (b : Bool)
+    → IsValue (picked_value values (cond b (Cell (first + k)) (Fixed Undef)))
 picked_cell values e first size k true = e (first + k)
 picked_cell values e first size k false = tt
 
@@ -142,10 +144,12 @@ mutual
   values_of_arguments values e none h = tt
   values_of_arguments values e (more argument rest) h = (value_of_term values e argument h.0, values_of_arguments values e rest h.1)
 
-  value_of_steps : (values : Environment) → AreValues values → (so_far : Value) (steps : Steps) → IsValue so_far → StepsHaveAmounts steps → IsValue (folded values so_far steps)
+  value_of_steps : (values : Environment) → AreValues values → (so_far : Value) (steps : Steps) → IsValue so_far → StepsHaveAmounts steps
+      → IsValue (folded values so_far steps)
   value_of_steps values e so_far end s h = s
   value_of_steps values e so_far (step op operand rest) s h =
-      value_of_steps values e (op_value op so_far (term_value values operand) Undef) rest (operator_value op so_far (term_value values operand) Undef (value_of_term values e operand h.0) tt) h.1
+      value_of_steps values e (op_value op so_far (term_value values operand) Undef) rest
+      (operator_value op so_far (term_value values operand) Undef (value_of_term values e operand h.0) tt) h.1
 
 -- ---- cells
 
@@ -161,14 +165,16 @@ among_amounts (d ∷ ds) c h = by (c == d.0) (among_amounts ds c h.1)
     by true k = h.0
     by false k = k
 
-by_definition : (values : Environment) → AreValues values → (o : Option Tree) (given : Value) → IfSome o HasAmounts → IsValue given → IsValue (option_map_or (term_value values) o given)
+by_definition : (values : Environment) → AreValues values → (o : Option Tree) (given : Value) → IfSome o HasAmounts → IsValue given
+    → IsValue (option_map_or (term_value values) o given)
 by_definition values e None given h g = g
 by_definition values e (Some t) given h g = value_of_term values e t h
 
 cell_value_in : (base : Base) (given : Environment) → AreOfAmounts base.definitions → AreValues given → (turns c : ℕ) → IsValue (value_in base given turns c)
 cell_value_in base given d g zero c = tt
 cell_value_in base given d g (suc turns) c =
-    by_definition (value_in base given turns) (λ x. cell_value_in base given d g turns x) (definition_of base c) (given c) (among_amounts base.definitions c d) (g c)
+    by_definition (value_in base given turns) (λ x. cell_value_in base given d g turns x) (definition_of base c) (given c) (among_amounts base.definitions c d)
+    (g c)
 
 -- The value of each cell is one of amounts, where literals and what is given are.
 pub cell_value : (base : Base) (given : Environment) → AreOfAmounts base.definitions → AreValues given → (c : ℕ) → IsValue (value_of base given c)

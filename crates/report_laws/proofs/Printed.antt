@@ -1,5 +1,6 @@
 -- What is printed of lines reads back as these lines.
-use Rattle.std.proofs.Common.{◌≡◌, ℕ, ◌+◌, ◌==◌, Bool, true, false, not, cond, ◌&&◌, true≢false, List, [], ◌∷◌, ◌++◌, Option, Some, ℤ, Result, Ok, Err, codes, refl, sym, ap, ◌∙◌, subst, append_assoc, append-nil, ne_eqb, arith}
+use Rattle.std.proofs.Common.{◌≡◌, ℕ, ◌+◌, ◌==◌, Bool, true, false, not, cond, ◌&&◌, true≢false, List, [], ◌∷◌, ◌++◌, Option, Some, ℤ, Result, Ok, Err, codes}
+use Rattle.std.proofs.Common.{refl, sym, ap, ◌∙◌, subst, append_assoc, append-nil, ne_eqb, arith}
 use Rattle.std.specs.Prelude.{IsTrue}
 use Rattle.std.specs.List.{list_all, AllByRecursion}
 use Rattle.std.specs.Option.{option_map, option_map_or, option_and_then}
@@ -21,7 +22,8 @@ use Rattle.tax_print.specs.Lines.{value_line}
 use Rattle.why_report.specs.declared.fault.ReportFault.{ReportFault}
 use Rattle.why_report.specs.declared.fault.ReportFault.TheVariants.{BadLine}
 use Rattle.why_report.specs.declared.line.ReportLine.{ReportLine}
-use Rattle.why_report.specs.Reports.{report_text, split_at_space, amount_value, parsed_value, cell_with, parsed_parts, parsed_line, ends_report, parsed_lines, parsed_report}
+use Rattle.why_report.specs.Reports.{report_text, split_at_space, amount_value, parsed_value, cell_with, parsed_parts, parsed_line, ends_report, parsed_lines}
+use Rattle.why_report.specs.Reports.{parsed_report}
 use Rattle.why_session.specs.Explains.{report_lines_of}
 use Rattle.report_laws.specs.Readable.{IsInside, CanBeRead}
 
@@ -71,7 +73,8 @@ stated_text Over = codes "over"
 
 stated_goes_on : (v : Value) → IsValue v → AllByRecursion GoesOn (stated_text v)
 stated_goes_on Undef h = word_goes_on (codes "undefined") refl
-stated_goes_on (Num z) h = all_both GoesOn (61 ∷ 32 ∷ []) (printed z) (word_goes_on (61 ∷ 32 ∷ []) refl) (amount_goes_on (printed z) z (amount_spelled (printed z) z (reads_back z h)))
+stated_goes_on (Num z) h = all_both GoesOn (61 ∷ 32 ∷ []) (printed z) (word_goes_on (61 ∷ 32 ∷ []) refl)
+    (amount_goes_on (printed z) z (amount_spelled (printed z) z (reads_back z h)))
 stated_goes_on Over h = word_goes_on (codes "over") refl
 
 stated_back : (v : Value) → IsValue v → parsed_value (stated_text v) ≡ Some v
@@ -89,7 +92,8 @@ line_parts name (Num z) = sym (append_assoc name (32 ∷ stated_text (Num z)) (1
 line_parts name Over = sym (append_assoc name (32 ∷ stated_text Over) (10 ∷ []))
 
 body_goes_on : (name : List ℕ) (v : Value) → AllByRecursion IsInside name → IsValue v → AllByRecursion GoesOn (body name v)
-body_goes_on name v h k = all_both GoesOn name (32 ∷ stated_text v) (inside_goes_on name h) (all_both GoesOn (32 ∷ []) (stated_text v) (word_goes_on (32 ∷ []) refl) (stated_goes_on v k))
+body_goes_on name v h k = all_both GoesOn name (32 ∷ stated_text v) (inside_goes_on name h)
+    (all_both GoesOn (32 ∷ []) (stated_text v) (word_goes_on (32 ∷ []) refl) (stated_goes_on v k))
 
 -- ---- one line
 
@@ -105,7 +109,8 @@ split_name (b ∷ name) text h =
     ap (λ t. cond t ([], Some (name ++ 32 ∷ text)) (with_first b (split_at_space (name ++ 32 ∷ text)))) (ne_eqb b 32 h.0.0)
     ∙ ap (with_first b) (split_name name text h.1)
 
-stated_line : (declared : Declared) (line : ReportLine) → CanBeRead declared line → parsed_line declared (body (cell_name declared line.cell) line.value) ≡ Some line
+stated_line : (declared : Declared) (line : ReportLine) → CanBeRead declared line → parsed_line declared (body (cell_name declared line.cell) line.value) ≡ Some
+    line
 stated_line declared line can =
     let name : List ℕ = cell_name declared line.cell in
     ap (parsed_parts declared) (split_name name (stated_text line.value) can.inside)
@@ -132,7 +137,8 @@ no_end name text (next ∷ lines) = refl
 abbrev SaysNoMore : Declared → List ℕ → Type 0
 SaysNoMore declared after = (number : ℕ) (before : List ReportLine) → parsed_lines declared number before (exact_lines_of after) ≡ Ok before
 
-lines_back : (declared : Declared) (after : List ℕ) → SaysNoMore declared after → (number : ℕ) (before lines : List ReportLine) → AllByRecursion (CanBeRead declared) lines
+lines_back : (declared : Declared) (after : List ℕ) → SaysNoMore declared after → (number : ℕ) (before lines : List ReportLine)
+    → AllByRecursion (CanBeRead declared) lines
     → parsed_lines declared number before (exact_lines_of (report_text declared lines ++ after)) ≡ Ok (before ++ lines)
 lines_back declared after none number before [] h = none number before ∙ ap Ok (sym (append-nil before))
 lines_back declared after none number before (line ∷ lines) h =
@@ -140,9 +146,11 @@ lines_back declared after none number before (line ∷ lines) h =
     let this : List ℕ = body name line.value in
     let rest : List ℕ = report_text declared lines ++ after in
     let bad : Result (List ReportLine) ReportFault = Err (BadLine number) in
-    let next : Option ReportLine → Result (List ReportLine) ReportFault = λ stated. option_map_or (λ l. parsed_lines declared (number + 1) (before ++ l ∷ []) (exact_lines_of rest)) stated bad in
+    let next : Option ReportLine → Result (List ReportLine) ReportFault = λ stated. option_map_or
+    (λ l. parsed_lines declared (number + 1) (before ++ l ∷ []) (exact_lines_of rest)) stated bad in
     let text : (value_line name line.value ++ report_text declared lines) ++ after ≡ this ++ 10 ∷ rest
-    = append_assoc (value_line name line.value) (report_text declared lines) after ∙ ap (λ l. l ++ rest) (line_parts name line.value) ∙ append_assoc this (10 ∷ []) rest in
+    = append_assoc (value_line name line.value) (report_text declared lines) after ∙ ap (λ l. l ++ rest) (line_parts name line.value)
+    ∙ append_assoc this (10 ∷ []) rest in
     ap (λ l. parsed_lines declared number before (exact_lines_of l)) text
     ∙ ap (parsed_lines declared number before) (first_line this rest (body_goes_on name line.value h.0.inside h.0.value))
     ∙ ap (λ t. cond t (Ok before) (next (parsed_line declared this))) (no_end name (stated_text line.value) (exact_lines_of rest))
@@ -150,9 +158,11 @@ lines_back declared after none number before (line ∷ lines) h =
     ∙ lines_back declared after none (number + 1) (before ++ line ∷ []) lines h.1
     ∙ ap Ok (append_assoc before (line ∷ []) lines)
 
-pub printed_back : (declared : Declared) (lines : List ReportLine) → AllByRecursion (CanBeRead declared) lines → parsed_report declared (report_text declared lines) ≡ Ok lines
+pub printed_back : (declared : Declared) (lines : List ReportLine) → AllByRecursion (CanBeRead declared) lines
+    → parsed_report declared (report_text declared lines) ≡ Ok lines
 printed_back declared lines h =
     ap (parsed_report declared) (sym (append-nil (report_text declared lines))) ∙ lines_back declared [] (λ number before. refl) 1 [] lines h
 
-pub reported_back : (declared : Declared) (lines : List ReportLine) → AllByRecursion (CanBeRead declared) lines → parsed_report declared (report_lines_of declared lines) ≡ Ok lines
+pub reported_back : (declared : Declared) (lines : List ReportLine) → AllByRecursion (CanBeRead declared) lines
+    → parsed_report declared (report_lines_of declared lines) ≡ Ok lines
 reported_back declared lines h = lines_back declared (46 ∷ 10 ∷ []) (λ number before. refl) 1 [] lines h

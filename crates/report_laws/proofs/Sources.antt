@@ -70,7 +70,8 @@ nameable : (vs : List Variable) → AllByRecursion (λ (v : Variable). IsGood v.
 nameable [] h = tt
 nameable (v ∷ vs) h = ((word_without v.item.name h.0.0.0, h.0.1), nameable vs h.1)
 
-few_cells : (vs : List Variable) → AllByRecursion (λ (v : Variable). IsGood v.item) vs → AllByRecursion (λ (v : Variable). IfSome (variable_size v.item) (λ size. size ≤ TABLE_CELLS)) vs
+few_cells : (vs : List Variable) → AllByRecursion (λ (v : Variable). IsGood v.item) vs
+    → AllByRecursion (λ (v : Variable). IfSome (variable_size v.item) (λ size. size ≤ TABLE_CELLS)) vs
 few_cells [] h = tt
 few_cells (v ∷ vs) h = (h.0.1, few_cells vs h.1)
 

@@ -56,13 +56,15 @@ all_same : (n : ℕ) (v : Value) → IsValue v → AllByRecursion IsValue (repli
 all_same zero v h = tt
 all_same (suc n) v h = (h, all_same n v h)
 
-start_values : (inputs : List Value) (n : ℕ) (vs : List Declaration) → AllByRecursion IsValue inputs → AreOfAmount vs → AllByRecursion IsValue (start_from inputs n vs)
+start_values : (inputs : List Value) (n : ℕ) (vs : List Declaration) → AllByRecursion IsValue inputs → AreOfAmount vs
+    → AllByRecursion IsValue (start_from inputs n vs)
 start_values inputs n [] a h = tt
 start_values inputs n (v ∷ vs) a h =
     all_append IsValue (replicate v.cells (first_value inputs n v.item.role)) (start_from inputs (next_input n v.item.role) vs)
     (all_same v.cells (first_value inputs n v.item.role) (first_is_value inputs n v.item.role a h.0)) (start_values inputs (next_input n v.item.role) vs a h.1)
 
-pub start_is_values : (declared : Declared) (inputs : List Value) → AllByRecursion IsValue inputs → AreOfAmount declared.variables → AreValues (environment (start_of declared inputs))
+pub start_is_values : (declared : Declared) (inputs : List Value) → AllByRecursion IsValue inputs → AreOfAmount declared.variables
+    → AreValues (environment (start_of declared inputs))
 start_is_values declared inputs a h c = listed_value (start_of declared inputs) c (start_values inputs 0 declared.variables a h)
 
 -- ---- a household
@@ -89,5 +91,6 @@ all_given pairs first zero h = tt
 all_given pairs first (suc n) h = (given_value pairs first h, all_given pairs (first + 1) n h)
 
 -- the values that a household gives inputs
-pub household_values : (inputs : List Coded) (rows : List ℕ) (pairs : List (ℕ × ℤ)) (n : ℕ) → household_of inputs rows ≡ Ok pairs → AllByRecursion IsValue (values_of pairs n)
+pub household_values : (inputs : List Coded) (rows : List ℕ) (pairs : List (ℕ × ℤ)) (n : ℕ) → household_of inputs rows ≡ Ok pairs
+    → AllByRecursion IsValue (values_of pairs n)
 household_values inputs rows pairs n e = let is = read_household_is inputs rows pairs e in all_given pairs 0 n (rows_amounts inputs is.rows pairs is.in_order)

@@ -6,5 +6,5 @@
 mod laws;
 
 pub use laws::{
-    cells_are_named, printed_reports_read_back, reasons_can_be_read, printed_reasons_are_sound,
+    cells_are_named, printed_reasons_are_sound, printed_reports_read_back, reasons_can_be_read,
 };

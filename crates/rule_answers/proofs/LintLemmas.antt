@@ -21,18 +21,22 @@ use Rattle.rule_answers.specs.inner.Linting.{IsLintOf, is_lint}
 use Rattle.code_answers.proofs.Refusals.{ReportsRefusal}
 use Rattle.code_answers.proofs.Ways.{answered_as}
 
-pub lint_refused : (source : Source) (fault : SourceFault) (old new : OutputView) (status : Status) → ReportsRefusal (λ line. IsSourceFault source fault × (source_line source.texts fault ≡ Some line)) old new status
+pub lint_refused : (source : Source) (fault : SourceFault) (old new : OutputView) (status : Status)
+    → ReportsRefusal (λ line. IsSourceFault source fault × (source_line source.texts fault ≡ Some line)) old new status
     → IsAnswered (LintReplies source) old new status
 lint_refused source fault old new status (inl (line, is, shown)) = printed line Refused (is_refused fault is.0 is.1) tt shown
 lint_refused source fault old new status (inr (same, memory)) = no_memory same memory
 
-linted_as : (source : Source) (declared : Declared) (base : Base) (compiled : Compiled) → HasRules source declared base → IsCompiled source compiled → (text : List ℕ) (own : Status)
+linted_as : (source : Source) (declared : Declared) (base : Base) (compiled : Compiled) → HasRules source declared base → IsCompiled source compiled
+    → (text : List ℕ) (own : Status)
     → IsLintOf declared base compiled text own → LintReplies source text own
 linted_as source declared base compiled rules is text own is_lint = is_linted declared base compiled rules is
 
-pub lint_answered : (source : Source) (declared : Declared) (base : Base) (compiled : Compiled) (old new : OutputView) (status : Status) → HasRules source declared base → IsCompiled source compiled
+pub lint_answered : (source : Source) (declared : Declared) (base : Base) (compiled : Compiled) (old new : OutputView) (status : Status)
+    → HasRules source declared base → IsCompiled source compiled
     → IsAnswered (IsLintOf declared base compiled) old new status → IsAnswered (LintReplies source) old new status
-lint_answered source declared base compiled old new status rules is a = answered_as (IsLintOf declared base compiled) (LintReplies source) old new status (linted_as source declared base compiled rules is) a
+lint_answered source declared base compiled old new status rules is a = answered_as (IsLintOf declared base compiled) (LintReplies source) old new status
+    (linted_as source declared base compiled rules is) a
 
 -- the first labels are those of the base
 pub labels_first : (source : Source) (declared : Declared) (base : Base) (compiled : Compiled) → HasRules source declared base → IsCompiled source compiled

@@ -16,15 +16,21 @@ use Rattle.code_answers.proofs.Refusals.{ReportsRefusal, reported_either}
 
 -- a source was refused by a fault
 pub fault_reported : (s : Source) (fault : SourceFault) (old new : OutputView) (status : Status) → (fault ≢ source.Memory → IsSourceFault s fault)
-    → ReportsLine (source_line s.texts fault) old new status → ReportsRefusal (λ line. IsSourceFault s fault × (source_line s.texts fault ≡ Some line)) old new status
-fault_reported s fault old new status h reported = reported_either (source_line s.texts fault) (source_line s.texts fault) old new status refl h (λ m. ap (source_line s.texts) m) reported
+    → ReportsLine (source_line s.texts fault) old new status → ReportsRefusal (λ line. IsSourceFault s fault × (source_line s.texts fault ≡ Some line)) old new
+    status
+fault_reported s fault old new status h reported = reported_either (source_line s.texts fault) (source_line s.texts fault) old new status refl h
+    (λ m. ap (source_line s.texts) m) reported
 
 -- the rules of a source were refused by a fault
-pub base_reported : (s : Source) (fault : SourceFault) (old new : OutputView) (status : Status) → (fault ≢ source.Memory → IsBaseFault s.texts s.application fault)
-    → ReportsLine (source_line s.texts fault) old new status → ReportsRefusal (λ line. IsBaseFault s.texts s.application fault × (source_line s.texts fault ≡ Some line)) old new status
-base_reported s fault old new status h reported = reported_either (source_line s.texts fault) (source_line s.texts fault) old new status refl h (λ m. ap (source_line s.texts) m) reported
+pub base_reported : (s : Source) (fault : SourceFault) (old new : OutputView) (status : Status)
+    → (fault ≢ source.Memory → IsBaseFault s.texts s.application fault)
+    → ReportsLine (source_line s.texts fault) old new status
+    → ReportsRefusal (λ line. IsBaseFault s.texts s.application fault × (source_line s.texts fault ≡ Some line)) old new status
+base_reported s fault old new status h reported = reported_either (source_line s.texts fault) (source_line s.texts fault) old new status refl h
+    (λ m. ap (source_line s.texts) m) reported
 
 -- a report was refused by a fault
 pub report_reported : {IsFault : Type 0} (fault : ReportFault) (old new : OutputView) (status : Status) → (fault ≢ report.Memory → IsFault)
     → ReportsLine (report_fault_line fault) old new status → ReportsRefusal (λ line. IsFault × (report_fault_line fault ≡ Some line)) old new status
-report_reported fault old new status h reported = reported_either (report_fault_line fault) (report_fault_line fault) old new status refl h (λ m. ap report_fault_line m) reported
+report_reported fault old new status h reported = reported_either (report_fault_line fault) (report_fault_line fault) old new status refl h
+    (λ m. ap report_fault_line m) reported

@@ -10,8 +10,10 @@ use Rattle.driver_core.specs.Answers.{first_value, next_input, start_from}
 use Rattle.mpp_inline.proofs.BeginLemmas.{drop-get}
 
 -- the cells of one variable more
-pub start_next : (inputs env more whole : List Value) (vs : List Variable) (next behind i : ℕ) (v : Variable) (value : Value) → slice_get vs i ≡ Some v → value ≡ first_value inputs next v.item.role
-    → behind ≡ next_input next v.item.role → more ≡ env ++ replicate v.cells value → env ++ start_from inputs next (drop i vs) ≡ whole → more ++ start_from inputs behind (drop (i + 1) vs) ≡ whole
+pub start_next : (inputs env more whole : List Value) (vs : List Variable) (next behind i : ℕ) (v : Variable) (value : Value) → slice_get vs i ≡ Some v
+    → value ≡ first_value inputs next v.item.role
+    → behind ≡ next_input next v.item.role → more ≡ env ++ replicate v.cells value → env ++ start_from inputs next (drop i vs) ≡ whole
+    → more ++ start_from inputs behind (drop (i + 1) vs) ≡ whole
 start_next inputs env more whole vs next behind i v value at is goes added so_far =
     let here : drop i vs ≡ v ∷ drop (i + 1) vs = drop-get vs i v at ∙ ap (λ n. v ∷ drop n vs) (sym (add-one i)) in
     (λ k. (added ∙ ap (λ x. env ++ replicate v.cells x) is) k ++ start_from inputs (goes k) (drop (i + 1) vs))
@@ -26,5 +28,6 @@ next_few n (Computed size) = omega arith
 next_few n (Constant amount) = omega arith
 
 -- and of no more
-pub start_end : (inputs env whole : List Value) (vs : List Variable) (next i : ℕ) → length vs ≤ i → env ++ start_from inputs next (drop i vs) ≡ whole → env ≡ whole
+pub start_end : (inputs env whole : List Value) (vs : List Variable) (next i : ℕ) → length vs ≤ i → env ++ start_from inputs next (drop i vs) ≡ whole
+    → env ≡ whole
 start_end inputs env whole vs next i all so_far = sym (append-nil env) ∙ ap (λ l. env ++ start_from inputs next l) (sym (drop_all i vs all)) ∙ so_far

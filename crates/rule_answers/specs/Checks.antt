@@ -40,7 +40,8 @@ given_by declared pairs = environment (start_of declared (values_of pairs (lengt
 -- What is answered to the household and the report of these bytes, over what is declared and a base: the line of the first fault of the household or of
 -- the report; or that of its first line that isn't sound, by its number from 1; or that it is sound.
 pub data ReportReplies (declared : Declared) (base : Base) (rows report : List ℕ) : List ℕ → Status → Type 0 where
-  household_is_refused : {line : List ℕ} (fault : HouseholdFault) → household_of (inputs_declared declared) rows ≡ Err fault → household_fault_line fault ≡ Some line
+  household_is_refused : {line : List ℕ} (fault : HouseholdFault) → household_of (inputs_declared declared) rows ≡ Err fault
+      → household_fault_line fault ≡ Some line
       → ReportReplies declared base rows report line Refused
   report_is_refused : {line : List ℕ} (pairs : List (ℕ × ℤ)) (fault : ReportFault) → household_of (inputs_declared declared) rows ≡ Ok pairs
       → parsed_report declared report ≡ Err fault → report_fault_line fault ≡ Some line → ReportReplies declared base rows report line Refused
@@ -55,7 +56,8 @@ pub data ReportReplies (declared : Declared) (base : Base) (rows report : List �
 pub data CheckReplies (source : Source) (rows report : List ℕ) : List ℕ → Status → Type 0 where
   rules_are_refused : {line : List ℕ} (fault : SourceFault) → IsBaseFault source.texts source.application fault → source_line source.texts fault ≡ Some line
       → CheckReplies source rows report line Refused
-  is_checked : {text : List ℕ} {status : Status} (declared : Declared) (base : Base) → HasRules source declared base → ReportReplies declared base rows report text status
+  is_checked : {text : List ℕ} {status : Status} (declared : Declared) (base : Base) → HasRules source declared base
+      → ReportReplies declared base rows report text status
       → CheckReplies source rows report text status
 
 -- rules without a fault, a household without one, and a report that is a sound derivation

@@ -21,4 +21,5 @@ lint_text declared base compiled = findings_text declared base (findings_of decl
 -- The answer of a lint of a source: the line of its fault, or the lines of what is found of its rules and of what it is compiled to.
 pub data LintReplies (source : Source) : List ℕ → Status → Type 0 where
   is_refused : {line : List ℕ} (fault : SourceFault) → IsSourceFault source fault → source_line source.texts fault ≡ Some line → LintReplies source line Refused
-  is_linted : (declared : Declared) (base : Base) (compiled : Compiled) → HasRules source declared base → IsCompiled source compiled → LintReplies source (lint_text declared base compiled) Done
+  is_linted : (declared : Declared) (base : Base) (compiled : Compiled) → HasRules source declared base → IsCompiled source compiled
+      → LintReplies source (lint_text declared base compiled) Done

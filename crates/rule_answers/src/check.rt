@@ -18,9 +18,9 @@ ghost use Rattle.command_plans.specs.Views.{output_view};
 ghost use Rattle.rule_answers.specs.Checks.{CheckReplies, ReportReplies};
 ghost use Rattle.rule_answers.specs.inner.Checking.{IsStart, LinesReplies, SaidReplies, found_status, found_text};
 
+use crate::entries::{report_entry, report_source};
 use crate::start::first_cells;
-use crate::entries::{report_source, report_entry};
-use code_answers::{read_given, report_refusal, household_entry};
+use code_answers::{household_entry, read_given, report_refusal};
 use command_plans::{Status, print_fault, printed};
 use household::{Household, HouseholdFault, values};
 use m_compile::{compile_base, inputs_of};

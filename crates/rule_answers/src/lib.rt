@@ -4,10 +4,10 @@
 #![tactic(auto)]
 
 mod check;
+mod entries;
 mod findings;
 mod lint;
 mod start;
-mod entries;
 
 pub use check::check_source;
 pub use lint::lint_source;

@@ -10,8 +10,8 @@ ghost use Rattle.command_plans.specs.Views.{output_view};
 ghost use Rattle.rule_answers.specs.Lints.{LintReplies};
 ghost use Rattle.rule_answers.specs.inner.Linting.{IsLintOf};
 
-use crate::findings::give_findings;
 use crate::entries::report_source;
+use crate::findings::give_findings;
 use command_plans::{Status, printed};
 use m_compile::{Compiled, compile_with_rules};
 use m_lint::lint;

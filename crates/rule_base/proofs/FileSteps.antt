@@ -15,18 +15,21 @@ use Rattle.rule_base.specs.Files.{IsFileFault, of_tokens, of_items}
 use Rattle.rule_base.specs.inner.FileSteps.{lex_step, parse_step}
 
 -- an error that this fault is
-pub reported : {T E : Type 0} (memory : E) (good : T → Type 0) (bad : E → Type 0) (result : Result T E) (fault : E) → IsErrAnd result (λ x. x ≡ fault) → (fault ≢ memory → bad fault)
+pub reported : {T E : Type 0} (memory : E) (good : T → Type 0) (bad : E → Type 0) (result : Result T E) (fault : E) → IsErrAnd result (λ x. x ≡ fault)
+    → (fault ≢ memory → bad fault)
     → Outcome memory result good bad
 reported memory good bad (Ok value) fault h k = absurd h
 reported memory good bad (Err other) fault h k = λ n. subst bad (sym h) (k (λ e. n (h ∙ e)))
 
-pub lex_reported : (number : ℕ) (text : Text) (fault : LexFault) → (fault ≢ lex.Memory → FirstFault (start_of number) text.bytes fault) → lex_step fault ≢ Memory → IsFileFault number text (lex_step fault)
+pub lex_reported : (number : ℕ) (text : Text) (fault : LexFault) → (fault ≢ lex.Memory → FirstFault (start_of number) text.bytes fault)
+    → lex_step fault ≢ Memory → IsFileFault number text (lex_step fault)
 lex_reported number text lex.Memory h k = absurd (k refl)
 lex_reported number text (lex.BadByte p) h k = of_tokens (h (λ e. cc))
 lex_reported number text (lex.OpenString p) h k = of_tokens (h (λ e. cc))
 lex_reported number text (lex.NumberTooGreat p) h k = of_tokens (h (λ e. cc))
 
-pub parse_reported : (number : ℕ) (text : Text) (tokens : List Token) (fault : ParseFault) → Lexes (start_of number) text.bytes tokens → (fault ≢ parse.Memory → IsParseFault tokens fault)
+pub parse_reported : (number : ℕ) (text : Text) (tokens : List Token) (fault : ParseFault) → Lexes (start_of number) text.bytes tokens
+    → (fault ≢ parse.Memory → IsParseFault tokens fault)
     → parse_step fault ≢ Memory → IsFileFault number text (parse_step fault)
 parse_reported number text tokens parse.Memory l h k = absurd (k refl)
 parse_reported number text tokens (parse.TooDeep p) l h k = of_items tokens l (h (λ e. cc))

@@ -12,7 +12,8 @@ use Rattle.m_items.proofs.OneLaws.{items_one}
 use Rattle.m_items.proofs.FaultLaws.{no_list_and_fault, one_fault, items_whole}
 use Rattle.rule_base.specs.declared.read_fault.ReadFault.{ReadFault}
 use Rattle.rule_base.specs.declared.read_fault.ReadFault.TheVariants.{Lex, Parse}
-use Rattle.rule_base.specs.Files.{all_items, SaysItems, IsFileFault, of_tokens, of_items, SayEach, none_each, one_each, SayAll, no_files, a_file, IsFirstFileFault, here, later}
+use Rattle.rule_base.specs.Files.{all_items, SaysItems, IsFileFault, of_tokens, of_items, SayEach, none_each, one_each, SayAll, no_files, a_file}
+use Rattle.rule_base.specs.Files.{IsFirstFileFault, here, later}
 
 -- One file.
 meaning_one : (number : ℕ) (text : Text) (xs ys : List Item) → SaysItems number text xs → SaysItems number text ys → xs ≡ ys
@@ -47,7 +48,8 @@ mean_or_fail number _ _ fault no_files f = elim f [ ]
 mean_or_fail number _ _ fault (a_file {text = t} {items = a} s h) (here f) = meaning_or_fails number t a fault s f
 mean_or_fail number _ _ fault (a_file {texts = ts} {others = ys} s h) (later u k) = mean_or_fail (number + 1) ts ys fault h k
 
-pub fail_once : (number : ℕ) (texts : List Text) (fault other : ReadFault) → IsFirstFileFault number texts fault → IsFirstFileFault number texts other → fault ≡ other
+pub fail_once : (number : ℕ) (texts : List Text) (fault other : ReadFault) → IsFirstFileFault number texts fault → IsFirstFileFault number texts other
+    → fault ≡ other
 fail_once number _ fault other (here {text = t} f) (here g) = fails_once number t fault other f g
 fail_once number _ fault other (here {text = t} f) (later {items = a} s k) = absurd (meaning_or_fails number t a fault s f)
 fail_once number _ fault other (later {items = a} s k) (here {text = t} f) = absurd (meaning_or_fails number t a other s f)
@@ -61,7 +63,8 @@ each_one number _ _ _ (one_each {text = t} {texts = ts} {items = a} {others = fs
     let behind = each_one (number + 1) ts fs gs h k in
     λ i. front i ∷ behind i
 
-pub each_or_fail : (number : ℕ) (texts : List Text) (files : List (List Item)) (fault : ReadFault) → SayEach number texts files → IsFirstFileFault number texts fault → ⊥
+pub each_or_fail : (number : ℕ) (texts : List Text) (files : List (List Item)) (fault : ReadFault) → SayEach number texts files
+    → IsFirstFileFault number texts fault → ⊥
 each_or_fail number _ _ fault none_each f = elim f [ ]
 each_or_fail number _ _ fault (one_each {text = t} {items = a} s h) (here f) = meaning_or_fails number t a fault s f
 each_or_fail number _ _ fault (one_each {texts = ts} {others = fs} s h) (later u k) = each_or_fail (number + 1) ts fs fault h k
@@ -73,4 +76,5 @@ stated_all number _ _ (one_each {texts = ts} {others = fs} s h) = a_file s (stat
 
 pub stated_whole : (number : ℕ) (texts : List Text) (items : List Item) → SayAll number texts items → All IsWholeItem items
 stated_whole number _ _ no_files = All-nil IsWholeItem
-stated_whole number _ _ (a_file {texts = ts} {items = a} {others = is} s h) = All-append IsWholeItem a is (items_whole s.spelled) (stated_whole (number + 1) ts is h)
+stated_whole number _ _ (a_file {texts = ts} {items = a} {others = is} s h) = All-append IsWholeItem a is (items_whole s.spelled)
+    (stated_whole (number + 1) ts is h)

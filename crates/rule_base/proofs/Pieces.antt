@@ -20,7 +20,8 @@ abbrev pub SaysFiles : ℕ → List Text → Result (List (List Item)) ReadFault
 SaysFiles number texts (Ok files) = SayEach number texts files
 SaysFiles number texts (Err fault) = fault ≢ Memory → IsFirstFileFault number texts fault
 
-goes : (size number : ℕ) (texts : List Text) (part : Vec (List Item) Global) (rest : Result (List (List Item)) ReadFault) → SayEach number (take size texts) part.items
+goes : (size number : ℕ) (texts : List Text) (part : Vec (List Item) Global) (rest : Result (List (List Item)) ReadFault)
+    → SayEach number (take size texts) part.items
     → SaysFiles (number + size) (drop size texts) rest → SaysFiles number texts (behind part.items rest)
 goes size number texts part (Ok rest) gave is = both_each size number texts part.items rest gave is
 goes size number texts part (Err fault) gave is = λ n. behind_fault size number texts part.items fault gave (is n)
@@ -29,7 +30,8 @@ goes size number texts part (Err fault) gave is = λ n. behind_fault size number
 abbrev pub IsGiven : ℕ → List Text → Given → Type 0
 IsGiven number texts given = Outcome Memory given (λ stated. SayEach number texts stated.items) (IsFirstFileFault number texts)
 
-pub parsed_files : (size : ℕ) (texts : List Text) (parts : List Given) → ((n : ℕ) (d : Given) → n < length parts → IsGiven (n * size) (part_at texts size (n * size)) (get_or parts n d))
+pub parsed_files : (size : ℕ) (texts : List Text) (parts : List Given)
+    → ((n : ℕ) (d : Given) → n < length parts → IsGiven (n * size) (part_at texts size (n * size)) (get_or parts n d))
     → ((n : ℕ) → n < length parts → n * size < length texts) → length texts ≤ length parts * size → SaysFiles 0 texts (joined parts)
 parsed_files size texts parts each inside reach =
     stated_of_parts IsGiven size SaysFiles (λ at. none_each)

@@ -26,8 +26,10 @@ use Rattle.rule_base.specs.Base.{Declares, IsBaseOf}
 pub data IsRuleFault (texts : List Text) (application : List ℕ) : RuleFault → Type 0 where
   of_tokens : {fault : LexFault} → IsFirstFileFault 0 texts (read.Lex fault) → IsRuleFault texts application (Lex fault)
   of_items : {fault : ParseFault} → IsFirstFileFault 0 texts (read.Parse fault) → IsRuleFault texts application (Parse fault)
-  of_declarations : {items : List Item} {fault : DeclareFault} → SayAll 0 texts items → first_fault items ≡ Some fault → IsRuleFault texts application (Declare fault)
-  of_loops : {items : List Item} {fault : ExpandFault} → Declares texts items → expand_fault items application (declared_by items) ≡ Some fault → IsRuleFault texts application (Expand fault)
+  of_declarations : {items : List Item} {fault : DeclareFault} → SayAll 0 texts items → first_fault items ≡ Some fault
+      → IsRuleFault texts application (Declare fault)
+  of_loops : {items : List Item} {fault : ExpandFault} → Declares texts items → expand_fault items application (declared_by items) ≡ Some fault
+      → IsRuleFault texts application (Expand fault)
   of_names : {items : List Item} {fault : ResolveFault} → Declares texts items → expand_fault items application (declared_by items) ≡ None
       → resolved (declared_by items) (expansion items application (declared_by items)) ≡ Err fault → IsRuleFault texts application (Resolve fault)
   of_a_cycle : {declared : Declared} {base : Base} (cells : List ℕ) → IsBaseOf texts application declared base → IsCycle base cells → BeginsWithLeast cells

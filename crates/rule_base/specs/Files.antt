@@ -22,7 +22,8 @@ pub record SaysItems (number : ℕ) (text : Text) (items : List Item) : Type 0 w
 -- told as the fault of a file.
 pub data IsFileFault (number : ℕ) (text : Text) : ReadFault → Type 0 where
   of_tokens : {fault : LexFault} → FirstFault (start_of number) text.bytes fault → IsFileFault number text (Lex fault)
-  of_items : {fault : ParseFault} (tokens : List Token) → Lexes (start_of number) text.bytes tokens → IsParseFault tokens fault → IsFileFault number text (Parse fault)
+  of_items : {fault : ParseFault} (tokens : List Token) → Lexes (start_of number) text.bytes tokens → IsParseFault tokens fault
+      → IsFileFault number text (Parse fault)
 
 -- Each of these files, of which the first has this number, says the items at its place. Of two files the second of which is empty, for
 -- example, the second list has no item.

@@ -1,5 +1,6 @@
 -- A path whose last cell reads a cell of the path shows a cycle, from whichever of its cells on.
-use Rattle.std.proofs.Common.{◌≡◌, ℕ, zero, suc, ◌+◌, ◌-◌, ◌<◌, ◌≤◌, true, false, nat_eq, List, [], ◌∷◌, ◌++◌, length, get_or, take, drop, refl, ap, sym, ◌∙◌, subst, inl, inr, ◌⊎◌, arith}
+use Rattle.std.proofs.Common.{◌≡◌, ℕ, zero, suc, ◌+◌, ◌-◌, ◌<◌, ◌≤◌, true, false, nat_eq, List, [], ◌∷◌, ◌++◌, length, get_or, take, drop, refl, ap, sym, ◌∙◌}
+use Rattle.std.proofs.Common.{subst, inl, inr, ◌⊎◌, arith}
 use mathlib.Core.Bool.{◌||◌}
 use Rattle.std.proofs.lemmas.List.{append-nil, take-append-drop, take_all, length-drop, drop-map, take-map, get_or-map}
 use Rattle.std.proofs.Math.ListN.{length-map}
@@ -40,7 +41,8 @@ between : (y x : ℕ) (ys xs : List ℕ) → is_among y (ys ++ x ∷ xs) ≡ tru
 between y x ys xs t f a = cases (nat_eq y x)
     (λ (e : nat_eq y x ≡ true). clash (subst (λ n. is_among n (y ∷ ys) ≡ true) (same y x e) (ap (λ b. b || is_among y ys) (itself y))) a)
     (λ (g : nat_eq y x ≡ false).
-    let k : is_among y (ys ++ xs) ≡ true = among-append y ys xs ∙ ap (λ b. is_among y ys || (b || is_among y xs)) (sym g) ∙ sym (among-append y ys (x ∷ xs)) ∙ t in
+    let k : is_among y (ys ++ xs) ≡ true = among-append y ys xs ∙ ap (λ b. is_among y ys || (b || is_among y xs)) (sym g) ∙ sym (among-append y ys (x ∷ xs))
+    ∙ t in
     clash k f)
 
 put : (x : ℕ) (ys xs : List ℕ) → AreDistinctCells (ys ++ xs) → is_among x ys ≡ false → is_among x xs ≡ false → AreDistinctCells (ys ++ x ∷ xs)
@@ -73,16 +75,19 @@ leads : (base : Base) (x : ℕ) (xs : List ℕ) (c : ℕ) → ReadsNext base (x 
 leads base x [] c h k = k
 leads base x (y ∷ ys) c h k = (h.0, leads base y ys c h.1 k)
 
-leads-split : (base : Base) (x : ℕ) (xs : List ℕ) (y : ℕ) (ys : List ℕ) (last : ℕ) → LeadsTo base x (xs ++ y ∷ ys) last → LeadsTo base x xs y × LeadsTo base y ys last
+leads-split : (base : Base) (x : ℕ) (xs : List ℕ) (y : ℕ) (ys : List ℕ) (last : ℕ) → LeadsTo base x (xs ++ y ∷ ys) last
+    → LeadsTo base x xs y × LeadsTo base y ys last
 leads-split base x [] y ys last h = h
 leads-split base x (z ∷ xs) y ys last h = let k = leads-split base z xs y ys last h.1 in ((h.0, k.0), k.1)
 
-leads-join : (base : Base) (x : ℕ) (xs : List ℕ) (y : ℕ) (ys : List ℕ) (last : ℕ) → LeadsTo base x xs y → LeadsTo base y ys last → LeadsTo base x (xs ++ y ∷ ys) last
+leads-join : (base : Base) (x : ℕ) (xs : List ℕ) (y : ℕ) (ys : List ℕ) (last : ℕ) → LeadsTo base x xs y → LeadsTo base y ys last
+    → LeadsTo base x (xs ++ y ∷ ys) last
 leads-join base x [] y ys last h k = (h, k)
 leads-join base x (z ∷ xs) y ys last h k = (h.0, leads-join base z xs y ys last h.1 k)
 
 -- a ring that begins with c, begun with another of its cells
-turned : (base : Base) (c : ℕ) (xs : List ℕ) (y : ℕ) (ys rest : List ℕ) → c ∷ rest ≡ xs ++ y ∷ ys → AreDistinctCells (c ∷ rest) → LeadsTo base c rest c → IsCycle base ((y ∷ ys) ++ xs)
+turned : (base : Base) (c : ℕ) (xs : List ℕ) (y : ℕ) (ys rest : List ℕ) → c ∷ rest ≡ xs ++ y ∷ ys → AreDistinctCells (c ∷ rest) → LeadsTo base c rest c
+    → IsCycle base ((y ∷ ys) ++ xs)
 turned base c [] y ys rest e d l =
     let is : IsCycle base (y ∷ ys) = subst (λ (zs : List ℕ). IsCycle base zs) e (d, l) in
     subst (λ (zs : List ℕ). IsCycle base zs) (sym (append-nil (y ∷ ys))) is
@@ -92,7 +97,8 @@ turned base c (x ∷ xs) y ys rest e d l =
     (swap-distinct (x ∷ xs) (y ∷ ys) is.0, leads-join base y ys x xs y k.1 k.0)
 
 -- the cycle that is shown, where the path has the cell at one place, and the ring from there on begins at another
-pub shown : (base : Base) (zs : List ℕ) (c j l : ℕ) → AreDistinctCells zs → ReadsNext base zs → LastReads base zs c → j < length zs → get_or zs j 0 ≡ c → l < length (drop j zs) → IsCycle base (drop l (drop j zs) ++ take l (drop j zs))
+pub shown : (base : Base) (zs : List ℕ) (c j l : ℕ) → AreDistinctCells zs → ReadsNext base zs → LastReads base zs c → j < length zs → get_or zs j 0 ≡ c
+    → l < length (drop j zs) → IsCycle base (drop l (drop j zs) ++ take l (drop j zs))
 shown base zs c j l d next last low here within =
     let rest : List ℕ = drop (suc j) zs in
     let ring : drop j zs ≡ c ∷ rest = drop-cons zs j 0 low ∙ ap (λ n. n ∷ rest) here in
@@ -103,7 +109,8 @@ shown base zs c j l d next last low here within =
     let y : ℕ = get_or (drop j zs) l 0 in
     let ys : List ℕ = drop (suc l) (drop j zs) in
     let from : drop l (drop j zs) ≡ y ∷ ys = drop-cons (drop j zs) l 0 within in
-    let parts : c ∷ rest ≡ take l (drop j zs) ++ y ∷ ys = sym ring ∙ sym (take-append-drop l (drop j zs)) ∙ ap (λ (rs : List ℕ). take l (drop j zs) ++ rs) from in
+    let parts : c ∷ rest ≡ take l (drop j zs) ++ y ∷ ys = sym ring ∙ sym (take-append-drop l (drop j zs))
+    ∙ ap (λ (rs : List ℕ). take l (drop j zs) ++ rs) from in
     subst (λ (ws : List ℕ). IsCycle base (ws ++ take l (drop j zs))) (sym from)
     (turned base c (take l (drop j zs)) y ys rest parts distinct (leads base c rest c reads closes))
 
@@ -134,10 +141,13 @@ ring-is xs j = take_all (length xs - j) (drop j xs) (omega (arith, length-drop j
 pub ring-cells : (path : List Frame) (j : ℕ) → cells_of (take (length path - j) (drop j path)) ≡ drop j (cells_of path)
 ring-cells path j = ap cells_of (ring-is path j) ∙ sym (drop-map (λ (f : Frame). f.cell) j path)
 
-pub gathered : (path ring : List Frame) (j l : ℕ) (r n2 n1 n0 : List ℕ) → ring ≡ take (length path - j) (drop j path) → r ≡ n2 → n2 ≡ n1 ++ cells_of (take l ring) → n1 ≡ n0 ++ cells_of (take (length ring - l) (drop l ring)) → n0 ≡ [] → r ≡ drop l (drop j (cells_of path)) ++ take l (drop j (cells_of path))
+pub gathered : (path ring : List Frame) (j l : ℕ) (r n2 n1 n0 : List ℕ) → ring ≡ take (length path - j) (drop j path) → r ≡ n2
+    → n2 ≡ n1 ++ cells_of (take l ring) → n1 ≡ n0 ++ cells_of (take (length ring - l) (drop l ring)) → n0 ≡ []
+    → r ≡ drop l (drop j (cells_of path)) ++ take l (drop j (cells_of path))
 gathered path ring j l r n2 n1 n0 is e2 e1 e0 none =
     let cells : cells_of ring ≡ drop j (cells_of path) = ap cells_of is ∙ ring-cells path j in
-    let first : n1 ≡ drop l (drop j (cells_of path)) = e0 ∙ ap (λ (ns : List ℕ). ns ++ cells_of (take (length ring - l) (drop l ring))) none ∙ ring-cells ring l ∙ ap (drop l) cells in
+    let first : n1 ≡ drop l (drop j (cells_of path)) = e0 ∙ ap (λ (ns : List ℕ). ns ++ cells_of (take (length ring - l) (drop l ring))) none ∙ ring-cells ring l
+    ∙ ap (drop l) cells in
     let second : cells_of (take l ring) ≡ take l (drop j (cells_of path)) = sym (take-map (λ (f : Frame). f.cell) l ring) ∙ ap (take l) cells in
     e2 ∙ e1 ∙ ap (λ (ns : List ℕ). ns ++ cells_of (take l ring)) first ∙ ap (λ (ns : List ℕ). drop l (drop j (cells_of path)) ++ ns) second
 
@@ -145,7 +155,10 @@ cell-at : (path : List Frame) (i : ℕ) (f : Frame) → i < length path → f �
 cell-at path i f h e = get_or-map (λ (g : Frame). g.cell) path i f 0 h ∙ ap (λ (g : Frame). g.cell) (sym e)
 
 -- a turn of the look for the least cell
-pub least-turn : (ring : List Frame) (least now place : ℕ) (f g : Frame) → place < length ring → least < length ring → f ≡ get_or ring place f → g ≡ get_or ring least g → ((k : ℕ) → k < place → get_or (cells_of ring) least 0 ≤ get_or (cells_of ring) k 0) → ((f.cell < g.cell) × (now ≡ place)) ⊎ ((g.cell ≤ f.cell) × (now ≡ least)) → (now < length ring) × ((k : ℕ) → k < place + 1 → get_or (cells_of ring) now 0 ≤ get_or (cells_of ring) k 0)
+pub least-turn : (ring : List Frame) (least now place : ℕ) (f g : Frame) → place < length ring → least < length ring → f ≡ get_or ring place f
+    → g ≡ get_or ring least g → ((k : ℕ) → k < place → get_or (cells_of ring) least 0 ≤ get_or (cells_of ring) k 0)
+    → ((f.cell < g.cell) × (now ≡ place)) ⊎ ((g.cell ≤ f.cell) × (now ≡ least))
+    → (now < length ring) × ((k : ℕ) → k < place + 1 → get_or (cells_of ring) now 0 ≤ get_or (cells_of ring) k 0)
 least-turn ring least now place f g hp hl is_f is_g so_far (inl w) =
     let at_f = cell-at ring place f hp is_f in
     let at_g = cell-at ring least g hl is_g in
@@ -172,7 +185,8 @@ other_default [] i d e h = absurd (omega arith)
 other_default (x ∷ xs) zero d e h = refl
 other_default (x ∷ xs) (suc i) d e h = other_default xs i d e (omega arith)
 
-pub least-all : (ring : List Frame) (least place : ℕ) → length ring ≤ place → ((k : ℕ) → k < place → get_or (cells_of ring) least 0 ≤ get_or (cells_of ring) k 0) → All (λ c. get_or (cells_of ring) least 0 ≤ c) (cells_of ring)
+pub least-all : (ring : List Frame) (least place : ℕ) → length ring ≤ place
+    → ((k : ℕ) → k < place → get_or (cells_of ring) least 0 ≤ get_or (cells_of ring) k 0) → All (λ c. get_or (cells_of ring) least 0 ≤ c) (cells_of ring)
 least-all ring least place h so_far = λ k d l.
     let size : length (cells_of ring) ≡ length ring = length-map ring (λ (f : Frame). f.cell) in
     let b = so_far k (omega arith) in

@@ -29,7 +29,8 @@ marked-none base marks is size = record {
   others = λ c. inl (ap (λ (ms : List Mark). mark_of ms c) is ∙ settled-all base.cells c);
 }
 
-pub marked-more : (base : Base) (marks : List Mark) (i c : ℕ) → IsValidBase base → i < length base.definitions → c ≡ target_at base i → AreMarked base marks i → AreMarked base (set marks c (Waiting i)) (i + 1)
+pub marked-more : (base : Base) (marks : List Mark) (i c : ℕ) → IsValidBase base → i < length base.definitions → c ≡ target_at base i → AreMarked base marks i
+    → AreMarked base (set marks c (Waiting i)) (i + 1)
 marked-more base marks i c valid low is m =
     let new : List Mark = set marks c (Waiting i) in
     let within : c < length marks = let k = target-within base i valid low in let s = m.size in omega arith in
@@ -37,10 +38,20 @@ marked-more base marks i c valid low is m =
       size = length-set marks c (Waiting i) ∙ m.size;
       marked = λ p h. eq_cases p i
           (λ e. ap (mark_of new) (ap (target_at base) e ∙ sym is) ∙ mark-same marks c (Waiting i) within ∙ ap Waiting (sym e))
-          (λ n. mark-other marks c (target_at base p) (Waiting i) (λ e. n (position-one base p i valid.defined_once (omega arith) low (e ∙ is))) ∙ m.marked p (omega (arith, below p h n)));
+          (λ n. mark-other marks c (target_at base p) (Waiting i) (λ e. n (position-one base p i valid.defined_once (omega arith) low (e ∙ is)))
+          ∙ m.marked p (omega (arith, below p h n)));
       others = λ d. eq_cases d c
           (λ e. inr (i, omega arith, ap (mark_of new) e ∙ mark-same marks c (Waiting i) within, sym (e ∙ is)))
-          (λ n. elim (m.others d) [ inl k ↦ inl (mark-other marks c d (Waiting i) n ∙ k) | inr k ↦ inr (k.0, omega arith, mark-other marks c d (Waiting i) n ∙ k.2, k.3) ]);
+          (λ n. elim (m.others d) [
+            | inl k ↦ inl (mark-other marks c d (Waiting i) n ∙ k)
+            | inr k ↦ inr (
+              k.0,
+              omega arith,
+              mark-other marks c d (Waiting i) n
+                  ∙ k.2,
+              k.3,
+            )
+          ]);
     }
   where
     below : (p : ℕ) → p < i + 1 → (p ≡ i → ⊥) → p < i
@@ -51,7 +62,11 @@ marked-all base marks i all m = record {
   size = m.size;
   path_within = λ p h. absurd (clash h refl);
   placed_within = λ p h. absurd (clash h refl);
-  waiting = λ c p h. elim (m.others c) [ inl k ↦ absurd (settled_waiting (sym k ∙ h)) | inr k ↦ let e : Waiting k.0 ≡ Waiting p = sym k.2 ∙ h in let is : k.0 ≡ p = cc in (omega arith, ap (target_at base) (sym is) ∙ k.3) ];
+  waiting = λ c p h. elim (m.others c) [
+    | inl k ↦ absurd (settled_waiting (sym k ∙ h))
+    | inr k ↦ let e : Waiting k.0 ≡ Waiting p = sym k.2
+        ∙ h in let is : k.0 ≡ p = cc in (omega arith, ap (target_at base) (sym is) ∙ k.3)
+  ];
   begun = λ c h. elim (m.others c) [ inl k ↦ absurd (settled_open (sym k ∙ h)) | inr k ↦ absurd (waiting_open (sym k.2 ∙ h)) ];
   settled = λ p low h. absurd (settled_waiting (sym h ∙ m.marked p (omega arith)));
   on_path = λ c h. absurd (clash h refl);
@@ -73,7 +88,8 @@ marked-all base marks i all m = record {
     waiting_open e = cc
 
 -- the definition at a place of the list marks a cell of the base
-pub definition-low : (base : Base) (items : List Definition) (i n : ℕ) (d : Definition) → IsValidBase base → items ≡ base.definitions → i < length items → d ≡ get_or items i d → n ≡ base.cells → (d.0 < n) × (d.0 ≡ target_at base i) × (i < length base.definitions)
+pub definition-low : (base : Base) (items : List Definition) (i n : ℕ) (d : Definition) → IsValidBase base → items ≡ base.definitions → i < length items
+    → d ≡ get_or items i d → n ≡ base.cells → (d.0 < n) × (d.0 ≡ target_at base i) × (i < length base.definitions)
 definition-low base items i n d valid same_items low is size =
     let here : i < length base.definitions = subst (λ (ds : List Definition). i < length ds) same_items low in
     let at = definition-at base i d here (is ∙ ap (λ (ds : List Definition). get_or ds i d) same_items) in
@@ -82,7 +98,9 @@ definition-low base items i n d valid same_items low is size =
     (omega arith, e, here)
 
 -- the mark that is looked up for the definition at a position is that of its cell
-pub looked-up-mark : (base : Base) (marks : List Mark) (items : List Definition) (p : ℕ) (d : Definition) (m : Mark) → IsValidBase base → length marks ≡ base.cells → items ≡ base.definitions → p < length base.definitions → d ≡ get_or items p d → m ≡ get_or marks (get_or items p d).0 m → ((get_or items p d).0 < length marks) × (mark_of marks (target_at base p) ≡ m)
+pub looked-up-mark : (base : Base) (marks : List Mark) (items : List Definition) (p : ℕ) (d : Definition) (m : Mark) → IsValidBase base
+    → length marks ≡ base.cells → items ≡ base.definitions → p < length base.definitions → d ≡ get_or items p d → m ≡ get_or marks (get_or items p d).0 m
+    → ((get_or items p d).0 < length marks) × (mark_of marks (target_at base p) ≡ m)
 looked-up-mark base marks items p d m valid size same_items low is mark =
     let here : p < length items = subst (λ (ds : List Definition). p < length ds) (sym same_items) low in
     let k = definition-low base items p (length marks) d valid same_items here is size in

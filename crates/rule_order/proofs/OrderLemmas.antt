@@ -42,7 +42,8 @@ cells-among base c ps h =
     (get_or ps k.0 0, among-at ps k.0 k.1, k.2 0)
 
 -- distinct positions are those of distinct cells
-pub cells-distinct : (base : Base) (ps : List ℕ) → AreDistinctCells (targets_of base) → All (λ p. p < length base.definitions) ps → AreDistinctCells ps → AreDistinctCells (cells_at base ps)
+pub cells-distinct : (base : Base) (ps : List ℕ) → AreDistinctCells (targets_of base) → All (λ p. p < length base.definitions) ps → AreDistinctCells ps
+    → AreDistinctCells (cells_at base ps)
 cells-distinct base [] once within d = tt
 cells-distinct base (p ∷ ps) once within d = (
   cases (is_among (target_at base p) (cells_at base ps))
@@ -66,7 +67,8 @@ reads-ordered base sequence x y order r =
     subst (λ c. is_among c (cells_at base sequence) ≡ true) p.2 (among-cells base p.0 sequence (order.every p.0 p.1)))
 
 -- each cell of a ring of reads reads a cell of the ring
-ring-reads : (base : Base) (x : ℕ) (xs : List ℕ) (last c : ℕ) → LeadsTo base x xs last → is_among c (x ∷ xs) ≡ true → (d : ℕ) × Reads base c d × ((is_among d xs ≡ true) ⊎ (d ≡ last))
+ring-reads : (base : Base) (x : ℕ) (xs : List ℕ) (last c : ℕ) → LeadsTo base x xs last → is_among c (x ∷ xs) ≡ true
+    → (d : ℕ) × Reads base c d × ((is_among d xs ≡ true) ⊎ (d ≡ last))
 ring-reads base x [] last c leads h = cases (nat_eq c x)
     (λ (t : nat_eq c x ≡ true). (last, subst (λ n. Reads base n last) (sym (same c x t)) leads, inr refl))
     (λ (f : nat_eq c x ≡ false). absurd (clash h (ap (λ b. b || false) f)))
@@ -77,15 +79,21 @@ ring-reads base x (y ∷ ys) last c leads h = cases (nat_eq c x)
     (k.0, k.1, elim k.2 [ inl t ↦ inl (or-true (nat_eq k.0 y) (is_among k.0 ys) t) | inr e ↦ inr e ]))
 
 -- no cell of a ring stands at the positions of which all that the ring reads does: the first of them would read a later one
-no-ring : (base : Base) (x : ℕ) (xs ps : List ℕ) → LeadsTo base x xs x → AreDistinctCells (targets_of base) → All (λ p. p < length base.definitions) ps → ReadsEarlier base ps → ((c : ℕ) → is_among c (x ∷ xs) ≡ true → is_among c (cells_at base ps) ≡ true) → ⊥
+no-ring : (base : Base) (x : ℕ) (xs ps : List ℕ) → LeadsTo base x xs x → AreDistinctCells (targets_of base) → All (λ p. p < length base.definitions) ps
+    → ReadsEarlier base ps → ((c : ℕ) → is_among c (x ∷ xs) ≡ true → is_among c (cells_at base ps) ≡ true) → ⊥
 no-ring base x xs [] leads once within earlier all = clash (all x (ap (λ b. b || is_among x xs) (itself x))) refl
 no-ring base x xs (p ∷ ps) leads once within earlier all =
     let t : ℕ = target_at base p in
     cases (is_among t (x ∷ xs))
     (λ (here : is_among t (x ∷ xs) ≡ true).
     let k = ring-reads base x xs x t leads here in
-    let reads : TermReads (term_at base p) k.0 = subst (λ o. IsSomeAnd o (λ u. TermReads u k.0)) (definition_of-target base p once (All-head (λ n. n < length base.definitions) p ps within)) k.1 in
-    let ring : is_among k.0 (x ∷ xs) ≡ true = elim k.2 [ inl i ↦ or-true (nat_eq k.0 x) (is_among k.0 xs) i | inr e ↦ subst (λ n. is_among n (x ∷ xs) ≡ true) (sym e) (ap (λ b. b || is_among x xs) (itself x)) ] in
+    let reads : TermReads (term_at base p) k.0 = subst (λ o. IsSomeAnd o (λ u. TermReads u k.0))
+    (definition_of-target base p once (All-head (λ n. n < length base.definitions) p ps within)) k.1 in
+    let ring : is_among k.0 (x ∷ xs) ≡ true = elim k.2 [
+      | inl i ↦ or-true (nat_eq k.0 x) (is_among k.0 xs) i
+      | inr e ↦ subst (λ n. is_among n (x ∷ xs) ≡ true)
+          (sym e) (ap (λ b. b || is_among x xs) (itself x))
+    ] in
     clash (all k.0 ring) (earlier.0 k.0 reads))
     (λ (away : is_among t (x ∷ xs) ≡ false).
     no-ring base x xs ps leads once (All-tail (λ n. n < length base.definitions) p ps within) earlier.1

@@ -95,7 +95,8 @@ mutual
   pub have-runs : (t : Tree) (c : ℕ) → AnyHas (runs_in t) c → TermReads t c
   have-runs (lit v) c h = absurd h
   have-runs (cell d) c h = let k = one (run d 1) c h in omega arith
-  have-runs (pick first size index) c h = elim (AnyHas-either (runs_in index) (picked_runs first size index) c h) [ inl k ↦ inl (have-runs index c k) | inr k ↦ inr (from-pick first size index c k) ]
+  have-runs (pick first size index) c h = elim (AnyHas-either (runs_in index) (picked_runs first size index) c h)
+      [ inl k ↦ inl (have-runs index c k) | inr k ↦ inr (from-pick first size index c k) ]
   have-runs (apply op all) c h = have-among all c h
   have-runs (chain a steps) c h = elim (AnyHas-either (runs_in a) (runs_along steps) c h) [ inl k ↦ inl (have-runs a c k) | inr k ↦ inr (have-along steps c k) ]
 
@@ -131,7 +132,8 @@ mutual
   fit-runs : (cells : ℕ) (t : Tree) → IsWithin cells t → Fit cells (runs_in t)
   fit-runs cells (lit v) h = tt
   fit-runs cells (cell d) h = (omega arith, tt)
-  fit-runs cells (pick first size index) h = Fit-append cells (runs_in index) (picked_runs first size index) (fit-runs cells index h.1) (fit-pick cells first size index h.0)
+  fit-runs cells (pick first size index) h = Fit-append cells (runs_in index) (picked_runs first size index) (fit-runs cells index h.1)
+      (fit-pick cells first size index h.0)
   fit-runs cells (apply op all) h = fit-among cells all h
   fit-runs cells (chain a steps) h = Fit-append cells (runs_in a) (runs_along steps) (fit-runs cells a h.0) (fit-along cells steps h.1)
 

@@ -1,5 +1,6 @@
 -- The steps of the search: a definition is begun, or placed, and what holds of the marks, the path and the sequence stays true.
-use Rattle.std.proofs.Common.{◌≡◌, ℕ, zero, suc, ◌<◌, ◌≤◌, true, false, nat_eq, List, [], ◌∷◌, ◌++◌, length, get_or, set, refl, ap, sym, ◌∙◌, subst, inl, inr, ◌⊎◌, arith}
+use Rattle.std.proofs.Common.{◌≡◌, ℕ, zero, suc, ◌<◌, ◌≤◌, true, false, nat_eq, List, [], ◌∷◌, ◌++◌, length, get_or, set, refl, ap, sym, ◌∙◌, subst, inl, inr}
+use Rattle.std.proofs.Common.{◌⊎◌, arith}
 use mathlib.Core.Bool.{◌||◌}
 use Rattle.std.proofs.lemmas.List.{length-set, get_or-set_same, get_or-set_other}
 use Rattle.std.proofs.lemmas.List.Sums.{sum_by-set}
@@ -77,11 +78,13 @@ advanced-settled old new h c s = steps-none (mark_of new c) (let k = h c in let 
 
 pub advanced-set : (marks : List Mark) (c : ℕ) (m : Mark) → c < length marks → steps_left m ≤ steps_left (mark_of marks c) → HasAdvanced marks (set marks c m)
 advanced-set marks c m low h d = eq_cases d c
-    (λ e. let k : steps_left (mark_of (set marks c m) d) ≡ steps_left m = ap (λ n. steps_left (mark_of (set marks c m) n)) e ∙ ap steps_left (mark-same marks c m low) in
+    (λ e. let k : steps_left (mark_of (set marks c m) d) ≡ steps_left m = ap (λ n. steps_left (mark_of (set marks c m) n)) e
+    ∙ ap steps_left (mark-same marks c m low) in
     let j : steps_left (mark_of marks d) ≡ steps_left (mark_of marks c) = ap (λ n. steps_left (mark_of marks n)) e in omega arith)
     (λ n. let k : steps_left (mark_of (set marks c m) d) ≡ steps_left (mark_of marks d) = ap steps_left (mark-other marks c d m n) in omega arith)
 
-pub left-less : (marks : List Mark) (c : ℕ) (m : Mark) → c < length marks → steps_left m < steps_left (mark_of marks c) → sum_by steps_left (set marks c m) < sum_by steps_left marks
+pub left-less : (marks : List Mark) (c : ℕ) (m : Mark) → c < length marks → steps_left m < steps_left (mark_of marks c)
+    → sum_by steps_left (set marks c m) < sum_by steps_left marks
 left-less marks c m low h = let k = sum_by-set steps_left marks c m Settled low in omega arith
 
 -- ---- reads along the path
@@ -102,7 +105,8 @@ LastReads-push base (x ∷ []) y c r = r
 LastReads-push base (x ∷ z ∷ zs) y c r = LastReads-push base (z ∷ zs) y c r
 
 -- one more at the end, which reads nothing that isn't settled and which nothing before it reads
-ReadsEarlier-push : (base : Base) (ps : List ℕ) (p : ℕ) → ReadsEarlier base ps → ((q : ℕ) → is_among q (ps ++ p ∷ []) ≡ true → TermReads (term_at base q) (target_at base p) → ⊥) → ReadsEarlier base (ps ++ p ∷ [])
+ReadsEarlier-push : (base : Base) (ps : List ℕ) (p : ℕ) → ReadsEarlier base ps
+    → ((q : ℕ) → is_among q (ps ++ p ∷ []) ≡ true → TermReads (term_at base q) (target_at base p) → ⊥) → ReadsEarlier base (ps ++ p ∷ [])
 ReadsEarlier-push base [] p h away = (
   λ c r. eq_cases c (target_at base p)
       (λ e. absurd (away p (among-new p []) (subst (λ n. TermReads (term_at base p) n) e r)))
@@ -127,7 +131,9 @@ ReadsEarlier-push base (q ∷ qs) p h away = (
 -- ---- the two steps
 
 -- a definition that waits is begun at the end of the path
-pub begun-step : (base : Base) (marks : List Mark) (path sequence : List ℕ) (p : ℕ) → IsValidBase base → IsSearch base marks path sequence → mark_of marks (target_at base p) ≡ Waiting p → LastReads base (cells_at base path) (target_at base p) → IsSearch base (set marks (target_at base p) Open) (path ++ p ∷ []) sequence
+pub begun-step : (base : Base) (marks : List Mark) (path sequence : List ℕ) (p : ℕ) → IsValidBase base → IsSearch base marks path sequence
+    → mark_of marks (target_at base p) ≡ Waiting p → LastReads base (cells_at base path) (target_at base p)
+    → IsSearch base (set marks (target_at base p) Open) (path ++ p ∷ []) sequence
 begun-step base marks path sequence p valid s waits reads =
     let t : ℕ = target_at base p in
     let new : List Mark = set marks t Open in
@@ -139,7 +145,11 @@ begun-step base marks path sequence p valid s waits reads =
     let cells : cells_at base (path ++ p ∷ []) ≡ cells_at base path ++ t ∷ [] = cells-push base path p in
     record {
       size = length-set marks t Open ∙ s.size;
-      path_within = λ q h. elim (among-push q p path h) [ inl k ↦ s.path_within q k | inr e ↦ subst (λ n. n < length base.definitions) (sym e) (s.waiting t p waits).0 ];
+      path_within = λ q h. elim (among-push q p path h) [
+        | inl k ↦ s.path_within q k
+        | inr e ↦ subst (λ n. n < length base.definitions) (sym e)
+            (s.waiting t p waits).0
+      ];
       placed_within = s.placed_within;
       waiting = λ c q h. eq_cases c t
           (λ e. absurd (mark_open (sym (is_at c e) ∙ h)))
@@ -179,7 +189,8 @@ begun-step base marks path sequence p valid s waits reads =
     mark_settled e = cc
 
 -- the last definition of the path is placed, if all that it reads is settled
-pub placed-step : (base : Base) (marks : List Mark) (path sequence : List ℕ) (p : ℕ) → IsValidBase base → IsSearch base marks (path ++ p ∷ []) sequence → ((c : ℕ) → TermReads (term_at base p) c → IsSettled marks c) → IsSearch base (set marks (target_at base p) Settled) path (sequence ++ p ∷ [])
+pub placed-step : (base : Base) (marks : List Mark) (path sequence : List ℕ) (p : ℕ) → IsValidBase base → IsSearch base marks (path ++ p ∷ []) sequence
+    → ((c : ℕ) → TermReads (term_at base p) c → IsSettled marks c) → IsSearch base (set marks (target_at base p) Settled) path (sequence ++ p ∷ [])
 placed-step base marks path sequence p valid s reads =
     let t : ℕ = target_at base p in
     let new : List Mark = set marks t Settled in
@@ -192,7 +203,11 @@ placed-step base marks path sequence p valid s reads =
     let within : p < length base.definitions = s.path_within p (among-new p path) in
     let apart = front-distinct (cells_at base path) t (subst (λ (cs : List ℕ). AreDistinctCells cs) cells s.path_once) in
     let unread : (q : ℕ) → is_among q (sequence ++ p ∷ []) ≡ true → TermReads (term_at base q) t → ⊥ = λ q h r.
-    elim (among-push q p sequence h) [ inl k ↦ open_settled (sym here ∙ s.closed q t k r) | inr e ↦ open_settled (sym here ∙ reads t (subst (λ n. TermReads (term_at base n) t) e r)) ] in
+    elim (among-push q p sequence h) [
+      | inl k ↦ open_settled (sym here ∙ s.closed q t k r)
+      | inr e ↦ open_settled (sym here
+          ∙ reads t (subst (λ n. TermReads (term_at base n) t) e r))
+    ] in
     record {
       size = length-set marks t Settled ∙ s.size;
       path_within = λ q h. s.path_within q (among-old q p path h);
@@ -209,14 +224,18 @@ placed-step base marks path sequence p valid s reads =
       on_path = λ c h. eq_cases c t
           (λ e. absurd (clash (subst (λ n. is_among n (cells_at base path) ≡ true) e h) apart.1))
           (λ n. off c n ∙ s.on_path c (ap (is_among c) cells ∙ among-old c t (cells_at base path) h));
-      placed = λ q h. elim (among-push q p sequence h) [ inl k ↦ kept (target_at base q) (s.placed q k) | inr e ↦ at (target_at base q) (ap (target_at base) e) ];
+      placed = λ q h. elim (among-push q p sequence h) [
+        | inl k ↦ kept (target_at base q) (s.placed q k)
+        | inr e ↦ at (target_at base q) (ap (target_at base) e)
+      ];
       path_once = apart.0;
       placed_once = AreDistinct-push sequence p s.placed_once
           (cases (is_among p sequence)
           (λ (k : is_among p sequence ≡ true). absurd (open_settled (sym here ∙ s.placed p k)))
           (λ (f : is_among p sequence ≡ false). f));
       path_reads = ReadsNext-front base (cells_at base path) t (subst (λ (cs : List ℕ). ReadsNext base cs) cells s.path_reads);
-      closed = λ q c h r. elim (among-push q p sequence h) [ inl k ↦ kept c (s.closed q c k r) | inr e ↦ kept c (reads c (subst (λ n. TermReads (term_at base n) c) e r)) ];
+      closed = λ q c h r. elim (among-push q p sequence h)
+          [ inl k ↦ kept c (s.closed q c k r) | inr e ↦ kept c (reads c (subst (λ n. TermReads (term_at base n) c) e r)) ];
       earlier = ReadsEarlier-push base sequence p s.earlier unread;
     }
   where
@@ -234,7 +253,8 @@ among-at_or (x ∷ xs) zero d h = ap (λ b. b || is_among x xs) (itself x)
 among-at_or (x ∷ xs) (suc i) d h = or-true (nat_eq (get_or xs i d) x) (is_among (get_or xs i d) xs) (among-at_or xs i d (omega arith))
 
 -- once all cells with definitions are settled, the sequence is an order
-pub ordered : (base : Base) (marks : List Mark) (sequence : List ℕ) → IsSearch base marks [] sequence → ((p : ℕ) → p < length base.definitions → IsSettled marks (target_at base p)) → IsOrder base sequence
+pub ordered : (base : Base) (marks : List Mark) (sequence : List ℕ) → IsSearch base marks [] sequence
+    → ((p : ℕ) → p < length base.definitions → IsSettled marks (target_at base p)) → IsOrder base sequence
 ordered base marks sequence s all = record {
   within = λ k d l. s.placed_within (get_or sequence k d) (among-at_or sequence k d l);
   every = λ p h. s.settled p h (all p h);

@@ -1,5 +1,6 @@
 -- The turns of the search, with the frames of the path and what is known to be settled.
-use Rattle.std.proofs.Common.{◌≡◌, ℕ, zero, suc, ◌<◌, ◌≤◌, true, List, [], ◌∷◌, ◌++◌, length, get_or, set, take, drop, refl, ap, sym, ◌∙◌, subst, inl, inr, arith}
+use Rattle.std.proofs.Common.{◌≡◌, ℕ, zero, suc, ◌<◌, ◌≤◌, true, List, [], ◌∷◌, ◌++◌, length, get_or, set, take, drop, refl, ap, sym, ◌∙◌, subst, inl, inr}
+use Rattle.std.proofs.Common.{arith}
 use Rattle.std.proofs.lemmas.Bool.{cases_lt}
 use Rattle.std.proofs.lemmas.List.{drop_all, take_all, append-nil}
 use Rattle.std.proofs.lemmas.List.Elements.{All-push}
@@ -19,10 +20,12 @@ use Rattle.rule_order.specs.declared.search.Frame.{Frame}
 use Rattle.rule_order.specs.declared.reads.Run.{Run}
 use Rattle.rule_order.specs.Orders.{cells_at}
 use Rattle.rule_order.specs.inner.Runs.{run, IsInRun, runs_in}
-use Rattle.rule_order.specs.inner.Marks.{mark_of, steps_left, IsSettled, HasAdvanced, KnowsSettled, RunsFit, AllPassed, StopsAt, ReadsNext, LastReads, positions_of, cells_of, IsSearch, IsFrameAt, IsFrame, IsWalk}
+use Rattle.rule_order.specs.inner.Marks.{mark_of, steps_left, IsSettled, HasAdvanced, KnowsSettled, RunsFit, AllPassed, StopsAt, ReadsNext, LastReads}
+use Rattle.rule_order.specs.inner.Marks.{positions_of, cells_of, IsSearch, IsFrameAt, IsFrame, IsWalk}
 use Rattle.rule_order.proofs.OrderLemmas.{All-head, All-tail}
 use Rattle.rule_order.proofs.RunLemmas.{AnyHas-place, AnyHas-at, runs-have, have-runs, runs-fit}
-use Rattle.rule_order.proofs.SearchLemmas.{among-new, cells-push, mark-same, mark-low, advanced-settled, advanced-set, left-less, LastReads-push, begun-step, placed-step}
+use Rattle.rule_order.proofs.SearchLemmas.{among-new, cells-push, mark-same, mark-low, advanced-settled, advanced-set, left-less, LastReads-push, begun-step}
+use Rattle.rule_order.proofs.SearchLemmas.{placed-step}
 
 -- ---- frames
 
@@ -53,7 +56,8 @@ cells_of-at base marks (f ∷ fs) h =
     let cell : f.cell ≡ target_at base f.position = first.cell in
     λ i. cell i ∷ cells_of-at base marks fs (All-tail (IsFrame base marks) f fs h) i
 
-frame-kept : (base : Base) (old new : List Mark) (frame : Frame) → ((c : ℕ) → IsSettled old c → IsSettled new c) → IsFrame base old frame → IsFrame base new frame
+frame-kept : (base : Base) (old new : List Mark) (frame : Frame) → ((c : ℕ) → IsSettled old c → IsSettled new c) → IsFrame base old frame
+    → IsFrame base new frame
 frame-kept base old new frame kept f = record {
   within = f.within;
   cell = f.cell;
@@ -62,14 +66,18 @@ frame-kept base old new frame kept f = record {
   passed = λ i d low h c r. kept c (f.passed i d low h c r);
 }
 
-frames-kept : (base : Base) (old new : List Mark) (path : List Frame) → ((c : ℕ) → IsSettled old c → IsSettled new c) → All (IsFrame base old) path → All (IsFrame base new) path
+frames-kept : (base : Base) (old new : List Mark) (path : List Frame) → ((c : ℕ) → IsSettled old c → IsSettled new c) → All (IsFrame base old) path
+    → All (IsFrame base new) path
 frames-kept base old new path kept h = λ k d l. frame-kept base old new (get_or path k d) kept (h k d l)
 
 -- ---- the turns
 
 -- a definition that waits is begun
-pub walk-begun : (base : Base) (marks : List Mark) (known sequence : List ℕ) (path : List Frame) (frame : Frame) (p : ℕ) → IsValidBase base → IsWalk base marks known sequence path → mark_of marks (target_at base p) ≡ Waiting p → LastReads base (cells_of path) (target_at base p) → IsFrameAt base p frame →
-    IsWalk base (set marks frame.cell Open) known sequence (path ++ frame ∷ []) × HasAdvanced marks (set marks frame.cell Open) × (sum_by steps_left (set marks frame.cell Open) < sum_by steps_left marks) × (mark_of (set marks frame.cell Open) (target_at base p) ≡ Open)
+pub walk-begun : (base : Base) (marks : List Mark) (known sequence : List ℕ) (path : List Frame) (frame : Frame) (p : ℕ) → IsValidBase base
+    → IsWalk base marks known sequence path → mark_of marks (target_at base p) ≡ Waiting p → LastReads base (cells_of path) (target_at base p)
+    → IsFrameAt base p frame →
+    IsWalk base (set marks frame.cell Open) known sequence (path ++ frame ∷ []) × HasAdvanced marks (set marks frame.cell Open)
+    × (sum_by steps_left (set marks frame.cell Open) < sum_by steps_left marks) × (mark_of (set marks frame.cell Open) (target_at base p) ≡ Open)
 walk-begun base marks known sequence path frame p valid w waits reads f =
     let t : ℕ = target_at base p in
     let new : List Mark = set marks t Open in
@@ -88,34 +96,44 @@ walk-begun base marks known sequence path frame p valid w waits reads f =
       passed = λ i d l h. let z = f.next in absurd (omega arith);
     } in
     let walk : IsWalk base new known sequence (path ++ frame ∷ []) = record {
-      search = subst (λ (ps : List ℕ). IsSearch base new ps sequence) (sym at) (begun-step base marks (positions_of path) sequence p valid w.search waits (subst (λ (cs : List ℕ). LastReads base cs t) same_cells reads));
+      search = subst (λ (ps : List ℕ). IsSearch base new ps sequence) (sym at) (begun-step base marks (positions_of path) sequence p valid w.search waits
+          (subst (λ (cs : List ℕ). LastReads base cs t) same_cells reads));
       frames = All-push (IsFrame base new) path frame (frames-kept base marks new path kept w.frames) begun;
       knows = λ g c r. kept c (w.knows g c r);
       known_size = w.known_size;
     } in
-    subst (λ n. IsWalk base (set marks n Open) known sequence (path ++ frame ∷ []) × HasAdvanced marks (set marks n Open) × (sum_by steps_left (set marks n Open) < sum_by steps_left marks) × (mark_of (set marks n Open) t ≡ Open)) (sym f.cell) (walk, advanced, less, mark-same marks t Open low)
+    subst (λ n. IsWalk base (set marks n Open) known sequence (path ++ frame ∷ []) × HasAdvanced marks (set marks n Open)
+    × (sum_by steps_left (set marks n Open) < sum_by steps_left marks) × (mark_of (set marks n Open) t ≡ Open)) (sym f.cell)
+    (walk, advanced, less, mark-same marks t Open low)
   where
     settled_waiting : {q : ℕ} → Settled ≡ Waiting q → ⊥
     settled_waiting e = cc
 
 -- what a frame of which all runs are settled reads
-frame-read : (base : Base) (marks : List Mark) (frame : Frame) → IsFrame base marks frame → AllPassed marks frame.reads.items frame.next (length frame.reads.items) → (c : ℕ) → TermReads (term_at base frame.position) c → IsSettled marks c
+frame-read : (base : Base) (marks : List Mark) (frame : Frame) → IsFrame base marks frame
+    → AllPassed marks frame.reads.items frame.next (length frame.reads.items) → (c : ℕ) → TermReads (term_at base frame.position) c → IsSettled marks c
 frame-read base marks frame f rest c r =
     let k = AnyHas-place (runs_in (term_at base frame.position)) c (runs-have (term_at base frame.position) c r) in
     let low : k.0 < length frame.reads.items = subst (λ (rs : List Run). k.0 < length rs) (sym f.reads) k.1 in
-    let here : IsInRun (get_or frame.reads.items k.0 (run 0 0)) c = subst (λ (rs : List Run). IsInRun (get_or rs k.0 (run 0 0)) c) (sym f.reads) (k.2 (run 0 0)) in
+    let here : IsInRun (get_or frame.reads.items k.0 (run 0 0)) c = subst (λ (rs : List Run). IsInRun (get_or rs k.0 (run 0 0)) c) (sym f.reads)
+    (k.2 (run 0 0)) in
     elim (cases_lt k.0 frame.next) [ inl l ↦ f.passed k.0 (run 0 0) (omega arith) l c here | inr l ↦ rest k.0 (run 0 0) l low c here ]
 
 -- the last of the path is placed, if all that it reads is settled
-pub walk-placed : (base : Base) (marks : List Mark) (known now sequence : List ℕ) (path : List Frame) (frame : Frame) → IsValidBase base → IsWalk base marks known sequence (path ++ frame ∷ []) → KnowsSettled marks now → length now ≡ base.cells → AllPassed marks frame.reads.items frame.next (length frame.reads.items) →
-    IsWalk base (set marks frame.cell Settled) now (sequence ++ frame.position ∷ []) path × HasAdvanced marks (set marks frame.cell Settled) × (sum_by steps_left (set marks frame.cell Settled) < sum_by steps_left marks)
+pub walk-placed : (base : Base) (marks : List Mark) (known now sequence : List ℕ) (path : List Frame) (frame : Frame) → IsValidBase base
+    → IsWalk base marks known sequence (path ++ frame ∷ []) → KnowsSettled marks now → length now ≡ base.cells
+    → AllPassed marks frame.reads.items frame.next (length frame.reads.items) →
+    IsWalk base (set marks frame.cell Settled) now (sequence ++ frame.position ∷ []) path × HasAdvanced marks (set marks frame.cell Settled)
+    × (sum_by steps_left (set marks frame.cell Settled) < sum_by steps_left marks)
 walk-placed base marks known now sequence path frame valid w knows size rest =
     let p : ℕ = frame.position in
     let t : ℕ = target_at base p in
     let new : List Mark = set marks t Settled in
     let f : IsFrame base marks frame = All-last (IsFrame base marks) path frame w.frames in
-    let search : IsSearch base marks (positions_of path ++ p ∷ []) sequence = subst (λ (ps : List ℕ). IsSearch base marks ps sequence) (positions-push path frame) w.search in
-    let here : mark_of marks t ≡ Open = search.on_path t (ap (is_among t) (cells-push base (positions_of path) p) ∙ among-new t (cells_at base (positions_of path))) in
+    let search : IsSearch base marks (positions_of path ++ p ∷ []) sequence = subst (λ (ps : List ℕ). IsSearch base marks ps sequence)
+    (positions-push path frame) w.search in
+    let here : mark_of marks t ≡ Open = search.on_path t (ap (is_among t) (cells-push base (positions_of path) p)
+    ∙ among-new t (cells_at base (positions_of path))) in
     let low : t < length marks = mark-low marks t (λ e. open_settled (sym here ∙ e)) in
     let one : steps_left (mark_of marks t) ≡ 1 = ap steps_left here in
     let advanced : HasAdvanced marks new = advanced-set marks t Settled low (omega arith) in
@@ -127,19 +145,23 @@ walk-placed base marks known now sequence path frame valid w knows size rest =
       knows = λ g c r. kept c (knows g c r);
       known_size = size;
     } in
-    subst (λ n. IsWalk base (set marks n Settled) now (sequence ++ p ∷ []) path × HasAdvanced marks (set marks n Settled) × (sum_by steps_left (set marks n Settled) < sum_by steps_left marks)) (sym f.cell) (walk, advanced, less)
+    subst (λ n. IsWalk base (set marks n Settled) now (sequence ++ p ∷ []) path × HasAdvanced marks (set marks n Settled)
+    × (sum_by steps_left (set marks n Settled) < sum_by steps_left marks)) (sym f.cell) (walk, advanced, less)
   where
     open_settled : Open ≡ Settled → ⊥
     open_settled e = cc
 
 -- the last of the path stops at a cell that isn't settled
-pub walk-stopped : (base : Base) (marks : List Mark) (known now sequence : List ℕ) (path : List Frame) (frame : Frame) (place c : ℕ) → IsValidBase base → IsWalk base marks known sequence (path ++ frame ∷ []) → KnowsSettled marks now → length now ≡ base.cells → StopsAt marks frame.reads.items frame.next place c →
+pub walk-stopped : (base : Base) (marks : List Mark) (known now sequence : List ℕ) (path : List Frame) (frame : Frame) (place c : ℕ) → IsValidBase base
+    → IsWalk base marks known sequence (path ++ frame ∷ []) → KnowsSettled marks now → length now ≡ base.cells
+    → StopsAt marks frame.reads.items frame.next place c →
     IsWalk base marks now sequence (path ++ record frame { next = place } ∷ []) × LastReads base (cells_of (path ++ record frame { next = place } ∷ [])) c
 walk-stopped base marks known now sequence path frame place c valid w knows size stops =
     let moved : Frame = record frame { next = place } in
     let f : IsFrame base marks frame = All-last (IsFrame base marks) path frame w.frames in
     let at : positions_of (path ++ moved ∷ []) ≡ positions_of (path ++ frame ∷ []) = positions-push path moved ∙ sym (positions-push path frame) in
-    let there : IsInRun (get_or (runs_in (term_at base frame.position)) place (run 0 0)) c = subst (λ (rs : List Run). IsInRun (get_or rs place (run 0 0)) c) f.reads (stops.here (run 0 0)) in
+    let there : IsInRun (get_or (runs_in (term_at base frame.position)) place (run 0 0)) c = subst (λ (rs : List Run). IsInRun (get_or rs place (run 0 0)) c)
+    f.reads (stops.here (run 0 0)) in
     let low : place < length (runs_in (term_at base frame.position)) = subst (λ (rs : List Run). place < length rs) f.reads stops.within in
     let reads : Reads base frame.cell c = subst (λ n. Reads base n c) (sym f.cell)
     (Reads-target base frame.position c valid.defined_once f.within
@@ -161,17 +183,21 @@ walk-stopped base marks known now sequence path frame place c valid w knows size
 
 -- ---- what the turns ask for
 
-pub frame-fits : (base : Base) (marks : List Mark) (known sequence : List ℕ) (path : List Frame) (frame : Frame) → IsValidBase base → IsWalk base marks known sequence (path ++ frame ∷ []) → RunsFit (length marks) frame.reads.items
+pub frame-fits : (base : Base) (marks : List Mark) (known sequence : List ℕ) (path : List Frame) (frame : Frame) → IsValidBase base
+    → IsWalk base marks known sequence (path ++ frame ∷ []) → RunsFit (length marks) frame.reads.items
 frame-fits base marks known sequence path frame valid w =
     let f : IsFrame base marks frame = All-last (IsFrame base marks) path frame w.frames in
-    let within : IsWithin base.cells (term_at base frame.position) = valid.terms frame.position (lit Undef) (let l = f.within in omega (arith, length-map base.definitions (λ (d : Definition). d.1))) in
+    let within : IsWithin base.cells (term_at base frame.position) = valid.terms frame.position (lit Undef)
+    (let l = f.within in omega (arith, length-map base.definitions (λ (d : Definition). d.1))) in
     subst (λ n. RunsFit n frame.reads.items) (sym w.search.size)
     (subst (λ (rs : List Run). RunsFit base.cells rs) (sym f.reads) (runs-fit base.cells (term_at base frame.position) within))
 
-pub frame-last : (base : Base) (marks : List Mark) (known sequence : List ℕ) (path : List Frame) (frame : Frame) → IsWalk base marks known sequence (path ++ frame ∷ []) → IsFrame base marks frame
+pub frame-last : (base : Base) (marks : List Mark) (known sequence : List ℕ) (path : List Frame) (frame : Frame)
+    → IsWalk base marks known sequence (path ++ frame ∷ []) → IsFrame base marks frame
 frame-last base marks known sequence path frame w = All-last (IsFrame base marks) path frame w.frames
 
-pub frame-low : (base : Base) (marks : List Mark) (known sequence : List ℕ) (path : List Frame) (frame : Frame) → IsValidBase base → IsWalk base marks known sequence (path ++ frame ∷ []) → frame.cell < length marks
+pub frame-low : (base : Base) (marks : List Mark) (known sequence : List ℕ) (path : List Frame) (frame : Frame) → IsValidBase base
+    → IsWalk base marks known sequence (path ++ frame ∷ []) → frame.cell < length marks
 frame-low base marks known sequence path frame valid w =
     let f = frame-last base marks known sequence path frame w in
     let k = target-within base frame.position valid f.within in
@@ -195,13 +221,18 @@ written : (old new : List ℕ) (n : ℕ) → length new ≡ length old → n ≡
 written old new n e h =
     ap (λ (xs : List ℕ). take n (new ++ xs)) (drop_all (length new) old (omega arith)) ∙ ap (take n) (append-nil new) ∙ take_all n new (omega arith)
 
-pub turn-placed : (base : Base) (marks slice : List Mark) (known lent now : List ℕ) (n : ℕ) (sequence after : List ℕ) (path : List Frame) (frame : Frame) (reads : List Run) → IsValidBase base → IsWalk base marks known sequence (path ++ frame ∷ []) → slice ≡ marks → reads ≡ frame.reads.items → lent ≡ known → length now ≡ length lent → n ≡ length known → KnowsSettled slice now → AllPassed slice reads frame.next (length reads) → after ≡ sequence ++ frame.position ∷ [] →
-    IsWalk base (set marks frame.cell Settled) (take n (now ++ drop (length now) known)) after path × HasAdvanced marks (set marks frame.cell Settled) × (sum_by steps_left (set marks frame.cell Settled) < sum_by steps_left marks)
+pub turn-placed : (base : Base) (marks slice : List Mark) (known lent now : List ℕ) (n : ℕ) (sequence after : List ℕ) (path : List Frame) (frame : Frame)
+    (reads : List Run) → IsValidBase base → IsWalk base marks known sequence (path ++ frame ∷ []) → slice ≡ marks → reads ≡ frame.reads.items → lent ≡ known
+    → length now ≡ length lent → n ≡ length known → KnowsSettled slice now → AllPassed slice reads frame.next (length reads)
+    → after ≡ sequence ++ frame.position ∷ [] →
+    IsWalk base (set marks frame.cell Settled) (take n (now ++ drop (length now) known)) after path × HasAdvanced marks (set marks frame.cell Settled)
+    × (sum_by steps_left (set marks frame.cell Settled) < sum_by steps_left marks)
 turn-placed base marks slice known lent now n sequence after path frame reads valid w same_marks same_reads same_known long all knows rest pushed =
     let size : length now ≡ length known = long ∙ ap length same_known in
     let is = written known now n size all in
     let settled : KnowsSettled marks now = subst (λ (ms : List Mark). KnowsSettled ms now) same_marks knows in
-    let passed : AllPassed marks frame.reads.items frame.next (length frame.reads.items) = subst (λ (rs : List Run). AllPassed marks rs frame.next (length rs)) same_reads (subst (λ (ms : List Mark). AllPassed ms reads frame.next (length reads)) same_marks rest) in
+    let passed : AllPassed marks frame.reads.items frame.next (length frame.reads.items) = subst (λ (rs : List Run). AllPassed marks rs frame.next (length rs))
+    same_reads (subst (λ (ms : List Mark). AllPassed ms reads frame.next (length reads)) same_marks rest) in
     let placed = walk-placed base marks known now sequence path frame valid w settled (size ∙ w.known_size) passed in (
       subst (λ (ks : List ℕ). IsWalk base (set marks frame.cell Settled) ks after path) (sym is)
           (subst (λ (ps : List ℕ). IsWalk base (set marks frame.cell Settled) now ps path) (sym pushed) placed.0),
@@ -209,24 +240,31 @@ turn-placed base marks slice known lent now n sequence after path frame reads va
       placed.2,
     )
 
-pub turn-stopped : (base : Base) (marks slice : List Mark) (known lent now : List ℕ) (n : ℕ) (sequence : List ℕ) (path after : List Frame) (frame : Frame) (reads : List Run) (place c : ℕ) → IsValidBase base → IsWalk base marks known sequence (path ++ frame ∷ []) → slice ≡ marks → reads ≡ frame.reads.items → lent ≡ known → length now ≡ length lent → n ≡ length known → KnowsSettled slice now → StopsAt slice reads frame.next place c → after ≡ path ++ record frame { next = place } ∷ [] →
+pub turn-stopped : (base : Base) (marks slice : List Mark) (known lent now : List ℕ) (n : ℕ) (sequence : List ℕ) (path after : List Frame) (frame : Frame)
+    (reads : List Run) (place c : ℕ) → IsValidBase base → IsWalk base marks known sequence (path ++ frame ∷ []) → slice ≡ marks → reads ≡ frame.reads.items
+    → lent ≡ known → length now ≡ length lent → n ≡ length known → KnowsSettled slice now → StopsAt slice reads frame.next place c
+    → after ≡ path ++ record frame { next = place } ∷ [] →
     IsWalk base marks (take n (now ++ drop (length now) known)) sequence after × LastReads base (cells_of after) c
 turn-stopped base marks slice known lent now n sequence path after frame reads place c valid w same_marks same_reads same_known long all knows stops pushed =
     let size : length now ≡ length known = long ∙ ap length same_known in
     let is = written known now n size all in
     let settled : KnowsSettled marks now = subst (λ (ms : List Mark). KnowsSettled ms now) same_marks knows in
-    let here : StopsAt marks frame.reads.items frame.next place c = subst (λ (rs : List Run). StopsAt marks rs frame.next place c) same_reads (subst (λ (ms : List Mark). StopsAt ms reads frame.next place c) same_marks stops) in
+    let here : StopsAt marks frame.reads.items frame.next place c = subst (λ (rs : List Run). StopsAt marks rs frame.next place c) same_reads
+    (subst (λ (ms : List Mark). StopsAt ms reads frame.next place c) same_marks stops) in
     let walk = walk-stopped base marks known now sequence path frame place c valid w settled (size ∙ w.known_size) here in
     subst (λ (fs : List Frame). IsWalk base marks (take n (now ++ drop (length now) known)) sequence fs × LastReads base (cells_of fs) c) (sym pushed)
     (subst (λ (ks : List ℕ). IsWalk base marks ks sequence (path ++ record frame { next = place } ∷ [])) (sym is) walk.0, walk.1)
 
 -- a cell that was begun is on the path, and there it closes a cycle
-pub on-path : (base : Base) (marks : List Mark) (known sequence : List ℕ) (path slice : List Frame) (c : ℕ) (m : Mark) → IsWalk base marks known sequence path → (IsSettled marks c → ⊥) → m ≡ get_or marks c m → m ≡ Open → slice ≡ path → is_among c (cells_of slice) ≡ true
+pub on-path : (base : Base) (marks : List Mark) (known sequence : List ℕ) (path slice : List Frame) (c : ℕ) (m : Mark) → IsWalk base marks known sequence path
+    → (IsSettled marks c → ⊥) → m ≡ get_or marks c m → m ≡ Open → slice ≡ path → is_among c (cells_of slice) ≡ true
 on-path base marks known sequence path slice c m w unsettled is begun same_path =
     let mark : mark_of marks c ≡ Open = mark-is marks c m (mark-low marks c unsettled) is ∙ begun in
     ap (λ (fs : List Frame). is_among c (cells_of fs)) same_path ∙ ap (is_among c) (cells_of-at base marks path w.frames) ∙ w.search.begun c mark
 
-pub closed-cycle : (base : Base) (marks : List Mark) (known sequence : List ℕ) (path slice : List Frame) (c : ℕ) (P : Type 0) → IsWalk base marks known sequence path → LastReads base (cells_of path) c → slice ≡ path → (AreDistinctCells (cells_of slice) → ReadsNext base (cells_of slice) → LastReads base (cells_of slice) c → P) → P
+pub closed-cycle : (base : Base) (marks : List Mark) (known sequence : List ℕ) (path slice : List Frame) (c : ℕ) (P : Type 0)
+    → IsWalk base marks known sequence path → LastReads base (cells_of path) c → slice ≡ path
+    → (AreDistinctCells (cells_of slice) → ReadsNext base (cells_of slice) → LastReads base (cells_of slice) c → P) → P
 closed-cycle base marks known sequence path slice c P w last same_path shows =
     let is = cells_of-at base marks path w.frames in
     let cells : cells_of slice ≡ cells_of path = ap cells_of same_path in
@@ -236,7 +274,8 @@ closed-cycle base marks known sequence path slice c P w last same_path shows =
     (subst (λ (cs : List ℕ). LastReads base cs c) (sym cells) last)
 
 -- before a definition is begun at an empty path, its cell waits for it or is settled
-pub waits : (base : Base) (marks : List Mark) (known sequence : List ℕ) (p : ℕ) → IsValidBase base → p < length base.definitions → IsWalk base marks known sequence [] → (IsSettled marks (target_at base p) → ⊥) → mark_of marks (target_at base p) ≡ Waiting p
+pub waits : (base : Base) (marks : List Mark) (known sequence : List ℕ) (p : ℕ) → IsValidBase base → p < length base.definitions
+    → IsWalk base marks known sequence [] → (IsSettled marks (target_at base p) → ⊥) → mark_of marks (target_at base p) ≡ Waiting p
 waits base marks known sequence p valid low w unsettled = by (mark_of marks (target_at base p)) refl
   where
     by : (m : Mark) → mark_of marks (target_at base p) ≡ m → mark_of marks (target_at base p) ≡ Waiting p

@@ -31,15 +31,19 @@ pub asking : (words : List (List ℕ)) (disk : Disk) (before : FilesView) (comma
 asking words disk before command t c a = t (ap (λ (o : Option Command). option_map_or (λ (x : Command). requests_file (plan_of x)) o false) c ∙ a)
 
 -- a plan that was refused has an output
-refused_output : (words : List (List ℕ)) (disk : Disk) (before after : FilesView) (command : Command) (refusal : Refusal) → KnowsDisk words before disk → command_of words ≡ Some command
+refused_output : (words : List (List ℕ)) (disk : Disk) (before after : FilesView) (command : Command) (refusal : Refusal) → KnowsDisk words before disk
+    → command_of words ≡ Some command
     → GoesAlong (plan_of command) before after (Err (ending.Refused refusal)) → Output words disk (refusal_line refusal) Refused
 refused_output words disk before after command refusal t c g =
-    refuses command c (walks_to_end before.known_files disk (plan_of command) g.made g.spent (Err (ending.Refused refusal)) g.walk (asking words disk before command t c))
+    refuses command c (walks_to_end before.known_files disk (plan_of command) g.made g.spent (Err (ending.Refused refusal)) g.walk
+    (asking words disk before command t c))
 
 -- what a plan has gathered
-pub gathers : (words : List (List ℕ)) (disk : Disk) (before after : FilesView) (command : Command) (work : Work) → KnowsDisk words before disk → command_of words ≡ Some command
+pub gathers : (words : List (List ℕ)) (disk : Disk) (before after : FilesView) (command : Command) (work : Work) → KnowsDisk words before disk
+    → command_of words ≡ Some command
     → GoesAlong (plan_of command) before after (Ok work) → end_of disk (plan_of command) ≡ gathered work
-gathers words disk before after command work t c g = walks_to_end before.known_files disk (plan_of command) g.made g.spent (Ok work) g.walk (asking words disk before command t c)
+gathers words disk before after command work t c g = walks_to_end before.known_files disk (plan_of command) g.made g.spent (Ok work) g.walk
+    (asking words disk before command t c)
 
 -- an output that was printed
 shown : (words : List (List ℕ)) (disk : Disk) (text : List ℕ) (own : Status) (old new : OutputView) (status : Status)
@@ -62,12 +66,14 @@ text_way words disk old new status command work c g f (observe text own r o p) =
 text_way words disk old new status command work c g f (lacks_memory n m) = absurd (subst IsFaultless m f)
 text_way words disk old new status command work c g f (breaks_off text own r b a n m) = absurd (subst IsFaultless m f)
 
-pub text_of : (words : List (List ℕ)) (before after : FilesView) (old new : OutputView) (status : Status) → Course words before after old new status → PrintsOutput words before old new status
+pub text_of : (words : List (List ℕ)) (before after : FilesView) (old new : OutputView) (status : Status) → Course words before after old new status
+    → PrintsOutput words before old new status
 text_of words before after old new status (is_no_command n s p) disk t f = shown words disk usage_line Usage old new status p f (usage n)
 text_of words before after old new status (has_no_memory s o e) disk t f = absurd (subst IsFaultless e f)
 text_of words before after old new status (ended command (ending.Refused refusal) c g p) disk t f =
     shown words disk (refusal_line refusal) Refused old new status p f (refused_output words disk before after command refusal t c g)
-text_of words before after old new status (ended command (ending.Unreadable name) c g p) disk t f = absurd (read_failed (unreadable_line name) old new status p f)
+text_of words before after old new status (ended command (ending.Unreadable name) c g p) disk t f = absurd
+    (read_failed (unreadable_line name) old new status p f)
 text_of words before after old new status (ended command ending.Memory c g p) disk t f = absurd (subst IsFaultless p.1 f)
 text_of words before after old new status (answered command work c g k a) disk t f =
     text_way words disk old new status command work c (gathers words disk before after command work t c g) f (way_of work old new status a)
@@ -89,11 +95,14 @@ writing_way words disk before after old new status command work c g e (observe t
 writing_way words disk before after old new status command work c g e (lacks_memory n m) = cc (m, e)
 writing_way words disk before after old new status command work c g e (breaks_off text own r b a n m) = cc (m, e)
 
-pub writing_of : (words : List (List ℕ)) (before after : FilesView) (old new : OutputView) (status : Status) → Course words before after old new status → WritesFront words before after old new status
-writing_of words before after old new status (is_no_command n s p) disk t e = front words disk usage_line Usage before after old new status p (λ x. cc) e (output (usage n))
+pub writing_of : (words : List (List ℕ)) (before after : FilesView) (old new : OutputView) (status : Status) → Course words before after old new status
+    → WritesFront words before after old new status
+writing_of words before after old new status (is_no_command n s p) disk t e = front words disk usage_line Usage before after old new status p (λ x. cc) e
+    (output (usage n))
 writing_of words before after old new status (has_no_memory s o m) disk t e = cc (m, e)
 writing_of words before after old new status (ended command (ending.Refused refusal) c g p) disk t e =
-    front words disk (refusal_line refusal) Refused before after old new status p (λ x. cc) e (output (refused_output words disk before after command refusal t c g))
+    front words disk (refusal_line refusal) Refused before after old new status p (λ x. cc) e
+    (output (refused_output words disk before after command refusal t c g))
 writing_of words before after old new status (ended command (ending.Unreadable name) c g p) disk t e =
     front words disk (unreadable_line name) ReadFault before after old new status p (λ x. cc) e
     (unreadable g.attempts (walks_fit before.known_files (plan_of command) g.made g.spent (Err (ending.Unreadable name)) g.walk) refl)
@@ -104,22 +113,27 @@ writing_of words before after old new status (answered command work c g k a) dis
 -- ---- where there was no memory
 
 -- a text that was printed doesn't end so
-pub no_memory_reported : (text : List ℕ) (own : Status) (old new : OutputView) (status : Status) → Prints text own old new status → (own ≡ Memory → ⊥) → status ≡ Memory → ⊥
+pub no_memory_reported : (text : List ℕ) (own : Status) (old new : OutputView) (status : Status) → Prints text own old new status → (own ≡ Memory → ⊥)
+    → status ≡ Memory → ⊥
 no_memory_reported text own old new status (inl p) unlike m = unlike (sym p.1 ∙ m)
 no_memory_reported text own old new status (inr p) unlike m = cc (p.1, m)
 
 stopping_way : (words : List (List ℕ)) (disk : Disk) (old new : OutputView) (status : Status) (command : Command) (work : Work)
     → command_of words ≡ Some command → end_of disk (plan_of command) ≡ gathered work → status ≡ Memory → Way work old new status
     → (new.written ≡ old.written) ⊎ ((text : List ℕ) × (own : Status) × Output words disk text own × AppendsPrefix old.written new.written text)
-stopping_way words disk old new status command work c g m (observe text own r o p) = absurd (no_memory_reported text own old new status p (λ x. subst IsOfEnd x o) m)
+stopping_way words disk old new status command work c g m (observe text own r o p) = absurd
+    (no_memory_reported text own old new status p (λ x. subst IsOfEnd x o) m)
 stopping_way words disk old new status command work c g m (lacks_memory n e) = inl (ap (λ (o : OutputView). o.written) n)
 stopping_way words disk old new status command work c g m (breaks_off text own r b a n e) = inr (text, own, answers command work c g r, a)
 
-pub stopping_of : (words : List (List ℕ)) (before after : FilesView) (old new : OutputView) (status : Status) → Course words before after old new status → StopsInFront words before old new status
+pub stopping_of : (words : List (List ℕ)) (before after : FilesView) (old new : OutputView) (status : Status) → Course words before after old new status
+    → StopsInFront words before old new status
 stopping_of words before after old new status (is_no_command n s p) disk t m = absurd (no_memory_reported usage_line Usage old new status p (λ x. cc) m)
 stopping_of words before after old new status (has_no_memory s o e) disk t m = inl (ap (λ (x : OutputView). x.written) o)
-stopping_of words before after old new status (ended command (ending.Refused refusal) c g p) disk t m = absurd (no_memory_reported (refusal_line refusal) Refused old new status p (λ x. cc) m)
-stopping_of words before after old new status (ended command (ending.Unreadable name) c g p) disk t m = absurd (no_memory_reported (unreadable_line name) ReadFault old new status p (λ x. cc) m)
+stopping_of words before after old new status (ended command (ending.Refused refusal) c g p) disk t m = absurd
+    (no_memory_reported (refusal_line refusal) Refused old new status p (λ x. cc) m)
+stopping_of words before after old new status (ended command (ending.Unreadable name) c g p) disk t m = absurd
+    (no_memory_reported (unreadable_line name) ReadFault old new status p (λ x. cc) m)
 stopping_of words before after old new status (ended command ending.Memory c g p) disk t m = inl (ap (λ (x : OutputView). x.written) p.0)
 stopping_of words before after old new status (answered command work c g k a) disk t m =
     stopping_way words disk old new status command work c (gathers words disk before after command work t c g) m (way_of work old new status a)

@@ -40,7 +40,8 @@ same_inputs source one other is was =
     is.inputs ∙ ap inputs_declared same ∙ sym was.inputs
 
 -- and they are those of its scheme
-pub scheme_inputs : (source : Source) (scheme : Scheme) (compiled : Compiled) → IsScheme source scheme → IsCompiled source compiled → compiled.face.inputs ≡ scheme.inputs
+pub scheme_inputs : (source : Source) (scheme : Scheme) (compiled : Compiled) → IsScheme source scheme → IsCompiled source compiled
+    → compiled.face.inputs ≡ scheme.inputs
 scheme_inputs source scheme compiled v is =
     let same = (one_validity source is.declared v.declared is.base v.base is.written v.written is.requests v.requests is.valid v.valid).0 in
     is.inputs ∙ ap inputs_declared same ∙ sym (ap (λ (s : Scheme). s.inputs) v.stated)
@@ -55,44 +56,55 @@ labels_first source declared base compiled rules is =
 -- ---- from what was told to what is answered
 
 pub facts_refused : (source : Source) (ranges : Option (List ℕ)) (fault : SourceFault) (old new : OutputView) (status : Status)
-    → ReportsRefusal (λ line. IsSourceFault source fault × (source_line source.texts fault ≡ Some line)) old new status → IsAnswered (FactsReplies source ranges) old new status
+    → ReportsRefusal (λ line. IsSourceFault source fault × (source_line source.texts fault ≡ Some line)) old new status
+    → IsAnswered (FactsReplies source ranges) old new status
 facts_refused source ranges fault old new status (inl (line, is, shown)) = printed line Refused (source_is_refused fault is.0 is.1) tt shown
 facts_refused source ranges fault old new status (inr (same, memory)) = no_memory same memory
 
-ranges_reported : (fault : HouseholdFault) {IsFault : Type 0} (old new : OutputView) (status : Status) → (fault ≢ household.Memory → IsFault) → ReportsLine (ranges_fault_line fault) old new status
+ranges_reported : (fault : HouseholdFault) {IsFault : Type 0} (old new : OutputView) (status : Status) → (fault ≢ household.Memory → IsFault)
+    → ReportsLine (ranges_fault_line fault) old new status
     → ReportsRefusal (λ line. IsFault × (ranges_fault_line fault ≡ Some line)) old new status
-ranges_reported fault old new status h reported = reported_either (ranges_fault_line fault) (ranges_fault_line fault) old new status refl h (λ m. ap ranges_fault_line m) reported
+ranges_reported fault old new status h reported = reported_either (ranges_fault_line fault) (ranges_fault_line fault) old new status refl h
+    (λ m. ap ranges_fault_line m) reported
 
 refused_by : (base : Base) (compiled : Compiled) (ranges : Option (List ℕ)) (fault : HouseholdFault) (old new : OutputView) (status : Status)
-    → ReportsRefusal (λ line. (given_by compiled.face.inputs ranges ≡ Err fault) × (ranges_fault_line fault ≡ Some line)) old new status → IsAnswered (IsFactsOf base compiled ranges) old new status
+    → ReportsRefusal (λ line. (given_by compiled.face.inputs ranges ≡ Err fault) × (ranges_fault_line fault ≡ Some line)) old new status
+    → IsAnswered (IsFactsOf base compiled ranges) old new status
 refused_by base compiled ranges fault old new status (inl (line, is, shown)) = printed line Refused (are_refused fault is.0 is.1) tt shown
 refused_by base compiled ranges fault old new status (inr (same, memory)) = no_memory same memory
 
 pub ranges_refused : (base : Base) (compiled : Compiled) (ranges : Option (List ℕ)) (fault : HouseholdFault) (old new : OutputView) (status : Status)
-    → (fault ≢ household.Memory → given_by compiled.face.inputs ranges ≡ Err fault) → ReportsLine (ranges_fault_line fault) old new status → IsAnswered (IsFactsOf base compiled ranges) old new status
-ranges_refused base compiled ranges fault old new status h reported = refused_by base compiled ranges fault old new status (ranges_reported fault old new status h reported)
+    → (fault ≢ household.Memory → given_by compiled.face.inputs ranges ≡ Err fault) → ReportsLine (ranges_fault_line fault) old new status
+    → IsAnswered (IsFactsOf base compiled ranges) old new status
+ranges_refused base compiled ranges fault old new status h reported = refused_by base compiled ranges fault old new status
+    (ranges_reported fault old new status h reported)
 
-pub found_answered : (base : Base) (compiled : Compiled) (ranges : Option (List ℕ)) (given : List Possible) (old new : OutputView) (status : Status) → given_by compiled.face.inputs ranges ≡ Ok given
+pub found_answered : (base : Base) (compiled : Compiled) (ranges : Option (List ℕ)) (given : List Possible) (old new : OutputView) (status : Status)
+    → given_by compiled.face.inputs ranges ≡ Ok given
     → IsAnswered (IsFactsBy base compiled given) old new status → IsAnswered (IsFactsOf base compiled ranges) old new status
 found_answered base compiled ranges given old new status h a =
     answered_as (IsFactsBy base compiled given) (IsFactsOf base compiled ranges) old new status (λ text own found. are_found given h found) a
 
-facts_as : (source : Source) (declared : Declared) (base : Base) (compiled : Compiled) (ranges : Option (List ℕ)) → HasRules source declared base → IsCompiled source compiled → (text : List ℕ) (own : Status)
+facts_as : (source : Source) (declared : Declared) (base : Base) (compiled : Compiled) (ranges : Option (List ℕ)) → HasRules source declared base
+    → IsCompiled source compiled → (text : List ℕ) (own : Status)
     → IsFactsOf base compiled ranges text own → FactsReplies source ranges text own
 facts_as source declared base compiled ranges rules is text own (are_refused fault h k) = ranges_are_refused compiled fault is h k
 facts_as source declared base compiled ranges rules is text own (are_found given h are_facts) = facts_are_found declared base compiled given rules is h
 
-pub facts_answered : (source : Source) (declared : Declared) (base : Base) (compiled : Compiled) (ranges : Option (List ℕ)) (old new : OutputView) (status : Status) → HasRules source declared base
+pub facts_answered : (source : Source) (declared : Declared) (base : Base) (compiled : Compiled) (ranges : Option (List ℕ)) (old new : OutputView)
+    (status : Status) → HasRules source declared base
     → IsCompiled source compiled → IsAnswered (IsFactsOf base compiled ranges) old new status → IsAnswered (FactsReplies source ranges) old new status
 facts_answered source declared base compiled ranges old new status rules is a =
     answered_as (IsFactsOf base compiled ranges) (FactsReplies source ranges) old new status (facts_as source declared base compiled ranges rules is) a
 
 -- ---- what has an answer isn't refused
 
-pub facts_complete : (source : Source) (ranges : Option (List ℕ)) (text : List ℕ) (status : Status) → FactsHaveAnswer source ranges → FactsReplies source ranges text status → IsComplete status
+pub facts_complete : (source : Source) (ranges : Option (List ℕ)) (text : List ℕ) (status : Status) → FactsHaveAnswer source ranges
+    → FactsReplies source ranges text status → IsComplete status
 facts_complete source ranges text status h (source_is_refused fault f k) = absurd (no_scheme_and_fault source h.scheme fault h.valid f)
 facts_complete source ranges text status h (ranges_are_refused compiled fault is f k) =
-    let e : given_by h.scheme.inputs ranges ≡ Err fault = subst (λ inputs. given_by inputs ranges ≡ Err fault) (scheme_inputs source h.scheme compiled h.valid is) f in
+    let e : given_by h.scheme.inputs ranges ≡ Err fault = subst (λ inputs. given_by inputs ranges ≡ Err fault)
+    (scheme_inputs source h.scheme compiled h.valid is) f in
     let g = h.given in
     cc (e, g)
 facts_complete source ranges text status h (facts_are_found declared base compiled given rules is g) = tt

@@ -32,7 +32,8 @@ use Rattle.survey_commands.specs.FactsTruths.{AreTrueFacts}
 use Rattle.survey_commands.proofs.FactsLemmas.{scheme_inputs}
 
 -- what the program tells is what the scheme tells
-reported_same : (source : Source) (scheme : Scheme) (compiled : Compiled) → IsScheme source scheme → IsCompiled source compiled → (vs : List Value) → AreValuesOf compiled.face.inputs vs
+reported_same : (source : Source) (scheme : Scheme) (compiled : Compiled) → IsScheme source scheme → IsCompiled source compiled → (vs : List Value)
+    → AreValuesOf compiled.face.inputs vs
     → observation compiled.face.labels (notes_of compiled.face.outputs) (flat_run compiled.tidy vs) ≡ Some (scheme.observe vs)
 reported_same source scheme compiled v is vs given =
     let same = one_validity source is.declared v.declared is.base v.base is.written v.written is.requests v.requests is.valid v.valid in
@@ -40,7 +41,8 @@ reported_same source scheme compiled v is vs given =
     ∙ (λ i. Some (answer_to (same.0 i) (same.1 i) (same.2 i) (same.3 i) vs))
     ∙ sym (ap (λ (s : Scheme). Some (s.observe vs)) v.stated)
 
-names_same : (source : Source) (scheme : Scheme) (compiled : Compiled) → IsScheme source scheme → (is : IsCompiled source compiled) → map (cell_name is.declared) is.requests ≡ scheme.names
+names_same : (source : Source) (scheme : Scheme) (compiled : Compiled) → IsScheme source scheme → (is : IsCompiled source compiled)
+    → map (cell_name is.declared) is.requests ≡ scheme.names
 names_same source scheme compiled v is =
     let same = one_validity source is.declared v.declared is.base v.base is.written v.written is.requests v.requests is.valid v.valid in
     (λ i. map (cell_name (same.0 i)) (same.3 i)) ∙ sym (ap (λ (s : Scheme). s.names) v.stated)
@@ -48,12 +50,14 @@ names_same source scheme compiled v is =
 -- of each of these outputs the inputs on which it may depend
 reads_true : (flat : Flat) (face : Face) (given : List Possible) (observe : List Value → Observation) → IsFlat flat → IsFaceOf face flat
     → ((vs : List Value) → AreValuesOf face.inputs vs → observation face.labels (notes_of face.outputs) (flat_run flat vs) ≡ Some (observe vs)) → (ks : List ℕ)
-    → AllZip (λ k ns. (place : ℕ) → k ≡ length (notes_of face.outputs) + place → DependsOn face.inputs given observe place ns) ks (map (depends_on (known_of flat given) flat.nodes flat.inputs) (map (node_of flat.outputs) ks))
+    → AllZip (λ k ns. (place : ℕ) → k ≡ length (notes_of face.outputs) + place → DependsOn face.inputs given observe place ns) ks
+    (map (depends_on (known_of flat given) flat.nodes flat.inputs) (map (node_of flat.outputs) ks))
 reads_true flat face given observe valid shown all [] = tt
 reads_true flat face given observe valid shown all (k ∷ ks) =
     ((λ place e. depends-true flat face given observe place k valid shown all e), reads_true flat face given observe valid shown all ks)
 
-pub facts_true : (source : Source) (ranges : Option (List ℕ)) (scheme : Scheme) (text : List ℕ) (status : Status) → IsScheme source scheme → FactsReplies source ranges text status → status ≡ Done
+pub facts_true : (source : Source) (ranges : Option (List ℕ)) (scheme : Scheme) (text : List ℕ) (status : Status) → IsScheme source scheme
+    → FactsReplies source ranges text status → status ≡ Done
     → AreTrueFacts source ranges scheme text
 facts_true source ranges scheme text status v (source_is_refused fault f k) e = cc e
 facts_true source ranges scheme text status v (ranges_are_refused compiled fault is f k) e = cc e
@@ -78,6 +82,7 @@ facts_true source ranges scheme text status v (facts_are_found declared base com
           (possible-true base flat face given scheme.observe is.runnable.valid is.runnable.shown all);
       silent = subst (λ (ins : List Coded). AllByRecursion (IsSilent base ins given scheme.observe) found.silent) inputs
           (silent-true base flat face given scheme.observe is.runnable.valid is.runnable.shown all);
-      reads = subst (λ (ins : List Coded). AllZip (λ k ns. (place : ℕ) → k ≡ length (notes_of face.outputs) + place → DependsOn ins given scheme.observe place ns) found.firsts found.reads) inputs
+      reads = subst (λ (ins : List Coded). AllZip (λ k ns. (place : ℕ) → k ≡ length (notes_of face.outputs) + place
+          → DependsOn ins given scheme.observe place ns) found.firsts found.reads) inputs
           (reads_true flat face given scheme.observe is.runnable.valid is.runnable.shown all found.firsts);
     }

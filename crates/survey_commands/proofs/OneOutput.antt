@@ -42,7 +42,8 @@ use Rattle.survey_commands.specs.Command.{plan_of}
 use Rattle.survey_commands.specs.Csv.{field_text}
 use Rattle.survey_commands.specs.Output.{Output, usage, refuses, answers, AreOneOutput, both_cycles, both_found, both_recursions, the_same}
 use Rattle.survey_commands.specs.Records.{header, rows_records, table_text, observation_fields}
-use Rattle.survey_commands.specs.Tables.{CodeReplies, SchemeReplies, SourceReplies, code_answers, code_is_refused, rows_are_answered, source_answers, source_is_refused, table_is_refused}
+use Rattle.survey_commands.specs.Tables.{CodeReplies, SchemeReplies, SourceReplies, code_answers, code_is_refused, rows_are_answered, source_answers}
+use Rattle.survey_commands.specs.Tables.{source_is_refused, table_is_refused}
 use Rattle.survey_commands.specs.declared.command.Command.{Command}
 use Rattle.survey_commands.specs.declared.work.Work.{Work}
 use Rattle.survey_commands.specs.declared.work.Work.TheVariants.{Table, Facts, CodeTable, Version}
@@ -50,7 +51,8 @@ use Rattle.survey_commands.proofs.Schemes.{no_form_and_fault, no_scheme_and_faul
 
 -- ---- two errors
 
-one_line : (texts : List Text) (fault other : SourceFault) (t u : List ℕ) → AreOneSourceFault fault other → source_line texts fault ≡ Some t → source_line texts other ≡ Some u → AreOneOutput t Refused u Refused
+one_line : (texts : List Text) (fault other : SourceFault) (t u : List ℕ) → AreOneSourceFault fault other → source_line texts fault ≡ Some t
+    → source_line texts other ≡ Some u → AreOneOutput t Refused u Refused
 one_line texts fault other t u (laws.the_same e) a b =
     let c : source_line texts other ≡ Some t = subst (λ (f : SourceFault). source_line texts f ≡ Some t) e a in
     the_same (cc (c, b)) refl
@@ -61,7 +63,8 @@ one_line texts fault other t u (laws.both_cycles {names = ns} {others = os}) a b
 one_line texts fault other t u (laws.both_rings {names = ns} {others = os}) a b =
     let c : recursion_line ns ≡ t = cc a in
     let d : recursion_line os ≡ u = cc b in
-    subst (λ (x : List ℕ). AreOneOutput x Refused u Refused) c (subst (λ (x : List ℕ). AreOneOutput (recursion_line ns) Refused x Refused) d (both_recursions ns os))
+    subst (λ (x : List ℕ). AreOneOutput x Refused u Refused) c (subst (λ (x : List ℕ). AreOneOutput (recursion_line ns) Refused x Refused) d
+    (both_recursions ns os))
 
 same_line : (fault other : HouseholdFault) (t u : List ℕ) → fault ≡ other → household_fault_line fault ≡ Some t → household_fault_line other ≡ Some u → t ≡ u
 same_line fault other t u e a b =
@@ -81,7 +84,8 @@ AreGiven scheme rows = AllByRecursion (λ row. AreValuesOf scheme.inputs (values
 
 -- two schemes of one program tell a row the same
 row_same : (face : Face) (runs : List Value → Answer) (one other : Scheme) (row : Row) → Shows one face runs → Shows other face runs
-    → AreValuesOf one.inputs (values_of row.household.pairs (length one.inputs)) → AreValuesOf other.inputs (values_of row.household.pairs (length other.inputs))
+    → AreValuesOf one.inputs (values_of row.household.pairs (length one.inputs))
+    → AreValuesOf other.inputs (values_of row.household.pairs (length other.inputs))
     → observation_for one row.household.pairs ≡ observation_for other row.household.pairs
 row_same face runs one other row a b g h =
     let n : length one.inputs ≡ length other.inputs = ap length (one_inputs face runs one other a b) in
@@ -89,7 +93,8 @@ row_same face runs one other row a b g h =
     let y = b.answers (values_of row.household.pairs (length other.inputs)) h in
     cc (n, x, y)
 
-rows_same : (face : Face) (runs : List Value → Answer) (one other : Scheme) (rows : List Row) → Shows one face runs → Shows other face runs → AreGiven one rows → AreGiven other rows
+rows_same : (face : Face) (runs : List Value → Answer) (one other : Scheme) (rows : List Row) → Shows one face runs → Shows other face runs → AreGiven one rows
+    → AreGiven other rows
     → rows_records one rows ≡ rows_records other rows
 rows_same face runs one other [] a b g h = refl
 rows_same face runs one other (row ∷ rows) a b g h =
@@ -98,7 +103,8 @@ rows_same face runs one other (row ∷ rows) a b g h =
     let rest = rows_same face runs one other rows a b g.1 h.1 in
     λ i. (field_text row.label ++ observation_fields (names i) (reported i)) ++ rest i
 
-text_same : (face : Face) (runs : List Value → Answer) (one other : Scheme) (rows : List Row) → Shows one face runs → Shows other face runs → AreGiven one rows → AreGiven other rows
+text_same : (face : Face) (runs : List Value → Answer) (one other : Scheme) (rows : List Row) → Shows one face runs → Shows other face runs → AreGiven one rows
+    → AreGiven other rows
     → table_text one rows ≡ table_text other rows
 text_same face runs one other rows a b g h =
     let names : one.names ≡ other.names = sym a.names ∙ b.names in
@@ -121,7 +127,8 @@ one_answer face runs one other table t u s r a b (rows_are_answered rows g) (tab
 one_answer face runs one other table t u s r a b (rows_are_answered rows g) (rows_are_answered others h) =
     let f : table_of other.inputs table ≡ Ok rows = subst (λ inputs. table_of inputs table ≡ Ok rows) (one_inputs face runs one other a b) g in
     let p : rows ≡ others = cc (f, h) in
-    the_same (text_same face runs one other rows a b (table_gives one.inputs table rows g) (table_gives other.inputs table rows f) ∙ ap (table_text other) p) refl
+    the_same (text_same face runs one other rows a b (table_gives one.inputs table rows g) (table_gives other.inputs table rows f) ∙ ap (table_text other) p)
+    refl
 
 -- a scheme answers a table in one way
 one_reply_of : (scheme : Scheme) (table t u : List ℕ) (s r : Status) → SchemeReplies scheme table t s → SchemeReplies scheme table u r → AreOneOutput t s u r
@@ -133,14 +140,16 @@ one_reply_of scheme table t u s r (rows_are_answered rows g) (rows_are_answered 
     the_same (ap (table_text scheme) e) refl
 
 one_source : (source : Source) (table t u : List ℕ) (s r : Status) → SourceReplies source table t s → SourceReplies source table u r → AreOneOutput t s u r
-one_source source table t u s r (source_is_refused fault f k) (source_is_refused other g l) = one_line source.texts fault other t u (one_fault source fault other f g) k l
+one_source source table t u s r (source_is_refused fault f k) (source_is_refused other g l) = one_line source.texts fault other t u
+    (one_fault source fault other f g) k l
 one_source source table t u s r (source_is_refused fault f k) (source_answers scheme v b) = absurd (no_scheme_and_fault source scheme fault v f)
 one_source source table t u s r (source_answers scheme v a) (source_is_refused fault f k) = absurd (no_scheme_and_fault source scheme fault v f)
 one_source source table t u s r (source_answers one v a) (source_answers other w b) =
     one_reply_of other table t u s r (subst (λ (x : Scheme). SchemeReplies x table t s) (one_scheme source one other v w) a) b
 
 one_code : (code table t u : List ℕ) (s r : Status) → CodeReplies code table t s → CodeReplies code table u r → AreOneOutput t s u r
-one_code code table t u s r (code_is_refused fault f k) (code_is_refused other g l) = the_same (one_code_line fault other t u (one-fault code fault other f g) k l) refl
+one_code code table t u s r (code_is_refused fault f k) (code_is_refused other g l) = the_same
+    (one_code_line fault other t u (one-fault code fault other f g) k l) refl
 one_code code table t u s r (code_is_refused fault f k) (code_answers loaded scheme form shown h) = absurd (no_form_and_fault code loaded fault form f)
 one_code code table t u s r (code_answers loaded scheme form shown h) (code_is_refused fault f k) = absurd (no_form_and_fault code loaded fault form f)
 one_code code table t u s r (code_answers one scheme form shown h) (code_answers other also part seen i) =
@@ -156,22 +165,29 @@ same_ranges_line fault other t u e a b =
     cc (c, b)
 
 -- the ranges say the same by what a source is compiled to once and again
-given_again : (source : Source) (ranges : Option (List ℕ)) (one other : Compiled) (stated : Result (List Possible) HouseholdFault) → IsCompiled source one → IsCompiled source other
+given_again : (source : Source) (ranges : Option (List ℕ)) (one other : Compiled) (stated : Result (List Possible) HouseholdFault) → IsCompiled source one
+    → IsCompiled source other
     → given_by one.face.inputs ranges ≡ stated → given_by other.face.inputs ranges ≡ stated
 given_again source ranges one other stated is was h = subst (λ inputs. given_by inputs ranges ≡ stated) (same_inputs source one other is was) h
 
-one_facts : (source : Source) (ranges : Option (List ℕ)) (t u : List ℕ) (s r : Status) → FactsReplies source ranges t s → FactsReplies source ranges u r → AreOneOutput t s u r
-one_facts source ranges t u s r (facts.source_is_refused fault f k) (facts.source_is_refused other g l) = one_line source.texts fault other t u (one_fault source fault other f g) k l
-one_facts source ranges t u s r (facts.source_is_refused fault f k) (ranges_are_refused compiled other is g l) = absurd (no_compiled_and_fault source compiled fault is f)
-one_facts source ranges t u s r (facts.source_is_refused fault f k) (facts_are_found declared base compiled given rules is g) = absurd (no_compiled_and_fault source compiled fault is f)
-one_facts source ranges t u s r (ranges_are_refused compiled other is g l) (facts.source_is_refused fault f k) = absurd (no_compiled_and_fault source compiled fault is f)
+one_facts : (source : Source) (ranges : Option (List ℕ)) (t u : List ℕ) (s r : Status) → FactsReplies source ranges t s → FactsReplies source ranges u r
+    → AreOneOutput t s u r
+one_facts source ranges t u s r (facts.source_is_refused fault f k) (facts.source_is_refused other g l) = one_line source.texts fault other t u
+    (one_fault source fault other f g) k l
+one_facts source ranges t u s r (facts.source_is_refused fault f k) (ranges_are_refused compiled other is g l) = absurd
+    (no_compiled_and_fault source compiled fault is f)
+one_facts source ranges t u s r (facts.source_is_refused fault f k) (facts_are_found declared base compiled given rules is g) = absurd
+    (no_compiled_and_fault source compiled fault is f)
+one_facts source ranges t u s r (ranges_are_refused compiled other is g l) (facts.source_is_refused fault f k) = absurd
+    (no_compiled_and_fault source compiled fault is f)
 one_facts source ranges t u s r (ranges_are_refused one fault is f k) (ranges_are_refused two other was g l) =
     let e : fault ≡ other = cc (given_again source ranges one two (Err fault) is was f, g) in
     the_same (same_ranges_line fault other t u e k l) refl
 one_facts source ranges t u s r (ranges_are_refused one fault is f k) (facts_are_found declared base two given rules was g) =
     let e = given_again source ranges one two (Err fault) is was f in
     cc (e, g)
-one_facts source ranges t u s r (facts_are_found declared base compiled given rules is g) (facts.source_is_refused fault f k) = absurd (no_compiled_and_fault source compiled fault is f)
+one_facts source ranges t u s r (facts_are_found declared base compiled given rules is g) (facts.source_is_refused fault f k) = absurd
+    (no_compiled_and_fault source compiled fault is f)
 one_facts source ranges t u s r (facts_are_found declared base one given rules is g) (ranges_are_refused two fault was f k) =
     let e = given_again source ranges one two (Ok given) is was g in
     cc (e, f)

@@ -36,9 +36,11 @@ no_values (output ∷ outputs) = refl
 pub values_end : (outputs : List FaceOutput) (vs : List Value) (k : ℕ) → length vs ≤ k → output_values (drop k outputs) (drop k vs) ≡ []
 values_end outputs vs k h = ap (λ left. output_values (drop k outputs) left) (drop_all k vs h) ∙ no_values (drop k outputs)
 
-pub notes_at : (some : Bool) (labels : List FaceLabel) (outputs : List FaceOutput) (vs : List Value) (k : ℕ) (output e : FaceOutput) (v d : Value) (reported : Option Label) → k < length outputs → k < length vs
+pub notes_at : (some : Bool) (labels : List FaceLabel) (outputs : List FaceOutput) (vs : List Value) (k : ℕ) (output e : FaceOutput) (v d : Value)
+    (reported : Option Label) → k < length outputs → k < length vs
     → output ≡ get_or outputs k e → v ≡ get_or vs k d → reported ≡ output_note labels output v
-    → output_notes some labels (drop k outputs) (drop k vs) ≡ note_text some reported ++ output_notes (some || is_some reported) labels (drop (k + 1) outputs) (drop (k + 1) vs)
+    → output_notes some labels (drop k outputs) (drop k vs) ≡ note_text some reported ++ output_notes (some || is_some reported) labels (drop (k + 1) outputs)
+    (drop (k + 1) vs)
 notes_at some labels outputs vs k output e v d reported outputs_in values_in is_output is_value is_note =
     let rest : Option Label → List ℕ = λ n. note_text some n ++ output_notes (some || is_some n) labels (drop (k + 1) outputs) (drop (k + 1) vs) in
     ap (λ left. output_notes some labels left (drop k vs)) (drop_more outputs k e outputs_in)
@@ -51,7 +53,8 @@ no_notes : (some : Bool) (labels : List FaceLabel) (outputs : List FaceOutput) �
 no_notes some labels [] = refl
 no_notes some labels (output ∷ outputs) = refl
 
-pub notes_end : (some : Bool) (labels : List FaceLabel) (outputs : List FaceOutput) (vs : List Value) (k : ℕ) → length vs ≤ k → output_notes some labels (drop k outputs) (drop k vs) ≡ []
+pub notes_end : (some : Bool) (labels : List FaceLabel) (outputs : List FaceOutput) (vs : List Value) (k : ℕ) → length vs ≤ k
+    → output_notes some labels (drop k outputs) (drop k vs) ≡ []
 notes_end some labels outputs vs k h = ap (λ left. output_notes some labels (drop k outputs) left) (drop_all k vs h) ∙ no_notes some labels (drop k outputs)
 
 -- ---- names and empty fields
@@ -92,14 +95,16 @@ values_are labels (Noted number ∷ outputs) [] h =
     sym (ap (value_fields (names_of outputs)) (drop-nil (length (number ∷ notes_of outputs))) ∙ nothing_named (names_of outputs))
 values_are labels (Noted number ∷ outputs) (v ∷ vs) h = values_are labels outputs vs (and_parts _ _ h).1
 
-named_notes : (some : Bool) (labels : List FaceLabel) (outputs : List FaceOutput) (vs : List Value) → are_named outputs ≡ true → output_notes some labels outputs vs ≡ []
+named_notes : (some : Bool) (labels : List FaceLabel) (outputs : List FaceOutput) (vs : List Value) → are_named outputs ≡ true
+    → output_notes some labels outputs vs ≡ []
 named_notes some labels [] vs h = refl
 named_notes some labels (Named name ∷ outputs) [] h = refl
 named_notes true labels (Named name ∷ outputs) (v ∷ vs) h = named_notes true labels outputs vs h
 named_notes false labels (Named name ∷ outputs) (v ∷ vs) h = named_notes false labels outputs vs h
 named_notes some labels (Noted number ∷ outputs) vs h = absurd (false≢true h)
 
-one_note : (some : Bool) (reported : Option Label) (labels : List Label) → more_notes some (cons_option reported labels) ≡ note_text some reported ++ more_notes (some || is_some reported) labels
+one_note : (some : Bool) (reported : Option Label) (labels : List Label) → more_notes some (cons_option reported labels) ≡ note_text some reported
+    ++ more_notes (some || is_some reported) labels
 one_note true None labels = refl
 one_note false None labels = refl
 one_note true (Some label) labels = refl
@@ -112,7 +117,8 @@ notes_are some labels (Named name ∷ outputs) vs h =
     named_notes some labels (Named name ∷ outputs) vs h ∙ ap (λ notes. more_notes some (reported_notes labels notes vs)) (sym (none_noted outputs h))
 notes_are some labels (Noted number ∷ outputs) [] h = refl
 notes_are some labels (Noted number ∷ outputs) (v ∷ vs) h =
-    ap (λ rest. note_text some (reported_note labels number v) ++ rest) (notes_are (some || is_some (reported_note labels number v)) labels outputs vs (and_parts _ _ h).1)
+    ap (λ rest. note_text some (reported_note labels number v) ++ rest) (notes_are (some || is_some (reported_note labels number v)) labels outputs vs
+    (and_parts _ _ h).1)
     ∙ sym (one_note some (reported_note labels number v) (reported_notes labels (notes_of outputs) vs))
 
 -- ---- stops

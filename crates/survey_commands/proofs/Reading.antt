@@ -42,14 +42,16 @@ none_last (m ∷ made) [] name h e =
 none_last (m ∷ made) (b ∷ before) name h e = none_last made before name h.1 (cc)
 
 -- the names that a command tried, in order
-in_order_of : (words : List (List ℕ)) (before after : FilesView) (command : Command) (result : Result Work Ending) (disk : Disk) → command_of words ≡ Some command
+in_order_of : (words : List (List ℕ)) (before after : FilesView) (command : Command) (result : Result Work Ending) (disk : Disk)
+    → command_of words ≡ Some command
     → (g : GoesAlong (plan_of command) before after result) → before.known_files ≡ Some disk → BeginsWith (fetches_of words disk) (names_tried g.made)
 in_order_of words before after command result disk c g t =
     let r = walks_in_order before.known_files disk (plan_of command) g.made g.spent result g.walk t in
     (r.0, ap (λ o. option_map_or (λ (x : Command). names_fetched disk (plan_of x)) o []) c ∙ r.1)
 
 -- no attempt failed
-reading_none : (words : List (List ℕ)) (before after : FilesView) (old new : OutputView) (status : Status) (made : List Attempt) → after.attempts ≡ before.attempts ++ made
+reading_none : (words : List (List ℕ)) (before after : FilesView) (old new : OutputView) (status : Status) (made : List Attempt)
+    → after.attempts ≡ before.attempts ++ made
     → ((disk : Disk) → before.known_files ≡ Some disk → BeginsWith (fetches_of words disk) (names_tried made)) → NoneFailed made → (status ≡ ReadFault → ⊥)
     → ReadsInOrder words before after old new status
 reading_none words before after old new status made a i n r = record {
@@ -62,18 +64,23 @@ reading_none words before after old new status made a i n r = record {
 }
 
 -- the status of a text that isn't a read fault's
-not_read : (text : List ℕ) (own : Status) (old new : OutputView) (status : Status) → (own ≡ ReadFault → ⊥) → Prints text own old new status → status ≡ ReadFault → ⊥
+not_read : (text : List ℕ) (own : Status) (old new : OutputView) (status : Status) → (own ≡ ReadFault → ⊥) → Prints text own old new status → status ≡ ReadFault
+    → ⊥
 not_read text own old new status unlike (inl p) e = unlike (sym p.1 ∙ e)
 not_read text own old new status unlike (inr p) e = cc (p.1, e)
 
 -- nothing was fetched
-still : (words : List (List ℕ)) (before after : FilesView) (old new : OutputView) (status : Status) → after ≡ before → (status ≡ ReadFault → ⊥) → ReadsInOrder words before after old new status
+still : (words : List (List ℕ)) (before after : FilesView) (old new : OutputView) (status : Status) → after ≡ before → (status ≡ ReadFault → ⊥)
+    → ReadsInOrder words before after old new status
 still words before after old new status s r =
-    reading_none words before after old new status [] (ap (λ (v : FilesView). v.attempts) s ∙ sym (append-nil before.attempts)) (λ disk t. (fetches_of words disk, refl)) tt r
+    reading_none words before after old new status [] (ap (λ (v : FilesView). v.attempts) s ∙ sym (append-nil before.attempts))
+    (λ disk t. (fetches_of words disk, refl)) tt r
 
 -- the last attempt failed, and was told
-last_reported : (words : List (List ℕ)) (before after : FilesView) (old new : OutputView) (status : Status) (command : Command) (name : List ℕ) → command_of words ≡ Some command
-    → GoesAlong (plan_of command) before after (Err (ending.Unreadable name)) → Prints (unreadable_line name) ReadFault old new status → ReadsInOrder words before after old new status
+last_reported : (words : List (List ℕ)) (before after : FilesView) (old new : OutputView) (status : Status) (command : Command) (name : List ℕ)
+    → command_of words ≡ Some command
+    → GoesAlong (plan_of command) before after (Err (ending.Unreadable name)) → Prints (unreadable_line name) ReadFault old new status
+    → ReadsInOrder words before after old new status
 last_reported words before after old new status command name c g p = record {
   made = g.made;
   appended = g.attempts;
@@ -96,12 +103,15 @@ reading_way work old new status (observe text own r o p) e = not_read text own o
 reading_way work old new status (lacks_memory n m) e = cc (m, e)
 reading_way work old new status (breaks_off text own r b a n m) e = cc (m, e)
 
-pub reading_of : (words : List (List ℕ)) (before after : FilesView) (old new : OutputView) (status : Status) → Course words before after old new status → ReadsInOrder words before after old new status
-reading_of words before after old new status (is_no_command n s p) = still words before after old new status s (not_read usage_line Usage old new status (λ x. cc) p)
+pub reading_of : (words : List (List ℕ)) (before after : FilesView) (old new : OutputView) (status : Status) → Course words before after old new status
+    → ReadsInOrder words before after old new status
+reading_of words before after old new status (is_no_command n s p) = still words before after old new status s
+    (not_read usage_line Usage old new status (λ x. cc) p)
 reading_of words before after old new status (has_no_memory s o m) = still words before after old new status s (λ e. cc (m, e))
 reading_of words before after old new status (ended command (ending.Refused refusal) c g p) =
     reading_none words before after old new status g.made g.attempts (λ disk t. in_order_of words before after command _ disk c g t)
-    (walks_fit before.known_files (plan_of command) g.made g.spent (Err (ending.Refused refusal)) g.walk) (not_read (refusal_line refusal) Refused old new status (λ x. cc) p)
+    (walks_fit before.known_files (plan_of command) g.made g.spent (Err (ending.Refused refusal)) g.walk)
+    (not_read (refusal_line refusal) Refused old new status (λ x. cc) p)
 reading_of words before after old new status (ended command (ending.Unreadable name) c g p) = last_reported words before after old new status command name c g p
 reading_of words before after old new status (ended command ending.Memory c g p) =
     reading_none words before after old new status g.made g.attempts (λ disk t. in_order_of words before after command _ disk c g t)

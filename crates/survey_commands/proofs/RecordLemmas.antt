@@ -33,14 +33,16 @@ use Rattle.survey_commands.proofs.OutputLemmas.{empties_are, notes_are, stop_fie
 -- the fields of values
 pub reported_values : (face : Face) (vs : List Value)
     → joined (codes ",," ∷ output_notes false face.labels face.outputs vs ∷ output_values face.outputs vs ∷ new_line ∷ []) ≡ answer_fields face (Values vs)
-reported_values face vs = λ i. joined (codes ",," ∷ notes_are false face.labels face.outputs vs face.notes i ∷ values_are face.labels face.outputs vs face.notes i ∷ new_line ∷ [])
+reported_values face vs = λ i. joined (codes ",," ∷ notes_are false face.labels face.outputs vs face.notes i ∷ values_are face.labels face.outputs vs face.notes
+    i ∷ new_line ∷ [])
 
 -- the fields of a stop
 pub stop_reported : (face : Face) (stop : Stop) → label_number stop < length face.labels
     → joined (codes "," ∷ stop_field face.labels stop ∷ codes "," ∷ output_empties face.outputs ∷ new_line ∷ []) ≡ answer_fields face (Stopped stop)
 stop_reported face stop is =
     ap (λ rest. joined (codes "," ∷ stop_field face.labels stop ∷ codes "," ∷ rest ∷ new_line ∷ [])) (empties_are face.outputs)
-    ∙ sym (stop_fields (names_of face.outputs) face.labels stop (slice_get face.labels (label_number stop)) (get_or face.labels (label_number stop) (DriverLine 0))
+    ∙ sym (stop_fields (names_of face.outputs) face.labels stop (slice_get face.labels (label_number stop))
+    (get_or face.labels (label_number stop) (DriverLine 0))
     (slice_get-get_or face.labels (label_number stop) (DriverLine 0) is))
 
 -- ---- rows
@@ -49,10 +51,12 @@ stop_reported face stop is =
 fields_reported : (scheme : Scheme) (face : Face) (runs : List Value → Answer) (vs : List Value) → Shows scheme face runs → AreValuesOf scheme.inputs vs
     → answer_fields face (runs vs) ≡ observation_fields scheme.names (scheme.observe vs)
 fields_reported scheme face runs vs shown given =
-    ap (λ (t : Option Observation). option_map_or (observation_fields (names_of face.outputs)) t []) (shown.answers vs given) ∙ ap (λ names. observation_fields names (scheme.observe vs)) shown.names
+    ap (λ (t : Option Observation). option_map_or (observation_fields (names_of face.outputs)) t []) (shown.answers vs given)
+    ∙ ap (λ names. observation_fields names (scheme.observe vs)) shown.names
 
 -- rows by code are rows by its scheme, where they give the inputs values that it may be asked for
-rows_reported : (scheme : Scheme) (loaded : Loaded) (at : ℕ) (rows : List Row) → Shows scheme loaded.face (machine_run loaded.code) → loaded.code.counts.inputs ≡ length scheme.inputs
+rows_reported : (scheme : Scheme) (loaded : Loaded) (at : ℕ) (rows : List Row) → Shows scheme loaded.face (machine_run loaded.code)
+    → loaded.code.counts.inputs ≡ length scheme.inputs
     → AllByRecursion (λ row. AreValuesOf scheme.inputs (values_of row.household.pairs (length scheme.inputs))) rows
     → printed_text (record_by loaded.face) at rows (answers_of loaded.code rows) ≡ rows_records scheme rows
 rows_reported scheme loaded at [] shown many given = refl
@@ -64,6 +68,8 @@ rows_reported scheme loaded at (row ∷ rows) shown many given =
     (rows_reported scheme loaded (at + 1) rows shown many given.1)
 
 -- the whole text by code is that by its scheme
-pub text_reported : (scheme : Scheme) (loaded : Loaded) (rows : List Row) → Shows scheme loaded.face (machine_run loaded.code) → loaded.code.counts.inputs ≡ length scheme.inputs
-    → AllByRecursion (λ row. AreValuesOf scheme.inputs (values_of row.household.pairs (length scheme.inputs))) rows → text_by loaded rows ≡ table_text scheme rows
+pub text_reported : (scheme : Scheme) (loaded : Loaded) (rows : List Row) → Shows scheme loaded.face (machine_run loaded.code)
+    → loaded.code.counts.inputs ≡ length scheme.inputs
+    → AllByRecursion (λ row. AreValuesOf scheme.inputs (values_of row.household.pairs (length scheme.inputs))) rows
+    → text_by loaded rows ≡ table_text scheme rows
 text_reported scheme loaded rows shown many given = λ i. header (shown.names i) ++ rows_reported scheme loaded 0 rows shown many given i

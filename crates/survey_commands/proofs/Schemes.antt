@@ -48,9 +48,11 @@ pub one_inputs : (face : Face) (runs : List Value → Answer) (one other : Schem
 one_inputs face runs one other a b = sym a.inputs ∙ b.inputs
 
 -- what code is to households, the same code is too
-pub shown_other : (scheme : Scheme) (one other : Loaded) → IsSameCode one other → Shows scheme one.face (machine_run one.code) → Shows scheme other.face (machine_run other.code)
+pub shown_other : (scheme : Scheme) (one other : Loaded) → IsSameCode one other → Shows scheme one.face (machine_run one.code)
+    → Shows scheme other.face (machine_run other.code)
 shown_other scheme one other same s = record {
   inputs = sym same.inputs ∙ s.inputs;
   names = ap names_of (sym same.outputs) ∙ s.names;
-  answers = λ values given. (λ i. observation (sym same.labels i) (notes_of (sym same.outputs i)) (machine_run (sym same.code i) values)) ∙ s.answers values given;
+  answers = λ values given. (λ i. observation (sym same.labels i) (notes_of (sym same.outputs i)) (machine_run (sym same.code i) values))
+      ∙ s.answers values given;
 }

@@ -1,5 +1,6 @@
 -- The clause on the bytes that were taken.
-use Rattle.std.proofs.Common.{◌≡◌, ◌≤◌, ◌+◌, ◌*◌, ℕ, Bool, true, false, cond, List, ◌++◌, length, None, Some, Ok, Err, sym, ap, ◌∙◌, subst, arith, length-append}
+use Rattle.std.proofs.Common.{◌≡◌, ◌≤◌, ◌+◌, ◌*◌, ℕ, Bool, true, false, cond, List, ◌++◌, length, None, Some, Ok, Err, sym, ap, ◌∙◌, subst, arith}
+use Rattle.std.proofs.Common.{length-append}
 use Rattle.std.specs.Option.{option_map_or}
 use Rattle.m_ports.specs.declared.files.Attempt.{Attempt}
 use Rattle.m_places.specs.declared.limits.TheConstants.{CODE_FILE_BYTES, FILE_BYTES}
@@ -30,12 +31,14 @@ chosen false name = (omega arith, λ bytes. tt)
 -- the files of a command keep its limit
 keeps_limit : (command : Command) → KeepsWithin (file_limit command) (plan_of command)
 keeps_limit (Table names table) = within_then FILE_BYTES (source_plan names) _ (source_within names) (λ source. (omega arith, λ bytes. tt))
-keeps_limit (Facts names ranges) = within_then FILE_BYTES (source_plan names) _ (source_within names) (λ source. within_then FILE_BYTES (optional_plan ranges) _ (chosen (is_none ranges) ranges) (λ bytes. tt))
+keeps_limit (Facts names ranges) = within_then FILE_BYTES (source_plan names) _ (source_within names)
+    (λ source. within_then FILE_BYTES (optional_plan ranges) _ (chosen (is_none ranges) ranges) (λ bytes. tt))
 keeps_limit (CodeTable code table) = (omega arith, λ bytes. (file_fits, λ rows. tt))
 keeps_limit Version = tt
 
 -- what is taken without a slack for lack of memory
-no_slack : (most : ℕ) (before after : FilesView) (status : Status) → after.taken + allowance most before.attempts ≤ before.taken + allowance most after.attempts → TakesWithin most before after status
+no_slack : (most : ℕ) (before after : FilesView) (status : Status) → after.taken + allowance most before.attempts ≤ before.taken + allowance most after.attempts
+    → TakesWithin most before after status
 no_slack most before after Done h = h
 no_slack most before after Refused h = h
 no_slack most before after Usage h = h
@@ -45,16 +48,19 @@ no_slack most before after Memory h = omega (arith, h)
 no_slack most before after Stopped h = h
 
 -- the allowance of attempts and of those that were made
-allowed : (most : ℕ) (before after : FilesView) (made : List Attempt) → after.attempts ≡ before.attempts ++ made → allowance most after.attempts ≡ allowance most before.attempts + allowance most made
+allowed : (most : ℕ) (before after : FilesView) (made : List Attempt) → after.attempts ≡ before.attempts ++ made
+    → allowance most after.attempts ≡ allowance most before.attempts + allowance most made
 allowed most before after made e =
     let a = ap (λ (l : List Attempt). length l * (most + 1)) e in
     let b = ap (λ n. n * (most + 1)) (length-append before.attempts made) in
     let d : (length before.attempts + length made) * (most + 1) ≡ length before.attempts * (most + 1) + length made * (most + 1) = omega arith in
     a ∙ b ∙ d
 
-within : (most : ℕ) (before after : FilesView) (made : List Attempt) (spent slack : ℕ) → after.attempts ≡ before.attempts ++ made → after.taken ≤ before.taken + spent → spent ≤ allowance most made + slack
+within : (most : ℕ) (before after : FilesView) (made : List Attempt) (spent slack : ℕ) → after.attempts ≡ before.attempts ++ made
+    → after.taken ≤ before.taken + spent → spent ≤ allowance most made + slack
     → after.taken + allowance most before.attempts ≤ before.taken + allowance most after.attempts + slack
-within most before after made spent slack e t s = rw (allowed most before after made e) (sums after.taken before.taken (allowance most before.attempts) (allowance most made) spent slack t s)
+within most before after made spent slack e t s = rw (allowed most before after made e)
+    (sums after.taken before.taken (allowance most before.attempts) (allowance most made) spent slack t s)
   where
     sums : (a b x y s k : ℕ) → a ≤ b + s → s ≤ y + k → a + x ≤ b + (x + y) + k
     sums a b x y s k h i = omega (arith, h, i)
@@ -68,12 +74,14 @@ of_command : (words : List (List ℕ)) (command : Command) (before after : Files
     → TakesWithin (file_limit command) before after status → TakesWithin (limit_of words) before after status
 of_command words command before after status c h = subst (λ (most : ℕ). TakesWithin most before after status) (sym (ap (λ o. option_map_or file_limit o 0) c)) h
 
-without : (most : ℕ) (before after : FilesView) (made : List Attempt) (spent : ℕ) (status : Status) → after.attempts ≡ before.attempts ++ made → after.taken ≤ before.taken + spent → spent ≤ allowance most made
+without : (most : ℕ) (before after : FilesView) (made : List Attempt) (spent : ℕ) (status : Status) → after.attempts ≡ before.attempts ++ made
+    → after.taken ≤ before.taken + spent → spent ≤ allowance most made
     → TakesWithin most before after status
 without most before after made spent status e t s =
     no_slack most before after status (let h = within most before after made spent 0 e t (omega (arith, s)) in omega (arith, h))
 
-pub taken_of : (words : List (List ℕ)) (before after : FilesView) (old new : OutputView) (status : Status) → Course words before after old new status → TakesWithin (limit_of words) before after status
+pub taken_of : (words : List (List ℕ)) (before after : FilesView) (old new : OutputView) (status : Status) → Course words before after old new status
+    → TakesWithin (limit_of words) before after status
 taken_of words before after old new status (is_no_command n s p) = still (limit_of words) before after status s
 taken_of words before after old new status (has_no_memory s o m) = still (limit_of words) before after status s
 taken_of words before after old new status (ended command (ending.Refused refusal) c g p) =

@@ -35,7 +35,8 @@ use Rattle.command_answers.specs.Prepared.{IsPreparedCode}
 use Rattle.survey_commands.specs.Answer.{Replies}
 use Rattle.survey_commands.specs.Command.{command_of, writes_early, writes_in_parts}
 use Rattle.survey_commands.specs.Lines.{version_line}
-use Rattle.survey_commands.specs.Tables.{CodeReplies, SchemeReplies, SourceReplies, code_answers, code_is_refused, source_answers, source_is_refused, table_is_refused}
+use Rattle.survey_commands.specs.Tables.{CodeReplies, SchemeReplies, SourceReplies, code_answers, code_is_refused, source_answers, source_is_refused}
+use Rattle.survey_commands.specs.Tables.{table_is_refused}
 use Rattle.survey_commands.specs.declared.command.Command.{Command}
 use Rattle.survey_commands.specs.declared.work.Work.{Work}
 use Rattle.survey_commands.specs.declared.work.Work.TheVariants.{Table, Facts, CodeTable, Version}
@@ -43,7 +44,8 @@ use Rattle.survey_commands.specs.inner.Courses.{IsWorkOf, WorkIsAnswered, work_i
 
 -- ---- tables
 
-pub table_refused : (scheme : Scheme) (face : Face) (runs : List Value → Answer) (table : List ℕ) (fault : HouseholdFault) (old new : OutputView) (status : Status) → Shows scheme face runs
+pub table_refused : (scheme : Scheme) (face : Face) (runs : List Value → Answer) (table : List ℕ) (fault : HouseholdFault) (old new : OutputView)
+    (status : Status) → Shows scheme face runs
     → ReportsRefusal (λ line. (table_of face.inputs table ≡ Err fault) × (household_fault_line fault ≡ Some line)) old new status
     → IsWrittenInParts (SchemeReplies scheme table) old new status
 table_refused scheme face runs table fault old new status shown (inl (line, refused, p)) =
@@ -51,7 +53,8 @@ table_refused scheme face runs table fault old new status shown (inl (line, refu
 table_refused scheme face runs table fault old new status shown (inr (same, memory)) = parts.no_memory same memory
 
 pub source_refused : (source : Source) (table : List ℕ) (fault : SourceFault) (old new : OutputView) (status : Status)
-    → ReportsRefusal (λ line. IsSourceFault source fault × (source_line source.texts fault ≡ Some line)) old new status → IsWrittenInParts (SourceReplies source table) old new status
+    → ReportsRefusal (λ line. IsSourceFault source fault × (source_line source.texts fault ≡ Some line)) old new status
+    → IsWrittenInParts (SourceReplies source table) old new status
 source_refused source table fault old new status (inl (line, is, shown)) = parts.printed line Refused (source_is_refused fault is.0 is.1) tt shown
 source_refused source table fault old new status (inr (same, memory)) = parts.no_memory same memory
 
@@ -60,12 +63,14 @@ pub source_answered : (source : Source) (loaded : Loaded) (table : List ℕ) (ol
 source_answered source loaded table old new status is a =
     parts_as (SchemeReplies is.scheme table) (SourceReplies source table) old new status (λ text own replied. source_answers is.scheme is.valid replied) a
 
-pub code_refused : (code table : List ℕ) (fault : CodeFault) (old new : OutputView) (status : Status) → ReportsRefusal (λ line. IsCodeFault code fault × (code_fault_line fault ≡ Some line)) old new status
+pub code_refused : (code table : List ℕ) (fault : CodeFault) (old new : OutputView) (status : Status)
+    → ReportsRefusal (λ line. IsCodeFault code fault × (code_fault_line fault ≡ Some line)) old new status
     → IsWrittenInParts (CodeReplies code table) old new status
 code_refused code table fault old new status (inl (line, refused, shown)) = parts.printed line Refused (code_is_refused fault refused.0 refused.1) tt shown
 code_refused code table fault old new status (inr (same, memory)) = parts.no_memory same memory
 
-pub code_answered : (code table : List ℕ) (loaded : Loaded) (scheme : Scheme) (old new : OutputView) (status : Status) → IsFormOf code loaded → Shows scheme loaded.face (machine_run loaded.code)
+pub code_answered : (code table : List ℕ) (loaded : Loaded) (scheme : Scheme) (old new : OutputView) (status : Status) → IsFormOf code loaded
+    → Shows scheme loaded.face (machine_run loaded.code)
     → IsWrittenInParts (SchemeReplies scheme table) old new status → IsWrittenInParts (CodeReplies code table) old new status
 code_answered code table loaded scheme old new status form shown a =
     parts_as (SchemeReplies scheme table) (CodeReplies code table) old new status (λ text own replied. code_answers loaded scheme form shown replied) a
@@ -76,7 +81,8 @@ code_answered code table loaded scheme old new status form shown a =
 pub data Way (work : Work) (old new : OutputView) (status : Status) : Type 0 where
   observe : (text : List ℕ) (own : Status) → Replies work text own → IsOfEnd own → Prints text own old new status → Way work old new status
   lacks_memory : new ≡ old → status ≡ Memory → Way work old new status
-  breaks_off : (text : List ℕ) (own : Status) → Replies work text own → work_in_parts work ≡ true → AppendsPrefix old.written new.written text → new.faults ≡ old.faults → status ≡ Memory
+  breaks_off : (text : List ℕ) (own : Status) → Replies work text own → work_in_parts work ≡ true → AppendsPrefix old.written new.written text
+      → new.faults ≡ old.faults → status ≡ Memory
       → Way work old new status
 
 pub way_of : (work : Work) (old new : OutputView) (status : Status) → WorkIsAnswered work old new status → Way work old new status
@@ -91,5 +97,6 @@ way_of (CodeTable code table) old new status (parts.broke_off text own r a f m) 
 way_of Version old new status p = observe version_line Done (refl, refl) tt p
 
 -- what writes in parts was asked for
-pub parts_requested : (words : List (List ℕ)) (wanted : Command) (work : Work) → command_of words ≡ Some wanted → IsWorkOf wanted work → work_in_parts work ≡ true → writes_early words ≡ true
+pub parts_requested : (words : List (List ℕ)) (wanted : Command) (work : Work) → command_of words ≡ Some wanted → IsWorkOf wanted work
+    → work_in_parts work ≡ true → writes_early words ≡ true
 parts_requested words wanted work c k e = ap (λ o. option_map_or writes_in_parts o false) c ∙ sym k ∙ e

@@ -44,7 +44,8 @@ source_command (word ∷ list ∷ driver ∷ requests ∷ file ∷ []) =
     else None
 source_command _ = None
 
--- The command that the words are, if they are the form of one: `version`, `table` over a code file or a source and a table, or `facts` over a source and ranges.
+-- The command that the words are, if they are the form of one: `version`, `table` over a code file or a source and a table, or `facts` over
+-- a source and ranges.
 abbrev pub command_of : List (List ℕ) → Option Command
 command_of words = option_or (version_command words) (option_or (code_command words) (source_command words))
 
@@ -60,7 +61,8 @@ facts_plan names ranges = and_then (source_plan names) (λ source. and_then (opt
 
 -- a code file is gathered, and after it a table
 abbrev pub code_table_plan : List ℕ → List ℕ → Plan Work
-code_table_plan code table = and_then (file_plan code CODE_FILE_BYTES) (λ bytes. and_then (file_plan table FILE_BYTES) (λ rows. done (work.CodeTable bytes rows)))
+code_table_plan code table = and_then (file_plan code CODE_FILE_BYTES)
+    (λ bytes. and_then (file_plan table FILE_BYTES) (λ rows. done (work.CodeTable bytes rows)))
 
 -- The plan of a command: which files it fetches in which order, where it refuses, and what it has gathered at its end. `version` fetches none.
 abbrev pub plan_of : Command → Plan Work

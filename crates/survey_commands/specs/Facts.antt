@@ -50,10 +50,13 @@ ranges_fault_line Memory = None
 -- The answer of a source and ranges: the line of the source's fault; or that of the fault of the ranges, by the inputs of what the source is compiled to;
 -- or the lines of what holds by that of all households within the ranges.
 pub data FactsReplies (source : Source) (ranges : Option (List ℕ)) : List ℕ → Status → Type 0 where
-  source_is_refused : {line : List ℕ} (fault : SourceFault) → IsSourceFault source fault → source_line source.texts fault ≡ Some line → FactsReplies source ranges line Refused
-  ranges_are_refused : {line : List ℕ} (compiled : Compiled) (fault : HouseholdFault) → IsCompiled source compiled → given_by compiled.face.inputs ranges ≡ Err fault
+  source_is_refused : {line : List ℕ} (fault : SourceFault) → IsSourceFault source fault → source_line source.texts fault ≡ Some line
+      → FactsReplies source ranges line Refused
+  ranges_are_refused : {line : List ℕ} (compiled : Compiled) (fault : HouseholdFault) → IsCompiled source compiled
+      → given_by compiled.face.inputs ranges ≡ Err fault
       → ranges_fault_line fault ≡ Some line → FactsReplies source ranges line Refused
-  facts_are_found : (declared : Declared) (base : Base) (compiled : Compiled) (given : List Possible) → HasRules source declared base → IsCompiled source compiled
+  facts_are_found : (declared : Declared) (base : Base) (compiled : Compiled) (given : List Possible) → HasRules source declared base
+      → IsCompiled source compiled
       → given_by compiled.face.inputs ranges ≡ Ok given → FactsReplies source ranges (facts_text base compiled.tidy compiled.face given) Done
 
 -- a valid source, and ranges without a fault by its inputs

@@ -15,7 +15,8 @@ use Rattle.code_answers.specs.Schemes.{Scheme}
 use Rattle.survey_commands.specs.Facts.{given_by}
 
 -- The text is lines that are true of what a source tells: the ranges have no fault, and for all households within them each value that is told is possible by
--- the line of its cell, a verification that is said never to stop is told by none, and two that agree on the inputs of a cell's line, of which neither stops, are
+-- the line of its cell, a verification that is said never to stop is told by none, and two that agree on the inputs of a cell's line, of
+-- which neither stops, are
 -- told the same value of it. The place of a value that is told is the number of its output without the notes, which stand first.
 pub record AreTrueFacts (source : Source) (ranges : Option (List ℕ)) (scheme : Scheme) (text : List ℕ) : Type 0 where
   pub declared : Declared
@@ -30,4 +31,5 @@ pub record AreTrueFacts (source : Source) (ranges : Option (List ℕ)) (scheme :
   pub lines : text ≡ found_text base face found
   pub possible : ArePossible scheme.inputs given scheme.observe (named_facts face.outputs found.possible)
   pub silent : AllByRecursion (IsSilent base scheme.inputs given scheme.observe) found.silent
-  pub reads : AllZip (λ k ns. (place : ℕ) → k ≡ length (notes_of face.outputs) + place → DependsOn scheme.inputs given scheme.observe place ns) found.firsts found.reads
+  pub reads : AllZip (λ k ns. (place : ℕ) → k ≡ length (notes_of face.outputs) + place → DependsOn scheme.inputs given scheme.observe place ns) found.firsts
+      found.reads

@@ -29,8 +29,10 @@ fetches_of words disk = option_map_or (λ command. names_fetched disk (plan_of c
 -- the line by which the command's plan is refused, or what the command answers with what it gathered.
 pub data Output (words : List (List ℕ)) (disk : Disk) : List ℕ → Status → Type 0 where
   usage : command_of words ≡ None → Output words disk usage_line Usage
-  refuses : {line : List ℕ} (command : Command) → command_of words ≡ Some command → end_of disk (plan_of command) ≡ refused line → Output words disk line Refused
-  answers : {text : List ℕ} {status : Status} (command : Command) (work : Work) → command_of words ≡ Some command → end_of disk (plan_of command) ≡ gathered work
+  refuses : {line : List ℕ} (command : Command) → command_of words ≡ Some command → end_of disk (plan_of command) ≡ refused line
+      → Output words disk line Refused
+  answers : {text : List ℕ} {status : Status} (command : Command) (work : Work) → command_of words ≡ Some command
+      → end_of disk (plan_of command) ≡ gathered work
       → Replies work text status → Output words disk text status
 
 -- Words and files for which a command has all that it wants: its files are there and keep their limits, its plan isn't
@@ -48,5 +50,6 @@ pub data AreOneOutput : List ℕ → Status → List ℕ → Status → Type 0 w
   the_same : {text other : List ℕ} {status outcome : Status} → text ≡ other → status ≡ outcome → AreOneOutput text status other outcome
   both_cycles : (names others : List (List ℕ)) → AreOneOutput (cycle_line names) Refused (cycle_line others) Refused
   both_recursions : (names others : List (List ℕ)) → AreOneOutput (recursion_line names) Refused (recursion_line others) Refused
-  both_found : (source : Source) (declared : Declared) (base : Base) (one other : Compiled) (given : List Possible) → HasRules source declared base → IsCompiled source one → IsCompiled source other
+  both_found : (source : Source) (declared : Declared) (base : Base) (one other : Compiled) (given : List Possible) → HasRules source declared base
+      → IsCompiled source one → IsCompiled source other
       → AreOneOutput (facts_text base one.tidy one.face given) Done (facts_text base other.tidy other.face given) Done

@@ -1,4 +1,5 @@
--- The records that `table` prints. The label of a household may have any byte from 32 on, and is in quotes where it needs them. No other field needs any: names, numbers
+-- The records that `table` prints. The label of a household may have any byte from 32 on, and is in quotes where it needs them. No other
+-- field needs any: names, numbers
 -- of verifications and names of errors are words of M.
 use Rattle.std.specs.Prelude.{ℕ, Bool, true, false, List, [], ◌∷◌, ◌++◌, codes, decimal, if◌then◌else◌}
 use Rattle.std.specs.List.{flat_map}

@@ -18,7 +18,7 @@ ghost use Rattle.survey_commands.specs.inner.Printers.{text_by};
 
 use crate::columns::{HEADER_ROOM, give_header};
 use crate::records::Records;
-use code_answers::{report_refusal, household_entry};
+use code_answers::{household_entry, report_refusal};
 use code_file::Loaded;
 use command_plans::Status;
 use household::{Codes, HouseholdFault, Row, read_table};

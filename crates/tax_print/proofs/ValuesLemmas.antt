@@ -18,7 +18,8 @@ use Rattle.tax_print.specs.Lines.{label_lines, notes_lines, output_lines, output
 -- ---- from one of them on
 
 -- they begin with the lines of the one that stands there
-pub outputs_at : (labels : List FaceLabel) (outputs : List FaceOutput) (vs : List Value) (k : ℕ) (output e : FaceOutput) (v d : Value) → k < length outputs → k < length vs
+pub outputs_at : (labels : List FaceLabel) (outputs : List FaceOutput) (vs : List Value) (k : ℕ) (output e : FaceOutput) (v d : Value) → k < length outputs
+    → k < length vs
     → output ≡ get_or outputs k e → v ≡ get_or vs k d
     → outputs_lines labels (drop k outputs) (drop k vs) ≡ output_lines labels v output ++ outputs_lines labels (drop (k + 1) outputs) (drop (k + 1) vs)
 outputs_at labels outputs vs k output e v d outputs_in values_in is_output is_value =
@@ -32,7 +33,8 @@ no_outputs labels [] = refl
 no_outputs labels (output ∷ outputs) = refl
 
 -- after the last value there is nothing
-pub outputs_end : (labels : List FaceLabel) (outputs : List FaceOutput) (vs : List Value) (k : ℕ) → length vs ≤ k → outputs_lines labels (drop k outputs) (drop k vs) ≡ []
+pub outputs_end : (labels : List FaceLabel) (outputs : List FaceOutput) (vs : List Value) (k : ℕ) → length vs ≤ k
+    → outputs_lines labels (drop k outputs) (drop k vs) ≡ []
 outputs_end labels outputs vs k h = ap (λ left. outputs_lines labels (drop k outputs) left) (drop_all k vs h) ∙ no_outputs labels (drop k outputs)
 
 -- ---- outputs in their order are notes, and then names
@@ -41,7 +43,8 @@ no_values : (names : List (List ℕ)) → values_lines names [] ≡ []
 no_values [] = refl
 no_values (name ∷ names) = refl
 
-named_lines : (labels : List FaceLabel) (outputs : List FaceOutput) (vs : List Value) → are_named outputs ≡ true → outputs_lines labels outputs vs ≡ values_lines (names_of outputs) vs
+named_lines : (labels : List FaceLabel) (outputs : List FaceOutput) (vs : List Value) → are_named outputs ≡ true
+    → outputs_lines labels outputs vs ≡ values_lines (names_of outputs) vs
 named_lines labels [] vs h = refl
 named_lines labels (Named name ∷ outputs) [] h = refl
 named_lines labels (Named name ∷ outputs) (v ∷ vs) h = ap (λ rest. value_line name v ++ rest) (named_lines labels outputs vs h)
@@ -52,12 +55,14 @@ no_notes [] h = refl
 no_notes (Named name ∷ outputs) h = no_notes outputs h
 no_notes (Noted number ∷ outputs) h = absurd (false≢true h)
 
-one_note : (reported : Option Label) (labels : List Label) → notes_lines (cons_option reported labels) ≡ option_map_or (label_lines (codes "noted")) reported [] ++ notes_lines labels
+one_note : (reported : Option Label) (labels : List Label) → notes_lines (cons_option reported labels) ≡ option_map_or (label_lines (codes "noted")) reported []
+    ++ notes_lines labels
 one_note None labels = refl
 one_note (Some label) labels = refl
 
 pub outputs_reported : (labels : List FaceLabel) (outputs : List FaceOutput) (vs : List Value) → notes_stand_first labels outputs ≡ true
-    → outputs_lines labels outputs vs ≡ notes_lines (reported_notes labels (notes_of outputs) vs) ++ values_lines (names_of outputs) (drop (length (notes_of outputs)) vs)
+    → outputs_lines labels outputs vs ≡ notes_lines (reported_notes labels (notes_of outputs) vs) ++ values_lines (names_of outputs)
+    (drop (length (notes_of outputs)) vs)
 outputs_reported labels [] vs h = refl
 outputs_reported labels (Named name ∷ outputs) vs h =
     named_lines labels (Named name ∷ outputs) vs h
@@ -66,5 +71,7 @@ outputs_reported labels (Noted number ∷ outputs) [] h =
     sym (ap (values_lines (names_of outputs)) (drop-nil (length (number ∷ notes_of outputs))) ∙ no_values (names_of outputs))
 outputs_reported labels (Noted number ∷ outputs) (v ∷ vs) h =
     ap (λ rest. option_map_or (label_lines (codes "noted")) (reported_note labels number v) [] ++ rest) (outputs_reported labels outputs vs (and_parts _ _ h).1)
-    ∙ sym (append_assoc (option_map_or (label_lines (codes "noted")) (reported_note labels number v) []) (notes_lines (reported_notes labels (notes_of outputs) vs)) (values_lines (names_of outputs) (drop (length (notes_of outputs)) vs)))
-    ∙ ap (λ front. front ++ values_lines (names_of outputs) (drop (length (notes_of outputs)) vs)) (sym (one_note (reported_note labels number v) (reported_notes labels (notes_of outputs) vs)))
+    ∙ sym (append_assoc (option_map_or (label_lines (codes "noted")) (reported_note labels number v) [])
+    (notes_lines (reported_notes labels (notes_of outputs) vs)) (values_lines (names_of outputs) (drop (length (notes_of outputs)) vs)))
+    ∙ ap (λ front. front ++ values_lines (names_of outputs) (drop (length (notes_of outputs)) vs))
+    (sym (one_note (reported_note labels number v) (reported_notes labels (notes_of outputs) vs)))

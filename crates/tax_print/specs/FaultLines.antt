@@ -3,7 +3,9 @@ use Rattle.std.specs.Prelude.{ℕ, List, [], ◌∷◌, ◌++◌, codes, decimal
 use Rattle.m_text.specs.Pieces.{new_line, joined}
 use Rattle.m_places.specs.declared.place.Place.{Place}
 use Rattle.tax_print.specs.declared.fault.Fault.{Fault}
-use Rattle.tax_print.specs.declared.fault.Fault.TheVariants.{Usage, ListLine, TooManyFiles, FileTooLong, AtPlace, AtName, Cycle, DriverLine, DriverName, NoMain, DriverRecursion, DriverTooLarge, RequestLine, TooManyRequests, HouseholdHeader, TooManyRows, HouseholdLine, CodeHeader, CodeLine, ReportLine, InputTooLong, Unreadable, UnreadableInput}
+use Rattle.tax_print.specs.declared.fault.Fault.TheVariants.{Usage, ListLine, TooManyFiles, FileTooLong, AtPlace, AtName, Cycle, DriverLine, DriverName, NoMain}
+use Rattle.tax_print.specs.declared.fault.Fault.TheVariants.{DriverRecursion, DriverTooLarge, RequestLine, TooManyRequests, HouseholdHeader, TooManyRows}
+use Rattle.tax_print.specs.declared.fault.Fault.TheVariants.{HouseholdLine, CodeHeader, CodeLine, ReportLine, InputTooLong, Unreadable, UnreadableInput}
 use Rattle.tax_print.specs.declared.fault.PlaceFault.{PlaceFault}
 use Rattle.tax_print.specs.declared.fault.NameFault.{NameFault}
 use Rattle.tax_print.specs.declared.fault.DriverFault.{DriverFault}

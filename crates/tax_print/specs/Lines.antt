@@ -38,7 +38,8 @@ kind_text Informative = codes "informative"
 -- the two lines of a verification after a word, as `failed 2000 A20 anomalie`: its number, its error and the error's kind, and
 -- in a line of its own the error's text
 abbrev pub label_lines : List ℕ → Label → List ℕ
-label_lines word label = joined (word ∷ codes " " ∷ label.verif ∷ codes " " ∷ label.error ∷ codes " " ∷ kind_text label.kind ∷ new_line ∷ label.text ∷ new_line ∷ [])
+label_lines word label = joined (word ∷ codes " " ∷ label.verif ∷ codes " " ∷ label.error ∷ codes " " ∷ kind_text label.kind ∷ new_line ∷ label.text ∷ new_line
+    ∷ [])
 
 -- the lines of what ended a run
 abbrev pub cause_lines : Cause → List ℕ

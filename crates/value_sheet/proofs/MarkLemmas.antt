@@ -1,5 +1,6 @@
 -- Marks, one row after another.
-use Rattle.std.proofs.Common.{◌≡◌, ◌≢◌, ℕ, zero, suc, ◌+◌, ◌<◌, Bool, true, false, ◌||◌, eqb, List, [], ◌∷◌, ◌++◌, length, get_or, set, take, refl, sym, ◌∙◌, ap, ⊎_elim, arith}
+use Rattle.std.proofs.Common.{◌≡◌, ◌≢◌, ℕ, zero, suc, ◌+◌, ◌<◌, Bool, true, false, ◌||◌, eqb, List, [], ◌∷◌, ◌++◌, length, get_or, set, take, refl, sym, ◌∙◌}
+use Rattle.std.proofs.Common.{ap, ⊎_elim, arith}
 use Rattle.std.proofs.lemmas.Bool.{cases_eq, eq-eqb, ne_eqb, or_right}
 use Rattle.std.proofs.lemmas.List.{get_or-set_same, get_or-set_other, take_more}
 use Rattle.dirty_set.specs.Members.{is_member}
@@ -22,7 +23,8 @@ has_at (x ∷ xs) (suc i) h = or_right (eqb x (get_or xs i 0)) (has xs (get_or x
 member_set : (marks : List Bool) (t k : ℕ) → t < length marks → is_member (set marks t true) k ≡ (is_member marks k || eqb t k)
 member_set marks t k h =
     ⊎_elim
-    (λ (is : t ≡ k). ap (is_member (set marks t true)) (sym is) ∙ get_or-set_same marks t true false h ∙ sym (or_right (is_member marks k) (eqb t k) (eq-eqb t k is)))
+    (λ (is : t ≡ k). ap (is_member (set marks t true)) (sym is) ∙ get_or-set_same marks t true false h
+    ∙ sym (or_right (is_member marks k) (eqb t k) (eq-eqb t k is)))
     (λ (ne : t ≢ k).
     let other : k ≢ t = λ is. ne (sym is) in
     get_or-set_other marks t k true false other ∙ sym (ap (λ b. is_member marks k || b) (ne_eqb t k ne) ∙ alone (is_member marks k)))

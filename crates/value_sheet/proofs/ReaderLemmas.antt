@@ -1,5 +1,6 @@
 -- The rows of the edges' sources are the rows of readers.
-use Rattle.std.proofs.Common.{◌≡◌, ◌≢◌, ℕ, zero, suc, ◌+◌, ◌*◌, ◌/◌, ◌<◌, ◌≤◌, Bool, true, false, ◌||◌, ◌&&◌, eqb, cond, List, [], ◌∷◌, ◌++◌, length, get_or, map, refl, sym, ◌∙◌, ap, arith, length-append}
+use Rattle.std.proofs.Common.{◌≡◌, ◌≢◌, ℕ, zero, suc, ◌+◌, ◌*◌, ◌/◌, ◌<◌, ◌≤◌, Bool, true, false, ◌||◌, ◌&&◌, eqb, cond, List, [], ◌∷◌, ◌++◌, length, get_or}
+use Rattle.std.proofs.Common.{map, refl, sym, ◌∙◌, ap, arith, length-append}
 use Rattle.std.specs.Prelude.{nat_lt}
 use Rattle.std.specs.List.{flat_map}
 use Rattle.std.proofs.lemmas.Bool.{eq-eqb, ne_eqb}
@@ -13,10 +14,12 @@ use Rattle.flat_code.specs.Touched.{some_argument}
 use Rattle.value_sheet.specs.Edges.{sourced, rows_of}
 use Rattle.value_sheet.specs.inner.Readers.{node_at, has, is_of, IsReaders, IsInputRows, argument_sources, input_source}
 
-has_step : (per p e s : ℕ) (sources : List ℕ) (k : ℕ) → has (sourced per p e (s ∷ sources)) k ≡ ((eqb s p && eqb (e / per) k) || has (sourced per p (e + 1) sources) k)
+has_step : (per p e s : ℕ) (sources : List ℕ) (k : ℕ)
+    → has (sourced per p e (s ∷ sources)) k ≡ ((eqb s p && eqb (e / per) k) || has (sourced per p (e + 1) sources) k)
 has_step per p e s sources k = cases (eqb s p)
   where
-    cases : (b : Bool) → has (cond b (e / per ∷ sourced per p (e + 1) sources) (sourced per p (e + 1) sources)) k ≡ ((b && eqb (e / per) k) || has (sourced per p (e + 1) sources) k)
+    cases : (b : Bool) → has (cond b (e / per ∷ sourced per p (e + 1) sources) (sourced per p (e + 1) sources))
+        k ≡ ((b && eqb (e / per) k) || has (sourced per p (e + 1) sources) k)
     cases true = refl
     cases false = refl
 
@@ -26,7 +29,8 @@ has_before per p m e [] k some le lt = refl
 has_before per p m e (s ∷ sources) k some le lt =
     let ne : e / per ≢ k = λ is. absurd (omega (arith, le-div m e per some le, is, lt)) in
     let none = has_before per p m (e + 1) sources k some (omega arith) lt in
-    has_step per p e s sources k ∙ ap (λ b. (eqb s p && b) || has (sourced per p (e + 1) sources) k) (ne_eqb (e / per) k ne) ∙ ap (λ b. (eqb s p && false) || b) none
+    has_step per p e s sources k ∙ ap (λ b. (eqb s p && b) || has (sourced per p (e + 1) sources) k) (ne_eqb (e / per) k ne)
+    ∙ ap (λ b. (eqb s p && false) || b) none
     ∙ nothing (eqb s p)
   where
     nothing : (b : Bool) → ((b && false) || false) ≡ false
@@ -59,13 +63,15 @@ block per p j d (x ∷ xs) rest k some size =
     put_in false false y r = refl
 
 -- Where each node has so many edges, the row of p has the nodes of which one has the source p.
-rows_are : (per p : ℕ) (f : Node → List ℕ) (j : ℕ) (nodes : List Node) (i : ℕ) → 0 < per → ((node : Node) → length (f node) ≡ per) → has (f (Lit Undef)) p ≡ false
+rows_are : (per p : ℕ) (f : Node → List ℕ) (j : ℕ) (nodes : List Node) (i : ℕ) → 0 < per → ((node : Node) → length (f node) ≡ per)
+    → has (f (Lit Undef)) p ≡ false
     → has (sourced per p (j * per) (flat_map f nodes)) (j + i) ≡ has (f (node_at nodes i)) p
 rows_are per p f j [] i some size none = sym none
 rows_are per p f j (node ∷ nodes) zero some size none =
     let start : j * per ≡ j * per + 0 = omega arith in
     let here : j ≡ j + 0 = omega arith in
-    let later : has (sourced per p (suc j * per) (flat_map f nodes)) (j + 0) ≡ false = has_before per p (suc j) (suc j * per) (flat_map f nodes) (j + 0) some (omega arith) (omega arith) in
+    let later : has (sourced per p (suc j * per) (flat_map f nodes)) (j + 0) ≡ false = has_before per p (suc j) (suc j * per) (flat_map f nodes) (j + 0) some
+    (omega arith) (omega arith) in
     ap (λ e. has (sourced per p e (f node ++ flat_map f nodes)) (j + 0)) start
     ∙ block per p j 0 (f node) (flat_map f nodes) (j + 0) some (let z : 0 + length (f node) ≡ per = omega (arith, size node) in z)
     ∙ ap (λ b. (b && has (f node) p) || has (sourced per p (suc j * per) (flat_map f nodes)) (j + 0)) (eq-eqb j (j + 0) here)
@@ -98,7 +104,8 @@ looked none p (Do op a b c) lt =
     let no : eqb none p ≡ false = ne_eqb none p (λ is. absurd (omega arith)) in
     both (nat_lt 1 (arity_of op)) (nat_lt 2 (arity_of op)) no
   where
-    both : (s t : Bool) → eqb none p ≡ false → (eqb a p || (eqb (cond s b none) p || (eqb (cond t c none) p || false))) ≡ (eqb a p || (s && eqb b p) || (t && eqb c p))
+    both : (s t : Bool) → eqb none p ≡ false
+        → (eqb a p || (eqb (cond s b none) p || (eqb (cond t c none) p || false))) ≡ (eqb a p || (s && eqb b p) || (t && eqb c p))
     both true true un = same (eqb a p) (eqb b p) (eqb c p)
       where
         same : (x y z : Bool) → (x || (y || (z || false))) ≡ ((x || y) || z)

@@ -1,5 +1,6 @@
 -- A settle, from one node to the next.
-use Rattle.std.proofs.Common.{◌≡◌, ◌≢◌, ℕ, zero, suc, ◌+◌, ◌<◌, ◌≤◌, Bool, true, false, ◌||◌, ◌&&◌, eqb, List, [], length, get_or, set, take, replicate, refl, sym, ◌∙◌, ap, subst, ⊎_elim, arith}
+use Rattle.std.proofs.Common.{◌≡◌, ◌≢◌, ℕ, zero, suc, ◌+◌, ◌<◌, ◌≤◌, Bool, true, false, ◌||◌, ◌&&◌, eqb, List, [], length, get_or, set, take, replicate, refl}
+use Rattle.std.proofs.Common.{sym, ◌∙◌, ap, subst, ⊎_elim, arith}
 use Rattle.std.specs.Prelude.{count_by}
 use Rattle.std.proofs.lemmas.Bool.{cases_eq, cases_lt, cases_Bool, or_parts, eq-eqb, ne_eqb, eqb-true, false≢true, and_right, false_from_ne_true}
 use Rattle.std.proofs.lemmas.List.{get_or-set_same, get_or-set_other, get_or_past, get_or-replicate, length-set, length-replicate, take_all, ext_get_or}
@@ -20,7 +21,8 @@ use Rattle.value_sheet.specs.inner.Sound.{IsSettling}
 
 -- what a settle starts from: each node but those of inputs that were put has its value by the others' old values
 abbrev pub IsRight : List Node → List Value → List Bool → List Value → Type 0
-IsRight nodes now put old = (k : ℕ) → k < length nodes → of_put put (at_place nodes k) ≡ false → value_at old k ≡ entry_of (values_for now) old (at_place nodes k)
+IsRight nodes now put old = (k : ℕ) → k < length nodes → of_put put (at_place nodes k) ≡ false
+    → value_at old k ≡ entry_of (values_for now) old (at_place nodes k)
 
 pub node_here : (m : ℕ) (nodes : List Node) (k : ℕ) → AreNodes m 0 nodes → k < length nodes → IsNode m k (at_place nodes k)
 node_here m nodes k all h =
@@ -44,7 +46,8 @@ new_value m nodes now kept p all lt below =
 
 pub settling_past : (m : ℕ) (nodes : List Node) (now : List Value) (put : List Bool) (old kept : List Value) (marks : List Bool) (p begun steps : ℕ)
     → AreNodes m 0 nodes → IsRight nodes now put old → p < length nodes → is_member marks p ≡ false
-    → IsSettling nodes put old (node_values now nodes) kept marks p begun steps → IsSettling nodes put old (node_values now nodes) kept marks (p + 1) begun steps
+    → IsSettling nodes put old (node_values now nodes) kept marks p begun steps → IsSettling nodes put old (node_values now nodes) kept marks (p + 1) begun
+    steps
 settling_past m nodes now put old kept marks p begun steps all right lt none h =
     let new = node_values now nodes in
     let node = at_place nodes p in
@@ -83,12 +86,15 @@ settling_skip m nodes now put old kept marks (suc d) p q begun steps all right e
 
 -- ---- a node that is marked
 
-pub settling_turn : (m : ℕ) (nodes : List Node) (now : List Value) (put : List Bool) (old kept after : List Value) (marks marks' : List Bool) (p begun steps : ℕ)
+pub settling_turn : (m : ℕ) (nodes : List Node) (now : List Value) (put : List Bool) (old kept after : List Value) (marks marks' : List Bool)
+    (p begun steps : ℕ)
     → AreNodes m 0 nodes → p < length nodes → is_member marks p ≡ true
     → after ≡ set kept p (entry_of (values_for now) kept (at_place nodes p))
-    → ((j : ℕ) → is_member marks' j ≡ (is_member (set marks p false) j || (differs (value_at kept p) (entry_of (values_for now) kept (at_place nodes p)) && some_argument (λ i. eqb i p) (at_place nodes j))))
+    → ((j : ℕ) → is_member marks' j ≡ (is_member (set marks p false) j || (differs (value_at kept p) (entry_of (values_for now) kept (at_place nodes p)) &&
+    some_argument (λ i. eqb i p) (at_place nodes j))))
     → length marks' ≡ length marks
-    → IsSettling nodes put old (node_values now nodes) kept marks p begun steps → IsSettling nodes put old (node_values now nodes) after marks' (p + 1) begun (steps + 1)
+    → IsSettling nodes put old (node_values now nodes) kept marks p begun steps → IsSettling nodes put old (node_values now nodes) after marks' (p + 1) begun
+    (steps + 1)
 settling_turn m nodes now put old kept after marks marks' p begun steps all lt some written marked many h =
     let new = node_values now nodes in
     let node = at_place nodes p in
@@ -97,7 +103,8 @@ settling_turn m nodes now put old kept after marks marks' p begun steps all lt s
     let places : p < length marks = omega (arith, h.room) in
     let before : value_at kept p ≡ value_at old p = h.old_above p (omega arith) in
     let here : value_at after p ≡ value = ap (λ vs. value_at vs p) written ∙ get_or-set_same kept p value Undef room in
-    let elsewhere : (k : ℕ) → k ≢ p → value_at after k ≡ value_at kept k = λ k ne. ap (λ vs. value_at vs k) written ∙ get_or-set_other kept p k value Undef ne in
+    let elsewhere : (k : ℕ) → k ≢ p → value_at after k ≡ value_at kept k = λ k ne. ap (λ vs. value_at vs k) written
+    ∙ get_or-set_other kept p k value Undef ne in
     let counted : is_touched put old new node ≡ true =
     sym (touched_below m p put old kept new node (node_here m nodes p all lt) h.new_below) ∙ sym (h.marked p (omega arith)) ∙ some in
     let unread : (j : ℕ) → j ≤ p → some_argument (λ i. eqb i p) (at_place nodes j) ≡ false = λ j le.
@@ -123,7 +130,8 @@ settling_turn m nodes now put old kept after marks marks' p begun steps all lt s
       marked = λ j above.
           let ne : j ≢ p = λ is. absurd (omega arith) in
           marked j
-          ∙ ap (λ b. b || (differs (value_at kept p) value && some_argument (λ i. eqb i p) (at_place nodes j))) (get_or-set_other marks p j false false ne ∙ h.marked j (omega arith))
+          ∙ ap (λ b. b || (differs (value_at kept p) value && some_argument (λ i. eqb i p) (at_place nodes j))) (get_or-set_other marks p j false false ne
+          ∙ h.marked j (omega arith))
           ∙ ap (λ v. is_touched put old kept (at_place nodes j) || (differs v value && some_argument (λ i. eqb i p) (at_place nodes j))) before
           ∙ sym (touched_set put old kept p value (at_place nodes j) room before)
           ∙ ap (λ vs. is_touched put old vs (at_place nodes j)) (sym written);
@@ -161,12 +169,14 @@ settled_marks nodes now put old kept marks begun steps h =
     (λ i lt. let below : i < length nodes = omega (arith, h.room) in h.unmarked i below ∙ sym (get_or-replicate (length nodes) i false false below))
 
 pub settled_cost : (nodes : List Node) (now : List Value) (put : List Bool) (old kept : List Value) (marks : List Bool) (begun steps : ℕ)
-    → IsSettling nodes put old (node_values now nodes) kept marks (length nodes) begun steps → steps ≡ begun + count_by (is_touched put old (node_values now nodes)) nodes
+    → IsSettling nodes put old (node_values now nodes) kept marks (length nodes) begun steps
+    → steps ≡ begun + count_by (is_touched put old (node_values now nodes)) nodes
 settled_cost nodes now put old kept marks begun steps h =
     h.cost ∙ ap (λ ns. begun + count_by (is_touched put old (node_values now nodes)) ns) (take_all (length nodes) nodes (omega arith))
 
 -- what the marks of the inputs that were put come to
-pub marked_first : (nodes : List Node) (put : List Bool) (rows : List (List ℕ)) (marks : List Bool) (inputs : ℕ) → IsInputRows rows nodes inputs → length put ≡ inputs
+pub marked_first : (nodes : List Node) (put : List Bool) (rows : List (List ℕ)) (marks : List Bool) (inputs : ℕ) → IsInputRows rows nodes inputs
+    → length put ≡ inputs
     → AreNodes inputs 0 nodes
     → ((k : ℕ) → is_member marks k ≡ true → (p : ℕ) × (p < length put) × (is_member put p ≡ true) × (has (get_or rows p []) k ≡ true))
     → ((p k : ℕ) → is_member put p ≡ true → has (get_or rows p []) k ≡ true → is_member marks k ≡ true)
@@ -200,12 +210,14 @@ marked_first nodes put rows marks inputs h so_many all sound complete k =
     within p given = ⊎_elim (λ lt. lt) (λ ge. absurd (false≢true (sym (get_or_past put p false (omega (arith, so_many))) ∙ given))) (cases_lt p inputs)
 
 -- where the old values are those for other inputs, which are those of now where nothing was put
-pub right_from : (m : ℕ) (nodes : List Node) (before now : List Value) (put : List Bool) (old : List Value) → AreNodes m 0 nodes → old ≡ node_values before nodes
+pub right_from : (m : ℕ) (nodes : List Node) (before now : List Value) (put : List Bool) (old : List Value) → AreNodes m 0 nodes
+    → old ≡ node_values before nodes
     → ((n : ℕ) → is_member put n ≡ false → value_at before n ≡ value_at now n) → IsRight nodes now put old
 right_from m nodes before now put old all is same k lt unput =
     subst (λ vs. value_at vs k ≡ entry_of (values_for now) vs (at_place nodes k)) (sym is)
     (values_fixed before m nodes k (Lit Undef) all lt
-    ∙ entry_same before now put (node_values before nodes) (node_values before nodes) (at_place nodes k) same (touched_same put (node_values before nodes) (at_place nodes k) ∙ unput))
+    ∙ entry_same before now put (node_values before nodes) (node_values before nodes) (at_place nodes k) same
+    (touched_same put (node_values before nodes) (at_place nodes k) ∙ unput))
 
 -- ---- nothing put
 

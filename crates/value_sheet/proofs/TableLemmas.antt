@@ -1,5 +1,6 @@
 -- Rows one after the other.
-use Rattle.std.proofs.Common.{◌≡◌, ◌≢◌, ℕ, zero, suc, ◌+◌, ◌-◌, ◌/◌, ◌<◌, ◌≤◌, Bool, true, false, List, [], ◌∷◌, ◌++◌, eqb, ltb, cond, length, get_or, take, drop, map, refl, sym, ◌∙◌, ap, subst, ⊎_elim, arith, length-append}
+use Rattle.std.proofs.Common.{◌≡◌, ◌≢◌, ℕ, zero, suc, ◌+◌, ◌-◌, ◌/◌, ◌<◌, ◌≤◌, Bool, true, false, List, [], ◌∷◌, ◌++◌, eqb, ltb, cond, length, get_or, take}
+use Rattle.std.proofs.Common.{drop, map, refl, sym, ◌∙◌, ap, subst, ⊎_elim, arith, length-append}
 use Rattle.std.specs.Prelude.{slice_range}
 use Rattle.std.specs.List.{range_with_len}
 use Rattle.std.proofs.lemmas.Bool.{cases_eq, cases_order, eq-eqb, ne_eqb, lt-ltb, le-ltb}
@@ -34,7 +35,8 @@ below_at_most s p = at_most (ltb s p)
 length-sourced : (per p e s : ℕ) (sources : List ℕ) → length (sourced per p e (s ∷ sources)) ≡ length (sourced per p (e + 1) sources) + cond (eqb s p) 1 0
 length-sourced per p e s sources = cases (eqb s p)
   where
-    cases : (b : Bool) → length (cond b (e / per ∷ sourced per p (e + 1) sources) (sourced per p (e + 1) sources)) ≡ length (sourced per p (e + 1) sources) + cond b 1 0
+    cases : (b : Bool) → length (cond b (e / per ∷ sourced per p (e + 1) sources) (sourced per p (e + 1) sources)) ≡ length (sourced per p (e + 1) sources) +
+        cond b 1 0
     cases true = omega arith
     cases false = omega arith
 
@@ -78,13 +80,15 @@ pub filled_more : (per : ℕ) (sources : List ℕ) (p : ℕ) (offsets targets mo
 filled_more per sources p offsets targets more longer h appended pushed =
     let new = sourced per p 0 sources in
     let size : length more ≡ length targets + length new = ap length appended ∙ length-append targets new in
-    let kept : (q : ℕ) → q < p + 1 → get_or longer q 0 ≡ get_or offsets q 0 = λ q lt. ap (λ xs. get_or xs q 0) pushed ∙ get_or_append_left offsets (length more ∷ []) 0 q (omega (arith, h.so_many)) in
+    let kept : (q : ℕ) → q < p + 1 → get_or longer q 0 ≡ get_or offsets q 0 = λ q lt. ap (λ xs. get_or xs q 0) pushed
+    ∙ get_or_append_left offsets (length more ∷ []) 0 q (omega (arith, h.so_many)) in
     let end : get_or longer (p + 1) 0 ≡ length more = ap (λ xs. get_or xs (p + 1) 0) pushed ∙ get_or_push offsets (length more) 0 (p + 1) h.so_many in
     let begin : get_or longer p 0 ≡ length targets = kept p (omega arith) ∙ h.last in
     record {
       so_many = ap length pushed ∙ length_push offsets (length more) ∙ ap (λ n. n + 1) h.so_many;
       last = end;
-      total = size ∙ ap (λ n. n + length new) h.total ∙ (let next : so_far per 0 sources p + length new ≡ so_far per 0 sources (suc p) = refl in next) ∙ ap (so_far per 0 sources) (let z : suc p ≡ p + 1 = omega arith in z);
+      total = size ∙ ap (λ n. n + length new) h.total ∙ (let next : so_far per 0 sources p + length new ≡ so_far per 0 sources (suc p) = refl in next)
+          ∙ ap (so_far per 0 sources) (let z : suc p ≡ p + 1 = omega arith in z);
       ends = λ q lt.
           ⊎_elim
           (λ (is : q ≡ p). let one : get_or longer q 0 ≡ length targets = ap (λ i. get_or longer i 0) is ∙ begin in
@@ -113,7 +117,8 @@ filled_more per sources p offsets targets more longer h appended pushed =
           (cases_eq q p);
     }
 
-pub filled_all : (per : ℕ) (sources : List ℕ) (count : ℕ) (offsets targets : List ℕ) → IsFilled per sources count offsets targets → rows_in offsets targets ≡ rows_of per sources count
+pub filled_all : (per : ℕ) (sources : List ℕ) (count : ℕ) (offsets targets : List ℕ) → IsFilled per sources count offsets targets
+    → rows_in offsets targets ≡ rows_of per sources count
 filled_all per sources count offsets targets h =
     let n : length offsets - 1 ≡ count = omega (arith, h.so_many) in
     ap (λ m. map (row_in offsets targets) (range_with_len 0 m)) n

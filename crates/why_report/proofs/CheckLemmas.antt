@@ -1,5 +1,6 @@
 -- What is kept of the lines that were checked tells exactly whether the next one follows.
-use Rattle.std.proofs.Common.{◌≡◌, ℕ, zero, suc, ◌+◌, ◌<◌, Bool, true, false, cond, nat_eq, List, [], ◌∷◌, length, get_or, set, take, replicate, Option, None, Some, refl, ap, sym, ◌∙◌, subst, inl, inr, add-one, arith}
+use Rattle.std.proofs.Common.{◌≡◌, ℕ, zero, suc, ◌+◌, ◌<◌, Bool, true, false, cond, nat_eq, List, [], ◌∷◌, length, get_or, set, take, replicate, Option, None}
+use Rattle.std.proofs.Common.{Some, refl, ap, sym, ◌∙◌, subst, inl, inr, add-one, arith}
 use mathlib.Core.Bool.{◌||◌}
 use Rattle.std.proofs.lemmas.List.{length-set, get_or-set_same, get_or-set_other, get_or_default}
 use Rattle.std.proofs.Math.ListN.{length-map}
@@ -37,14 +38,16 @@ false-all zero c = refl
 false-all (suc n) zero = refl
 false-all (suc n) (suc c) = false-all n c
 
-pub keeps-none : (n : ℕ) (checked : Checked) → checked.values.items ≡ replicate n Undef → checked.marks.items ≡ replicate n false → checked.known.items ≡ zeros n → length checked.values.items ≡ n → length checked.marks.items ≡ n → length checked.known.items ≡ n → Keeps n [] checked
+pub keeps-none : (n : ℕ) (checked : Checked) → checked.values.items ≡ replicate n Undef → checked.marks.items ≡ replicate n false
+    → checked.known.items ≡ zeros n → length checked.values.items ≡ n → length checked.marks.items ≡ n → length checked.known.items ≡ n → Keeps n [] checked
 keeps-none n checked values marks known values_size marks_size known_size = record {
   values_size = values_size;
   marks_size = marks_size;
   known_size = known_size;
   values = λ c. ap (λ (vs : List Value). environment vs c) values ∙ undef-all n c;
   marks = λ c. ap (λ (ms : List Bool). is_set ms c) marks ∙ false-all n c;
-  known = λ first c low high. let none : get_or checked.known.items first 0 ≡ 0 = ap (λ (ns : List ℕ). get_or ns first 0) known ∙ zero-all n first in absurd (omega arith);
+  known = λ first c low high. let none : get_or checked.known.items first 0 ≡ 0 = ap (λ (ns : List ℕ). get_or ns first 0) known
+      ∙ zero-all n first in absurd (omega arith);
 }
 
 -- ---- one line
@@ -55,7 +58,9 @@ some-value e = cc
 none-some : {w : Value} → None ≡ Some w → ⊥
 none-some e = cc
 
-derives : (base : Base) (given : Environment) (cells : ℕ) (earlier : List ReportLine) (checked : Checked) (line : ReportLine) → Keeps cells earlier checked → is_set checked.marks.items line.cell ≡ false → derived_value base given checked.marks.items checked.values.items line.cell ≡ Some line.value → IsDerived base given earlier line
+derives : (base : Base) (given : Environment) (cells : ℕ) (earlier : List ReportLine) (checked : Checked) (line : ReportLine) → Keeps cells earlier checked
+    → is_set checked.marks.items line.cell ≡ false → derived_value base given checked.marks.items checked.values.items line.cell ≡ Some line.value
+    → IsDerived base given earlier line
 derives base given cells earlier checked line kept away is =
     let marks : List Bool = checked.marks.items in
     let values : List Value = checked.values.items in
@@ -63,10 +68,12 @@ derives base given cells earlier checked line kept away is =
     (λ (none : definition_of base line.cell ≡ None). record {
       reported_once = sym (kept.marks line.cell) ∙ away;
       reads_earlier = λ c r. absurd (subst (λ o. IsSomeAnd o (λ t. TermReads t c)) none r);
-      has_value = sym (some-value (sym (ap (λ o. option_map_or (standing_value marks values) o (Some (given line.cell))) none) ∙ is)) ∙ sym (ap (λ o. option_map_or (term_value (reported_values earlier)) o (given line.cell)) none);
+      has_value = sym (some-value (sym (ap (λ o. option_map_or (standing_value marks values) o (Some (given line.cell))) none) ∙ is))
+          ∙ sym (ap (λ o. option_map_or (term_value (reported_values earlier)) o (given line.cell)) none);
     })
     (λ t (some : definition_of base line.cell ≡ Some t).
-    let at : cond (term_is_marked marks t) (Some (term_value (environment values) t)) None ≡ Some line.value = sym (ap (λ o. option_map_or (standing_value marks values) o (Some (given line.cell))) some) ∙ is in
+    let at : cond (term_is_marked marks t) (Some (term_value (environment values) t)) None ≡ Some line.value = sym
+    (ap (λ o. option_map_or (standing_value marks values) o (Some (given line.cell))) some) ∙ is in
     cases (term_is_marked marks t)
     (λ (y : term_is_marked marks t ≡ true). record {
       reported_once = sym (kept.marks line.cell) ∙ away;
@@ -77,7 +84,9 @@ derives base given cells earlier checked line kept away is =
     })
     (λ (n : term_is_marked marks t ≡ false). absurd (none-some (sym (ap (λ b. cond b (Some (term_value (environment values) t)) None) n) ∙ at))))
 
-derived : (base : Base) (given : Environment) (cells : ℕ) (earlier : List ReportLine) (checked : Checked) (line : ReportLine) → Keeps cells earlier checked → IsDerived base given earlier line → (is_set checked.marks.items line.cell ≡ false) × (derived_value base given checked.marks.items checked.values.items line.cell ≡ Some line.value)
+derived : (base : Base) (given : Environment) (cells : ℕ) (earlier : List ReportLine) (checked : Checked) (line : ReportLine) → Keeps cells earlier checked
+    → IsDerived base given earlier line → (is_set checked.marks.items line.cell ≡ false)
+    × (derived_value base given checked.marks.items checked.values.items line.cell ≡ Some line.value)
 derived base given cells earlier checked line kept follows =
     let marks : List Bool = checked.marks.items in
     let values : List Value = checked.values.items in (
@@ -88,7 +97,8 @@ derived base given cells earlier checked line kept follows =
           ∙ ap Some (sym (follows.has_value ∙ ap (λ o. option_map_or (term_value (reported_values earlier)) o (given line.cell)) none)))
           (λ t (some : definition_of base line.cell ≡ Some t).
           ap (λ o. option_map_or (standing_value marks values) o (Some (given line.cell))) some
-          ∙ ap (λ b. cond b (Some (term_value (environment values) t)) None) (covers-term marks t (λ c r. kept.marks c ∙ follows.reads_earlier c (subst (λ o. IsSomeAnd o (λ u. TermReads u c)) (sym some) r)))
+          ∙ ap (λ b. cond b (Some (term_value (environment values) t)) None)
+          (covers-term marks t (λ c r. kept.marks c ∙ follows.reads_earlier c (subst (λ o. IsSomeAnd o (λ u. TermReads u c)) (sym some) r)))
           ∙ ap Some (term_value-same t (environment values) (reported_values earlier) (λ c r. kept.values c)
           ∙ sym (follows.has_value ∙ ap (λ o. option_map_or (term_value (reported_values earlier)) o (given line.cell)) some))),
     )
@@ -97,20 +107,27 @@ derived base given cells earlier checked line kept follows =
 pub line-is : (lines : List ReportLine) (i : ℕ) (line : ReportLine) → i < length lines → line ≡ get_or lines i line → line ≡ line_at lines i
 line-is lines i line low is = is ∙ get_or_default lines i line (line_at [] 0) low
 
-pub follows-here : (base : Base) (given : Environment) (cells i : ℕ) (lines : List ReportLine) (checked : Checked) (line : ReportLine) (found : Option Value) → Keeps cells (take i lines) checked → line ≡ line_at lines i → is_set checked.marks.items line.cell ≡ false → found ≡ derived_value base given checked.marks.items checked.values.items line.cell → found ≡ Some line.value → IsDerivedAt base given lines i
+pub follows-here : (base : Base) (given : Environment) (cells i : ℕ) (lines : List ReportLine) (checked : Checked) (line : ReportLine) (found : Option Value)
+    → Keeps cells (take i lines) checked → line ≡ line_at lines i → is_set checked.marks.items line.cell ≡ false
+    → found ≡ derived_value base given checked.marks.items checked.values.items line.cell → found ≡ Some line.value → IsDerivedAt base given lines i
 follows-here base given cells i lines checked line found kept is away derived_is has =
     subst (λ (l : ReportLine). IsDerived base given (take i lines) l) is
     (derives base given cells (take i lines) checked line kept away (sym derived_is ∙ has))
 
 -- a cell that an earlier line has
-pub reported-before : (base : Base) (given : Environment) (cells i : ℕ) (lines : List ReportLine) (checked : Checked) (line : ReportLine) → Keeps cells (take i lines) checked → line ≡ line_at lines i → is_set checked.marks.items line.cell ≡ true → IsDerivedAt base given lines i → ⊥
+pub reported-before : (base : Base) (given : Environment) (cells i : ℕ) (lines : List ReportLine) (checked : Checked) (line : ReportLine)
+    → Keeps cells (take i lines) checked → line ≡ line_at lines i → is_set checked.marks.items line.cell ≡ true → IsDerivedAt base given lines i → ⊥
 reported-before base given cells i lines checked line kept is here follows =
-    clash here (derived base given cells (take i lines) checked line kept (subst (λ (l : ReportLine). IsDerived base given (take i lines) l) (sym is) follows)).0
+    clash here (derived base given cells (take i lines) checked line kept (subst (λ (l : ReportLine). IsDerived base given (take i lines) l) (sym is)
+    follows)).0
 
 -- another value, or a cell that is read and doesn't stand
-pub not-derived : (base : Base) (given : Environment) (cells i : ℕ) (lines : List ReportLine) (checked : Checked) (line : ReportLine) (found : Option Value) → Keeps cells (take i lines) checked → line ≡ line_at lines i → found ≡ derived_value base given checked.marks.items checked.values.items line.cell → (found ≡ Some line.value → ⊥) → IsDerivedAt base given lines i → ⊥
+pub not-derived : (base : Base) (given : Environment) (cells i : ℕ) (lines : List ReportLine) (checked : Checked) (line : ReportLine) (found : Option Value)
+    → Keeps cells (take i lines) checked → line ≡ line_at lines i → found ≡ derived_value base given checked.marks.items checked.values.items line.cell
+    → (found ≡ Some line.value → ⊥) → IsDerivedAt base given lines i → ⊥
 not-derived base given cells i lines checked line found kept is derived_is other follows =
-    other (derived_is ∙ (derived base given cells (take i lines) checked line kept (subst (λ (l : ReportLine). IsDerived base given (take i lines) l) (sym is) follows)).1)
+    other (derived_is ∙ (derived base given cells (take i lines) checked line kept (subst (λ (l : ReportLine). IsDerived base given (take i lines) l) (sym is)
+    follows)).1)
 
 -- ---- one line more is kept
 
@@ -137,7 +154,8 @@ or-left : (a b : Bool) → a ≡ true → (a || b) ≡ true
 or-left true b e = refl
 or-left false b e = absurd (cc)
 
-value-set : (values : List Value) (cell : ℕ) (v : Value) → cell < length values → (c : ℕ) → environment (set values cell v) c ≡ cond (nat_eq c cell) v (environment values c)
+value-set : (values : List Value) (cell : ℕ) (v : Value) → cell < length values → (c : ℕ)
+    → environment (set values cell v) c ≡ cond (nat_eq c cell) v (environment values c)
 value-set values cell v low c = cases (nat_eq c cell)
     (λ (t : nat_eq c cell ≡ true).
     ap (λ n. environment (set values cell v) n) (same c cell t) ∙ get_or-set_same values cell v Undef low
@@ -146,7 +164,10 @@ value-set values cell v low c = cases (nat_eq c cell)
     get_or-set_other values cell c v Undef (λ e. clash (subst (λ n. nat_eq c n ≡ true) e (itself c)) f)
     ∙ sym (ap (λ b. cond b v (environment values c)) f))
 
-pub keeps-more : (cells i : ℕ) (lines : List ReportLine) (old new : Checked) (line : ReportLine) (known : List ℕ) → Keeps cells (take i lines) old → i < length lines → line ≡ line_at lines i → line.cell < cells → is_set old.marks.items line.cell ≡ false → new.values.items ≡ set old.values.items line.cell line.value → new.marks.items ≡ set old.marks.items line.cell true → new.known.items ≡ known → length known ≡ cells → KnowsStanding old.marks.items known → Keeps cells (take (i + 1) lines) new
+pub keeps-more : (cells i : ℕ) (lines : List ReportLine) (old new : Checked) (line : ReportLine) (known : List ℕ) → Keeps cells (take i lines) old
+    → i < length lines → line ≡ line_at lines i → line.cell < cells → is_set old.marks.items line.cell ≡ false
+    → new.values.items ≡ set old.values.items line.cell line.value → new.marks.items ≡ set old.marks.items line.cell true → new.known.items ≡ known
+    → length known ≡ cells → KnowsStanding old.marks.items known → Keeps cells (take (i + 1) lines) new
 keeps-more cells i lines old new line ks kept low is within away values marks same_known known_size known =
     let values_size = kept.values_size in
     let marks_size = kept.marks_size in
@@ -160,25 +181,33 @@ keeps-more cells i lines old new line ks kept low is within away values marks sa
           ∙ value-set old.values.items line.cell line.value (omega arith) c
           ∙ ap (λ v. cond (nat_eq c line.cell) line.value v) (kept.values c)
           ∙ ap (λ (l : ReportLine). cond (nat_eq c l.cell) l.value (reported_values (take i lines) c)) is
-          ∙ sym (values-more lines i c low (ap (λ (l : ReportLine). is_among l.cell (reported_cells (take i lines))) (sym is) ∙ sym (kept.marks line.cell) ∙ away));
+          ∙ sym (values-more lines i c low (ap (λ (l : ReportLine). is_among l.cell (reported_cells (take i lines))) (sym is) ∙ sym (kept.marks line.cell)
+          ∙ away));
       marks = λ c. grown c
           ∙ ap (λ b. b || (nat_eq c line.cell || false)) (kept.marks c)
           ∙ ap (λ (l : ReportLine). is_among c (reported_cells (take i lines)) || (nat_eq c l.cell || false)) is
           ∙ sym (ap (is_among c) (cells-more lines i low) ∙ among-append c (reported_cells (take i lines)) ((line_at lines i).cell ∷ []));
-      known = λ first c above below. grown c ∙ or-left (is_set old.marks.items c) (nat_eq c line.cell || false) (subst (λ (ns : List ℕ). AllStand old.marks.items first (get_or ns first 0)) (sym same_known) (known first) c above below);
+      known = λ first c above below. grown c ∙ or-left (is_set old.marks.items c) (nat_eq c line.cell || false)
+          (subst (λ (ns : List ℕ). AllStand old.marks.items first (get_or ns first 0)) (sym same_known) (known first) c above below);
     }
 
 -- ---- what is found
 
-pub first-unsound : (base : Base) (given : Environment) (lines : List ReportLine) (i : ℕ) → ((p : ℕ) → p < i → IsDerivedAt base given lines p) → i < length lines → (IsDerivedAt base given lines i → ⊥) → IsFirstUnsound base given lines i
+pub first-unsound : (base : Base) (given : Environment) (lines : List ReportLine) (i : ℕ) → ((p : ℕ) → p < i → IsDerivedAt base given lines p)
+    → i < length lines → (IsDerivedAt base given lines i → ⊥) → IsFirstUnsound base given lines i
 first-unsound base given lines i sound low bad = record {
   within = low;
   sound_before = sound-part base given lines i sound (omega arith);
   unsound = bad;
 }
 
-pub sound-so-far : (base : Base) (given : Environment) (lines : List ReportLine) (i : ℕ) → ((p : ℕ) → p < i → IsDerivedAt base given lines p) → IsDerivedAt base given lines i → (p : ℕ) → p < i + 1 → IsDerivedAt base given lines p
-sound-so-far base given lines i sound here p h = elim (cases_eq p i) [ inl e ↦ subst (λ n. IsDerivedAt base given lines n) (sym e) here | inr n ↦ sound p (less n) ]
+pub sound-so-far : (base : Base) (given : Environment) (lines : List ReportLine) (i : ℕ) → ((p : ℕ) → p < i → IsDerivedAt base given lines p)
+    → IsDerivedAt base given lines i → (p : ℕ) → p < i + 1 → IsDerivedAt base given lines p
+sound-so-far base given lines i sound here p h = elim (cases_eq p i) [
+  | inl e ↦ subst (λ n. IsDerivedAt base given lines n) (sym e) here
+  | inr n ↦ sound p
+      (less n)
+]
   where
     less : (p ≡ i → ⊥) → p < i
     less n = omega arith
@@ -198,7 +227,9 @@ pub mark-false : (marks : List Bool) (c : ℕ) (b : Bool) → b ≡ get_or marks
 mark-false marks c b is f = ap (λ d. get_or marks c d) (sym f) ∙ sym is ∙ f
 
 -- what was derived of slices is derived of what is kept
-pub derived-kept : (base : Base) (given : Environment) (checked : Checked) (c : ℕ) (marks : List Bool) (values : List Value) (found : Option Value) → found ≡ derived_value base given marks values c → marks ≡ checked.marks.items → values ≡ checked.values.items → found ≡ derived_value base given checked.marks.items checked.values.items c
+pub derived-kept : (base : Base) (given : Environment) (checked : Checked) (c : ℕ) (marks : List Bool) (values : List Value) (found : Option Value)
+    → found ≡ derived_value base given marks values c → marks ≡ checked.marks.items → values ≡ checked.values.items
+    → found ≡ derived_value base given checked.marks.items checked.values.items c
 derived-kept base given checked c marks values found is same_marks same_values =
     is ∙ ap (λ (ms : List Bool). derived_value base given ms values c) same_marks
     ∙ ap (λ (vs : List Value). derived_value base given checked.marks.items vs c) same_values

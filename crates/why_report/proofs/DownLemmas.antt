@@ -1,5 +1,6 @@
 -- The cells of an ordered base from the last of the order on: each once, and before all that it reads.
-use Rattle.std.proofs.Common.{◌≡◌, ℕ, zero, suc, ◌<◌, Bool, true, false, nat_eq, List, [], ◌∷◌, length, get_or, cond, None, Some, refl, ap, sym, ◌∙◌, subst, inl, inr, arith}
+use Rattle.std.proofs.Common.{◌≡◌, ℕ, zero, suc, ◌<◌, Bool, true, false, nat_eq, List, [], ◌∷◌, length, get_or, cond, None, Some, refl, ap, sym, ◌∙◌, subst}
+use Rattle.std.proofs.Common.{inl, inr, arith}
 use mathlib.Core.Bool.{◌||◌}
 use Rattle.std.specs.Prelude.{is_some}
 use Rattle.std.specs.List.{All}
@@ -104,7 +105,8 @@ left-first base sequence valid order = record {
   down = bare-down base base.cells;
 }
 
-left-next : (base : Base) (p : ℕ) (ps cells : List ℕ) → IsValidBase base → p < length base.definitions → ReadsEarlier base (p ∷ ps) → is_among (target_at base p) (cells_at base ps) ≡ false → AreLeft base (p ∷ ps) cells → AreLeft base ps (target_at base p ∷ cells)
+left-next : (base : Base) (p : ℕ) (ps cells : List ℕ) → IsValidBase base → p < length base.definitions → ReadsEarlier base (p ∷ ps)
+    → is_among (target_at base p) (cells_at base ps) ≡ false → AreLeft base (p ∷ ps) cells → AreLeft base ps (target_at base p ∷ cells)
 left-next base p ps cells valid low earlier once left =
     let t : ℕ = target_at base p in
     let is : definition_of base t ≡ Some (term_at base p) = definition_of-target base p valid.defined_once low in
@@ -127,7 +129,8 @@ left-next base p ps cells valid low earlier once left =
       );
     }
 
-left-all : (base : Base) (ps cells : List ℕ) → IsValidBase base → All (λ p. p < length base.definitions) ps → ReadsEarlier base ps → AreDistinctCells (cells_at base ps) → AreLeft base ps cells → AreLeft base [] (targets_down base ps cells)
+left-all : (base : Base) (ps cells : List ℕ) → IsValidBase base → All (λ p. p < length base.definitions) ps → ReadsEarlier base ps
+    → AreDistinctCells (cells_at base ps) → AreLeft base ps cells → AreLeft base [] (targets_down base ps cells)
 left-all base [] cells valid within earlier once left = left
 left-all base (p ∷ ps) cells valid within earlier once left =
     left-all base ps (target_at base p ∷ cells) valid (All-tail (λ q. q < length base.definitions) p ps within) earlier.1 once.1
@@ -144,7 +147,8 @@ all-left ordered valid order =
 pub down-length : (ordered : Ordered) → IsValidBase ordered.base → IsOrder ordered.base ordered.sequence → length (cells_down ordered) ≡ ordered.base.cells
 down-length ordered valid order =
     let left = all-left ordered valid order in
-    let few = length-le_from_distinct_below (cells_down ordered) ordered.base.cells (distinct (cells_down ordered) (down-distinct ordered.base (cells_down ordered) left.down)) (λ q h. left.within q h) in
+    let few = length-le_from_distinct_below (cells_down ordered) ordered.base.cells
+    (distinct (cells_down ordered) (down-distinct ordered.base (cells_down ordered) left.down)) (λ q h. left.within q h) in
     let many = le-length_from_below (cells_down ordered) ordered.base.cells (λ q low. left.covers q low refl) in
     omega arith
 

@@ -8,7 +8,8 @@ use Rattle.why_report.specs.declared.line.ReportLine.{ReportLine}
 use Rattle.why_report.specs.Derivations.{IsDerived, IsDerivedAt, IsFirstUnsound, IsSound, line_at}
 
 -- what follows in a part of a list from its first line on follows in the list
-pub part-derived : (base : Base) (given : Environment) (lines : List ReportLine) (k p : ℕ) → k ≤ length lines → IsSound base given (take k lines) → p < k → IsDerivedAt base given lines p
+pub part-derived : (base : Base) (given : Environment) (lines : List ReportLine) (k p : ℕ) → k ≤ length lines → IsSound base given (take k lines) → p < k
+    → IsDerivedAt base given lines p
 part-derived base given lines k p low sound below =
     let long = length-take-le k lines low in
     subst (λ (line : ReportLine). IsDerived base given (take p lines) line) (get_or-take k lines p (line_at [] 0) below)
@@ -16,16 +17,19 @@ part-derived base given lines k p low sound below =
     (sound p (omega (arith, long, below))))
 
 -- a sound derivation has no line that isn't sound
-pub no_sound_and_unsound : (base : Base) (given : Environment) (lines : List ReportLine) (position : ℕ) → IsSound base given lines → IsFirstUnsound base given lines position → ⊥
+pub no_sound_and_unsound : (base : Base) (given : Environment) (lines : List ReportLine) (position : ℕ) → IsSound base given lines
+    → IsFirstUnsound base given lines position → ⊥
 no_sound_and_unsound base given lines position sound first = first.unsound (sound position first.within)
 
-not_before : (base : Base) (given : Environment) (lines : List ReportLine) (one other : ℕ) → IsFirstUnsound base given lines one → IsFirstUnsound base given lines other → one < other → ⊥
+not_before : (base : Base) (given : Environment) (lines : List ReportLine) (one other : ℕ) → IsFirstUnsound base given lines one
+    → IsFirstUnsound base given lines other → one < other → ⊥
 not_before base given lines one other a b h =
     let within = b.within in
     a.unsound (part-derived base given lines other one (omega (arith, within)) b.sound_before h)
 
 -- and another has one first line that isn't
-pub one_unsound : (base : Base) (given : Environment) (lines : List ReportLine) (one other : ℕ) → IsFirstUnsound base given lines one → IsFirstUnsound base given lines other → one ≡ other
+pub one_unsound : (base : Base) (given : Environment) (lines : List ReportLine) (one other : ℕ) → IsFirstUnsound base given lines one
+    → IsFirstUnsound base given lines other → one ≡ other
 one_unsound base given lines one other a b =
     elim (cases_lt one other) [
       | inl before ↦ absurd (not_before base given lines one other a b before)

@@ -1,5 +1,6 @@
 -- The lines before a position: which cells they tell, and with which values.
-use Rattle.std.proofs.Common.{◌≡◌, ℕ, zero, suc, ◌<◌, ◌≤◌, ◌++◌, true, false, cond, nat_eq, List, [], ◌∷◌, length, get_or, take, refl, ap, sym, ◌∙◌, subst, arith}
+use Rattle.std.proofs.Common.{◌≡◌, ℕ, zero, suc, ◌<◌, ◌≤◌, ◌++◌, true, false, cond, nat_eq, List, [], ◌∷◌, length, get_or, take, refl, ap, sym, ◌∙◌, subst}
+use Rattle.std.proofs.Common.{arith}
 use mathlib.Core.Bool.{◌||◌}
 use Rattle.std.proofs.lemmas.List.{get_or-take, take-take, length-take-le}
 use Rattle.std.proofs.lemmas.Map.Steps.{length-le_from_distinct_below}
@@ -12,7 +13,8 @@ use Rattle.why_report.specs.declared.line.ReportLine.{ReportLine}
 use Rattle.why_report.specs.Derivations.{reported_cells, reported_values, line_at, IsDerived, IsDerivedAt, IsSound}
 
 -- a cell that lines tell, and the first line that tells it
-pub reported-at : (lines : List ReportLine) (c : ℕ) → is_among c (reported_cells lines) ≡ true → (q : ℕ) × (q < length lines) × ((d : ReportLine) → (get_or lines q d).cell ≡ c) × ((d : ReportLine) → (get_or lines q d).value ≡ reported_values lines c)
+pub reported-at : (lines : List ReportLine) (c : ℕ) → is_among c (reported_cells lines) ≡ true → (q : ℕ) × (q < length lines)
+    × ((d : ReportLine) → (get_or lines q d).cell ≡ c) × ((d : ReportLine) → (get_or lines q d).value ≡ reported_values lines c)
 reported-at [] c h = absurd (cc)
 reported-at (line ∷ lines) c h = cases (nat_eq c line.cell)
     (λ (t : nat_eq c line.cell ≡ true). (0, omega arith, λ d. sym (same c line.cell t), λ d. sym (ap (λ b. cond b line.value (reported_values lines c)) t)))
@@ -21,7 +23,8 @@ reported-at (line ∷ lines) c h = cases (nat_eq c line.cell)
     (suc k.0, omega arith, k.2, λ d. k.3 d ∙ sym (ap (λ b. cond b line.value (reported_values lines c)) f)))
 
 -- one line more tells its cell
-pub cells-more : (lines : List ReportLine) (i : ℕ) → i < length lines → reported_cells (take (suc i) lines) ≡ reported_cells (take i lines) ++ (line_at lines i).cell ∷ []
+pub cells-more : (lines : List ReportLine) (i : ℕ) → i < length lines → reported_cells (take (suc i) lines) ≡ reported_cells (take i lines)
+    ++ (line_at lines i).cell ∷ []
 cells-more [] i low = absurd (omega arith)
 cells-more (l ∷ lines) zero low = refl
 cells-more (l ∷ lines) (suc i) low = ap (λ (cs : List ℕ). l.cell ∷ cs) (cells-more lines i (omega arith))
@@ -41,7 +44,8 @@ swap c a b x y z f = cases (nat_eq c a)
     ∙ sym (ap (λ e. cond (nat_eq c b) y (cond e x z)) g))
 
 -- one line more, of another cell than those before it, tells its value
-pub values-more : (lines : List ReportLine) (i c : ℕ) → i < length lines → is_among (line_at lines i).cell (reported_cells (take i lines)) ≡ false → reported_values (take (suc i) lines) c ≡ cond (nat_eq c (line_at lines i).cell) (line_at lines i).value (reported_values (take i lines) c)
+pub values-more : (lines : List ReportLine) (i c : ℕ) → i < length lines → is_among (line_at lines i).cell (reported_cells (take i lines)) ≡ false
+    → reported_values (take (suc i) lines) c ≡ cond (nat_eq c (line_at lines i).cell) (line_at lines i).value (reported_values (take i lines) c)
 values-more [] i c low away = absurd (omega arith)
 values-more (l ∷ lines) zero c low away = refl
 values-more (l ∷ lines) (suc i) c low away =
@@ -53,7 +57,8 @@ values-more (l ∷ lines) (suc i) c low away =
 -- ---- lines that follow
 
 -- the lines before a position tell distinct cells, if each follows
-pub reported-distinct : (base : Base) (given : Environment) (lines : List ReportLine) (k : ℕ) → ((p : ℕ) → p < k → IsDerivedAt base given lines p) → k ≤ length lines → AreDistinctCells (reported_cells (take k lines))
+pub reported-distinct : (base : Base) (given : Environment) (lines : List ReportLine) (k : ℕ) → ((p : ℕ) → p < k → IsDerivedAt base given lines p)
+    → k ≤ length lines → AreDistinctCells (reported_cells (take k lines))
 reported-distinct base given lines zero sound low = tt
 reported-distinct base given lines (suc k) sound low =
     subst AreDistinctCells (sym (cells-more lines k (omega arith)))
@@ -62,7 +67,8 @@ reported-distinct base given lines (suc k) sound low =
     (sound k (omega arith)).reported_once)
 
 -- they are no more than there are cells
-pub reported-few : (base : Base) (given : Environment) (lines : List ReportLine) (k : ℕ) → ((p : ℕ) → p < k → IsDerivedAt base given lines p) → k ≤ length lines → All (λ line. line.cell < base.cells) lines → k ≤ base.cells
+pub reported-few : (base : Base) (given : Environment) (lines : List ReportLine) (k : ℕ) → ((p : ℕ) → p < k → IsDerivedAt base given lines p) → k ≤ length lines
+    → All (λ line. line.cell < base.cells) lines → k ≤ base.cells
 reported-few base given lines k sound low cells =
     let few = length-le_from_distinct_below (reported_cells (take k lines)) base.cells
     (distinct (reported_cells (take k lines)) (reported-distinct base given lines k sound low))
@@ -81,7 +87,8 @@ reported-few base given lines k sound low cells =
     reported-length (l ∷ ls) = ap (λ n. suc n) (reported-length ls)
 
 -- what follows in a list follows in a part of it from its first line on
-pub sound-part : (base : Base) (given : Environment) (lines : List ReportLine) (k : ℕ) → ((p : ℕ) → p < k → IsDerivedAt base given lines p) → k ≤ length lines → IsSound base given (take k lines)
+pub sound-part : (base : Base) (given : Environment) (lines : List ReportLine) (k : ℕ) → ((p : ℕ) → p < k → IsDerivedAt base given lines p) → k ≤ length lines
+    → IsSound base given (take k lines)
 sound-part base given lines k sound low p h =
     let long = length-take-le k lines low in
     let below : p < k = omega arith in

@@ -20,22 +20,26 @@ use Rattle.why_report.proofs.DownLemmas.{not-true}
 pub marks-none : (spots : List ℕ) (old : List Bool) → Marks spots old old (λ c. false)
 marks-none spots old = record { size = refl; each = λ c low. sym (or-none (is_marked spots old c)) }
 
-pub marks-same : (spots : List ℕ) (old new : List Bool) (reads others : ℕ → Bool) → ((c : ℕ) → reads c ≡ others c) → Marks spots old new reads → Marks spots old new others
+pub marks-same : (spots : List ℕ) (old new : List Bool) (reads others : ℕ → Bool) → ((c : ℕ) → reads c ≡ others c) → Marks spots old new reads
+    → Marks spots old new others
 marks-same spots old new reads others is m = record { size = m.size; each = λ c low. m.each c low ∙ ap (λ b. is_marked spots old c || b) (is c) }
 
-pub marks-both : (spots : List ℕ) (old now new : List Bool) (a b : ℕ → Bool) → Marks spots old now a → Marks spots now new b → Marks spots old new (λ c. a c || b c)
+pub marks-both : (spots : List ℕ) (old now new : List Bool) (a b : ℕ → Bool) → Marks spots old now a → Marks spots now new b
+    → Marks spots old new (λ c. a c || b c)
 marks-both spots old now new a b m n = record {
   size = n.size ∙ m.size;
   each = λ c low. n.each c low ∙ ap (λ x. x || b c) (m.each c low) ∙ or-assoc (is_marked spots old c) (a c) (b c);
 }
 
-pub marks-keep : (spots : List ℕ) (old new : List Bool) (reads : ℕ → Bool) → Marks spots old new reads → (c : ℕ) → c < length spots → is_marked spots old c ≡ true → is_marked spots new c ≡ true
+pub marks-keep : (spots : List ℕ) (old new : List Bool) (reads : ℕ → Bool) → Marks spots old new reads → (c : ℕ) → c < length spots
+    → is_marked spots old c ≡ true → is_marked spots new c ≡ true
 marks-keep spots old new reads m c low h = m.each c low ∙ or-left (is_marked spots old c) (reads c) h
 
 pub spots-more : (spots : List ℕ) (m n : ℕ) → m ≡ n → AreSpots spots m → AreSpots spots n
 spots-more spots m n e s = subst (AreSpots spots) e s
 
-pub marking-more : (spots : List ℕ) (old new : List Bool) (known : List ℕ) (reads : ℕ → Bool) → IsMarking spots old known → Marks spots old new reads → IsMarking spots new known
+pub marking-more : (spots : List ℕ) (old new : List Bool) (known : List ℕ) (reads : ℕ → Bool) → IsMarking spots old known → Marks spots old new reads
+    → IsMarking spots new known
 marking-more spots old new known reads k m = record {
   are_spots = spots-more spots (length old) (length new) (sym m.size) k.are_spots;
   size = k.size;
@@ -44,7 +48,8 @@ marking-more spots old new known reads k m = record {
 
 -- ---- a cell
 
-pub marks-cell : (spots : List ℕ) (old : List Bool) (cell : ℕ) → cell < length spots → AreSpots spots (length old) → Marks spots old (set old (get_or spots cell 0) true) (λ c. nat_eq c cell)
+pub marks-cell : (spots : List ℕ) (old : List Bool) (cell : ℕ) → cell < length spots → AreSpots spots (length old)
+    → Marks spots old (set old (get_or spots cell 0) true) (λ c. nat_eq c cell)
 marks-cell spots old cell low are = record {
   size = length-set old (get_or spots cell 0) true;
   each = λ c here. elim (cases_eq c cell) [
@@ -66,7 +71,8 @@ run-first spots old first known all = record {
       (λ t. elim (or-either (is_marked spots old c) (is_in_run first known c) t) [ inl k ↦ k | inr k ↦ let r = run-has first known c k in all c low r.0 r.1 ]);
 }
 
-pub run-turn : (spots : List ℕ) (old now new : List Bool) (first passed : ℕ) → Marks spots old now (is_in_run first passed) → Marks spots now new (λ c. nat_eq c (first + passed)) → Marks spots old new (is_in_run first (passed + 1))
+pub run-turn : (spots : List ℕ) (old now new : List Bool) (first passed : ℕ) → Marks spots old now (is_in_run first passed)
+    → Marks spots now new (λ c. nat_eq c (first + passed)) → Marks spots old new (is_in_run first (passed + 1))
 run-turn spots old now new first passed m n =
     marks-same spots old new (λ c. is_in_run first passed c || nat_eq c (first + passed)) (is_in_run first (passed + 1))
     (λ c. truth-same (is_in_run first passed c || nat_eq c (first + passed)) (is_in_run first (passed + 1) c)
@@ -85,12 +91,14 @@ run-turn spots old now new first passed m n =
     below c l o = omega arith
 
 -- a row that is known already
-pub run-known : (spots : List ℕ) (old : List Bool) (known : List ℕ) (first size : ℕ) → IsMarking spots old known → size ≤ get_or known first 0 → Marks spots old old (is_in_run first size)
+pub run-known : (spots : List ℕ) (old : List Bool) (known : List ℕ) (first size : ℕ) → IsMarking spots old known → size ≤ get_or known first 0
+    → Marks spots old old (is_in_run first size)
 run-known spots old known first size k low =
     run-first spots old first size (λ c here from below. k.knows first c here from (omega arith))
 
 -- and one that is known from now on
-pub knows-run : (spots : List ℕ) (old new : List Bool) (known : List ℕ) (first size : ℕ) → IsMarking spots old known → Marks spots old new (is_in_run first size) → IsMarking spots new (set known first size)
+pub knows-run : (spots : List ℕ) (old new : List Bool) (known : List ℕ) (first size : ℕ) → IsMarking spots old known
+    → Marks spots old new (is_in_run first size) → IsMarking spots new (set known first size)
 knows-run spots old new known first size k m = record {
   are_spots = spots-more spots (length old) (length new) (sym m.size) k.are_spots;
   size = length-set known first size ∙ k.size;
@@ -98,9 +106,11 @@ knows-run spots old new known first size k m = record {
     | inl e ↦ elim (cases_lt first (length known)) [
       | inl here ↦ m.each c low ∙ or-true (is_marked spots old c) (is_in_run first size c)
           (has-run first size c (omega (arith, e)) (omega (arith, e, ap (λ n. get_or (set known first size) n 0) e, get_or-set_same known first size 0 here)))
-      | inr past ↦ marks-keep spots old new (is_in_run first size) m c low (k.knows f c low from (subst (λ (xs : List ℕ). c < f + get_or xs f 0) (set_past known first size past) below))
+      | inr past ↦ marks-keep spots old new (is_in_run first size) m c low
+          (k.knows f c low from (subst (λ (xs : List ℕ). c < f + get_or xs f 0) (set_past known first size past) below))
     ]
-    | inr n ↦ marks-keep spots old new (is_in_run first size) m c low (k.knows f c low from (subst (λ v. c < f + v) (get_or-set_other known first f size 0 n) below))
+    | inr n ↦ marks-keep spots old new (is_in_run first size) m c low
+        (k.knows f c low from (subst (λ v. c < f + v) (get_or-set_other known first f size 0 n) below))
   ];
 }
 
@@ -118,14 +128,16 @@ pub record MarksOn (spots : List ℕ) (old now : List Bool) (rest whole : ℕ �
 pub on-first : (spots : List ℕ) (old : List Bool) (whole : ℕ → Bool) → MarksOn spots old old whole whole
 on-first spots old whole = record { size = refl; each = λ c low. refl }
 
-pub on-turn : (spots : List ℕ) (old now new : List Bool) (a rest before whole : ℕ → Bool) → ((c : ℕ) → before c ≡ (a c || rest c)) → MarksOn spots old now before whole → Marks spots now new a → MarksOn spots old new rest whole
+pub on-turn : (spots : List ℕ) (old now new : List Bool) (a rest before whole : ℕ → Bool) → ((c : ℕ) → before c ≡ (a c || rest c))
+    → MarksOn spots old now before whole → Marks spots now new a → MarksOn spots old new rest whole
 on-turn spots old now new a rest before whole is on m = record {
   size = m.size ∙ on.size;
   each = λ c low. ap (λ x. x || rest c) (m.each c low) ∙ or-assoc (is_marked spots now c) (a c) (rest c)
       ∙ ap (λ b. is_marked spots now c || b) (sym (is c)) ∙ on.each c low;
 }
 
-pub on-end : (spots : List ℕ) (old now : List Bool) (rest whole : ℕ → Bool) → ((c : ℕ) → rest c ≡ false) → MarksOn spots old now rest whole → Marks spots old now whole
+pub on-end : (spots : List ℕ) (old now : List Bool) (rest whole : ℕ → Bool) → ((c : ℕ) → rest c ≡ false) → MarksOn spots old now rest whole
+    → Marks spots old now whole
 on-end spots old now rest whole none on = record {
   size = on.size;
   each = λ c low. sym (or-none (is_marked spots now c)) ∙ ap (λ b. is_marked spots now c || b) (sym (none c)) ∙ on.each c low;

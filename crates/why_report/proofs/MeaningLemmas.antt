@@ -1,6 +1,7 @@
 -- Each value of a sound derivation is its cell's value by the base's meaning: as many turns suffice as there are lines with a
 -- definition up to it, and these are no more than there are definitions.
-use Rattle.std.proofs.Common.{◌≡◌, ℕ, zero, suc, ◌+◌, ◌-◌, ◌<◌, ◌≤◌, true, false, nat_eq, List, [], ◌∷◌, length, get_or, take, Option, None, Some, refl, ap, sym, ◌∙◌, subst, arith}
+use Rattle.std.proofs.Common.{◌≡◌, ℕ, zero, suc, ◌+◌, ◌-◌, ◌<◌, ◌≤◌, true, false, nat_eq, List, [], ◌∷◌, length, get_or, take, Option, None, Some, refl, ap}
+use Rattle.std.proofs.Common.{sym, ◌∙◌, subst, arith}
 use mathlib.Core.Bool.{◌||◌}
 use Rattle.std.proofs.lemmas.List.{get_or-take, length-take-le, get_or_default}
 use Rattle.std.proofs.Math.ListN.{length-map}
@@ -78,7 +79,8 @@ defined-target base x (c ∷ cs) h = option_cases (definition_of base c)
 abbrev rank : Base → List ReportLine → ℕ → ℕ
 rank base lines k = length (defined_among base (reported_cells (take k lines)))
 
-rank-more : (base : Base) (lines : List ReportLine) (k : ℕ) → k < length lines → rank base lines (suc k) ≡ rank base lines k + weight (definition_of base (line_at lines k).cell)
+rank-more : (base : Base) (lines : List ReportLine) (k : ℕ) → k < length lines
+    → rank base lines (suc k) ≡ rank base lines k + weight (definition_of base (line_at lines k).cell)
 rank-more base [] k low = absurd (omega arith)
 rank-more base (l ∷ lines) zero low = length-pushed (definition_of base l.cell) l.cell []
 rank-more base (l ∷ lines) (suc k) low =
@@ -103,7 +105,8 @@ rank-below base lines q p h low =
     let is : (p - suc q) + suc q ≡ p = omega arith in
     subst (λ n. rank base lines (suc q) ≤ rank base lines n) is (rank-grows base lines (p - suc q) (suc q) (omega arith))
 
-rank-few : (base : Base) (given : Environment) (lines : List ReportLine) (k : ℕ) → IsSound base given lines → k ≤ length lines → rank base lines k ≤ length base.definitions
+rank-few : (base : Base) (given : Environment) (lines : List ReportLine) (k : ℕ) → IsSound base given lines → k ≤ length lines
+    → rank base lines k ≤ length base.definitions
 rank-few base given lines k sound low =
     let cs : List ℕ = reported_cells (take k lines) in
     let few = length-le_from_among (defined_among base cs) (targets_of base)
@@ -114,7 +117,8 @@ rank-few base given lines k sound low =
 
 -- ---- values
 
-value-by : (base : Base) (given : Environment) (lines : List ReportLine) → IsSound base given lines → (k p n : ℕ) → p < k → p < length lines → rank base lines (suc p) < n → value_in base given n (line_at lines p).cell ≡ (line_at lines p).value
+value-by : (base : Base) (given : Environment) (lines : List ReportLine) → IsSound base given lines → (k p n : ℕ) → p < k → p < length lines
+    → rank base lines (suc p) < n → value_in base given n (line_at lines p).cell ≡ (line_at lines p).value
 value-by base given lines sound zero p n h low enough = absurd (omega arith)
 value-by base given lines sound (suc k) p zero h low enough = absurd (omega arith)
 value-by base given lines sound (suc k) p (suc m) h low enough =
@@ -140,7 +144,8 @@ value-by base given lines sound (suc k) p (suc m) h low enough =
     ∙ ap (λ (l : ReportLine). l.value) (sym here) ∙ q.3 (line_at [] 0))
     ∙ sym ((sound p low).has_value ∙ ap (λ o. option_map_or (term_value (reported_values (take p lines))) o (given line.cell)) some))
 
-pub sound-values : (base : Base) (given : Environment) (lines : List ReportLine) → IsSound base given lines → All (λ line. line.value ≡ value_of base given line.cell) lines
+pub sound-values : (base : Base) (given : Environment) (lines : List ReportLine) → IsSound base given lines
+    → All (λ line. line.value ≡ value_of base given line.cell) lines
 sound-values base given lines sound k d low =
     let few = rank-few base given lines (suc k) sound (omega arith) in
     subst (λ (line : ReportLine). line.value ≡ value_of base given line.cell) (get_or_default lines k (line_at [] 0) d low)

@@ -1,5 +1,6 @@
 -- The turns in which needed cells are found by their marks.
-use Rattle.std.proofs.Common.{◌≡◌, ℕ, zero, suc, ◌+◌, ◌-◌, ◌<◌, ◌≤◌, Bool, true, false, nat_eq, List, [], ◌∷◌, length, get_or, set, take, drop, replicate, refl, ap, sym, ◌∙◌, subst, inl, inr, arith}
+use Rattle.std.proofs.Common.{◌≡◌, ℕ, zero, suc, ◌+◌, ◌-◌, ◌<◌, ◌≤◌, Bool, true, false, nat_eq, List, [], ◌∷◌, length, get_or, set, take, drop, replicate, refl}
+use Rattle.std.proofs.Common.{ap, sym, ◌∙◌, subst, inl, inr, arith}
 use mathlib.Core.Bool.{◌||◌}
 use Rattle.std.proofs.Math.Seq.{drop-cons}
 use Rattle.std.proofs.lemmas.Bool.{cases_eq, cases_lt}
@@ -39,11 +40,16 @@ replicate-long : (n : ℕ) → length (replicate n false) ≡ n
 replicate-long zero = refl
 replicate-long (suc n) = ap suc (replicate-long n)
 
-pub empty-spots : (ordered : Ordered) (plan : Plan) (marked : List Bool) → IsValidBase ordered.base → IsOrder ordered.base ordered.sequence → IsPlanOf ordered plan → marked ≡ replicate ordered.base.cells false → AreSpots plan.spots.items (length marked)
+pub empty-spots : (ordered : Ordered) (plan : Plan) (marked : List Bool) → IsValidBase ordered.base → IsOrder ordered.base ordered.sequence
+    → IsPlanOf ordered plan → marked ≡ replicate ordered.base.cells false → AreSpots plan.spots.items (length marked)
 empty-spots ordered plan marked valid order is none =
-    spots-more plan.spots.items ordered.base.cells (length marked) (sym (ap length none ∙ replicate-long ordered.base.cells)) (plan-spots ordered plan valid order is)
+    spots-more plan.spots.items ordered.base.cells (length marked) (sym (ap length none ∙ replicate-long ordered.base.cells))
+    (plan-spots ordered plan valid order is)
 
-pub pass-first : (ordered : Ordered) (c : ℕ) (plan : Plan) (none marked : List Bool) (known needed : List ℕ) (n : ℕ) → IsValidBase ordered.base → IsOrder ordered.base ordered.sequence → IsPlanOf ordered plan → none ≡ replicate ordered.base.cells false → length known ≡ ordered.base.cells → ((d : ℕ) → get_or known d 0 ≡ 0) → length needed ≡ ordered.base.cells → n ≡ length needed → Marks plan.spots.items none marked (λ d. nat_eq d c) → IsPass ordered c plan marked known needed 0 n
+pub pass-first : (ordered : Ordered) (c : ℕ) (plan : Plan) (none marked : List Bool) (known needed : List ℕ) (n : ℕ) → IsValidBase ordered.base
+    → IsOrder ordered.base ordered.sequence → IsPlanOf ordered plan → none ≡ replicate ordered.base.cells false → length known ≡ ordered.base.cells
+    → ((d : ℕ) → get_or known d 0 ≡ 0) → length needed ≡ ordered.base.cells → n ≡ length needed → Marks plan.spots.items none marked (λ d. nat_eq d c)
+    → IsPass ordered c plan marked known needed 0 n
 pass-first ordered c plan none marked known needed n valid order is empty known_size zeros needed_size last marks =
     let size : length marked ≡ ordered.base.cells = marks.size ∙ ap length empty ∙ replicate-long ordered.base.cells in
     let all : drop n needed ≡ [] = drop_all n needed (omega arith) in
@@ -56,7 +62,8 @@ pass-first ordered c plan none marked known needed n valid order is empty known_
       size = size;
       needed_size = needed_size;
       marks = λ d low. marks.each d (omega (arith, is.size))
-          ∙ ap (λ b. b || nat_eq d c) (ap (λ (xs : List Bool). is_member xs (get_or plan.spots.items d 0)) empty ∙ false-all ordered.base.cells (get_or plan.spots.items d 0))
+          ∙ ap (λ b. b || nat_eq d c) (ap (λ (xs : List Bool). is_member xs (get_or plan.spots.items d 0)) empty
+          ∙ false-all ordered.base.cells (get_or plan.spots.items d 0))
           ∙ sym (or-none (nat_eq d c))
           ∙ ap (λ (xs : List ℕ). is_needed ordered.base c xs d) (sym all);
       rest = ap (λ (xs : List ℕ). needed_along ordered.base c xs (cells_down ordered)) all;
@@ -66,7 +73,9 @@ pass-first ordered c plan none marked known needed n valid order is empty known_
     }
 
 -- cells that aren't needed add nothing
-skip : (base : Base) (c : ℕ) (later cells : List ℕ) (gap from : ℕ) → gap + from ≤ length cells → ((i : ℕ) → from ≤ i → i < gap + from → is_needed base c later (get_or cells i 0) ≡ false) → needed_along base c later (drop from cells) ≡ needed_along base c later (drop (gap + from) cells)
+skip : (base : Base) (c : ℕ) (later cells : List ℕ) (gap from : ℕ) → gap + from ≤ length cells
+    → ((i : ℕ) → from ≤ i → i < gap + from → is_needed base c later (get_or cells i 0) ≡ false)
+    → needed_along base c later (drop from cells) ≡ needed_along base c later (drop (gap + from) cells)
 skip base c later cells zero from low none =
     let is : from ≡ 0 + from = omega arith in
     ap (λ n. needed_along base c later (drop n cells)) is
@@ -77,21 +86,26 @@ skip base c later cells (suc gap) from low none =
     ∙ skip base c later cells gap (suc from) (omega arith) (λ i low high. none i (omega arith) (omega arith))
     ∙ ap (λ n. needed_along base c later (drop n cells)) is
 
-skip-to : (base : Base) (c : ℕ) (later cells : List ℕ) (from to : ℕ) → from ≤ to → to ≤ length cells → ((i : ℕ) → from ≤ i → i < to → is_needed base c later (get_or cells i 0) ≡ false) → needed_along base c later (drop from cells) ≡ needed_along base c later (drop to cells)
+skip-to : (base : Base) (c : ℕ) (later cells : List ℕ) (from to : ℕ) → from ≤ to → to ≤ length cells
+    → ((i : ℕ) → from ≤ i → i < to → is_needed base c later (get_or cells i 0) ≡ false)
+    → needed_along base c later (drop from cells) ≡ needed_along base c later (drop to cells)
 skip-to base c later cells from to low high none =
     let is : (to - from) + from ≡ to = omega arith in
     skip base c later cells (to - from) from (omega arith) (λ i a b. none i a (omega arith))
     ∙ ap (λ n. needed_along base c later (drop n cells)) is
 
 -- a cell is needed exactly where its spot is marked
-marked-spot : (ordered : Ordered) (c : ℕ) (plan : Plan) (marked : List Bool) (known needed : List ℕ) (from at : ℕ) → IsValidBase ordered.base → IsOrder ordered.base ordered.sequence → IsPlanOf ordered plan → IsPass ordered c plan marked known needed from at → (i : ℕ) → i < ordered.base.cells → is_member marked i ≡ is_needed ordered.base c (drop at needed) (get_or (cells_down ordered) i 0)
+marked-spot : (ordered : Ordered) (c : ℕ) (plan : Plan) (marked : List Bool) (known needed : List ℕ) (from at : ℕ) → IsValidBase ordered.base
+    → IsOrder ordered.base ordered.sequence → IsPlanOf ordered plan → IsPass ordered c plan marked known needed from at → (i : ℕ) → i < ordered.base.cells
+    → is_member marked i ≡ is_needed ordered.base c (drop at needed) (get_or (cells_down ordered) i 0)
 marked-spot ordered c plan marked known needed from at valid order is pass i low =
     let long = down-length ordered valid order in
     let small : i < length plan.cells.items = omega (arith, ap length is.cells) in
     ap (is_member marked) (sym (is.spots i small) ∙ ap (λ (xs : List ℕ). get_or plan.spots.items (get_or xs i 0) 0) is.cells)
     ∙ pass.marks (get_or (cells_down ordered) i 0) (down-all ordered valid order i 0 (omega arith))
 
-pub pass-room : (ordered : Ordered) (c : ℕ) (plan : Plan) (marked : List Bool) (known needed : List ℕ) (from at spot : ℕ) → IsPass ordered c plan marked known needed from at → from ≤ spot → spot < length marked → (1 ≤ at) × (at - 1 < length needed) × (spot < ordered.base.cells)
+pub pass-room : (ordered : Ordered) (c : ℕ) (plan : Plan) (marked : List Bool) (known needed : List ℕ) (from at spot : ℕ)
+    → IsPass ordered c plan marked known needed from at → from ≤ spot → spot < length marked → (1 ≤ at) × (at - 1 < length needed) × (spot < ordered.base.cells)
 pass-room ordered c plan marked known needed from at spot pass low high =
     let a = pass.room in
     let b = pass.size in
@@ -100,13 +114,19 @@ pass-room ordered c plan marked known needed from at spot pass low high =
     (omega arith, omega arith, omega arith)
 
 -- the cell that is found at a spot
-pub found-cell : (ordered : Ordered) (plan : Plan) (spot found d : ℕ) → IsValidBase ordered.base → IsOrder ordered.base ordered.sequence → IsPlanOf ordered plan → spot < ordered.base.cells → found ≡ get_or plan.cells.items spot d → (found ≡ get_or (cells_down ordered) spot 0) × (found < ordered.base.cells)
+pub found-cell : (ordered : Ordered) (plan : Plan) (spot found d : ℕ) → IsValidBase ordered.base → IsOrder ordered.base ordered.sequence → IsPlanOf ordered plan
+    → spot < ordered.base.cells → found ≡ get_or plan.cells.items spot d → (found ≡ get_or (cells_down ordered) spot 0) × (found < ordered.base.cells)
 found-cell ordered plan spot found d valid order is low at =
     let long = down-length ordered valid order in
-    let here : found ≡ get_or (cells_down ordered) spot 0 = at ∙ ap (λ (xs : List ℕ). get_or xs spot d) is.cells ∙ get_or_default (cells_down ordered) spot d 0 (omega arith) in
+    let here : found ≡ get_or (cells_down ordered) spot 0 = at ∙ ap (λ (xs : List ℕ). get_or xs spot d) is.cells
+    ∙ get_or_default (cells_down ordered) spot d 0 (omega arith) in
     (here, subst (λ n. n < ordered.base.cells) (sym here) (down-all ordered valid order spot 0 (omega arith)))
 
-pub pass-turn : (ordered : Ordered) (c : ℕ) (plan : Plan) (marked new : List Bool) (known new_known needed : List ℕ) (from at spot found : ℕ) → IsValidBase ordered.base → IsOrder ordered.base ordered.sequence → IsPlanOf ordered plan → IsPass ordered c plan marked known needed from at → IsNext (is_member marked) from spot → spot < length marked → found ≡ get_or (cells_down ordered) spot 0 → Marks plan.spots.items marked new (cell_reads ordered.base found) → IsMarking plan.spots.items new new_known → IsPass ordered c plan new new_known (set needed (at - 1) found) (spot + 1) (at - 1)
+pub pass-turn : (ordered : Ordered) (c : ℕ) (plan : Plan) (marked new : List Bool) (known new_known needed : List ℕ) (from at spot found : ℕ)
+    → IsValidBase ordered.base → IsOrder ordered.base ordered.sequence → IsPlanOf ordered plan → IsPass ordered c plan marked known needed from at
+    → IsNext (is_member marked) from spot → spot < length marked → found ≡ get_or (cells_down ordered) spot 0
+    → Marks plan.spots.items marked new (cell_reads ordered.base found) → IsMarking plan.spots.items new new_known
+    → IsPass ordered c plan new new_known (set needed (at - 1) found) (spot + 1) (at - 1)
 pass-turn ordered c plan marked new known new_known needed from at spot found valid order is pass next high here marks marking =
     let base : Base = ordered.base in
     let later : List ℕ = drop at needed in
@@ -132,7 +152,8 @@ pass-turn ordered c plan marked new known new_known needed from at spot found va
           ∙ ap (λ (xs : List ℕ). is_needed base c xs d) (sym grown);
       rest = ap (λ (xs : List ℕ). needed_along base c xs (drop (spot + 1) cells)) grown
           ∙ sym (along-taken base c found later (drop (spot + 1) cells) needs)
-          ∙ ap (needed_along base c later) (ap (λ n. n ∷ drop (spot + 1) cells) here ∙ ap (λ n. get_or cells spot 0 ∷ drop n cells) (sym one) ∙ sym (drop-cons cells spot 0 (omega arith)))
+          ∙ ap (needed_along base c later) (ap (λ n. n ∷ drop (spot + 1) cells) here ∙ ap (λ n. get_or cells spot 0 ∷ drop n cells) (sym one)
+          ∙ sym (drop-cons cells spot 0 (omega arith)))
           ∙ sym (skip-to base c later cells from spot next.from (omega arith)
           (λ i a b. sym (marked-spot ordered c plan marked known needed from at valid order is pass i (omega arith)) ∙ next.between i a b))
           ∙ pass.rest;
@@ -141,7 +162,9 @@ pass-turn ordered c plan marked new known new_known needed from at spot found va
       before = omega arith;
     }
 
-pub pass-end : (ordered : Ordered) (c : ℕ) (plan : Plan) (marked : List Bool) (known needed : List ℕ) (from at : ℕ) → IsValidBase ordered.base → IsOrder ordered.base ordered.sequence → IsPlanOf ordered plan → IsPass ordered c plan marked known needed from at → ((i : ℕ) → from ≤ i → is_member marked i ≡ false) → drop at needed ≡ needed_cells ordered c
+pub pass-end : (ordered : Ordered) (c : ℕ) (plan : Plan) (marked : List Bool) (known needed : List ℕ) (from at : ℕ) → IsValidBase ordered.base
+    → IsOrder ordered.base ordered.sequence → IsPlanOf ordered plan → IsPass ordered c plan marked known needed from at
+    → ((i : ℕ) → from ≤ i → is_member marked i ≡ false) → drop at needed ≡ needed_cells ordered c
 pass-end ordered c plan marked known needed from at valid order is pass none =
     let base : Base = ordered.base in
     let cells : List ℕ = cells_down ordered in
@@ -153,7 +176,9 @@ pass-end ordered c plan marked known needed from at valid order is pass none =
     ∙ pass.rest
 
 -- what is known is of needed cells
-pub known-needed : (ordered : Ordered) (c : ℕ) (plan : Plan) (marked : List Bool) (known needed : List ℕ) (from at : ℕ) → IsValidBase ordered.base → IsOrder ordered.base ordered.sequence → c < ordered.base.cells → IsPlanOf ordered plan → IsPass ordered c plan marked known needed from at → drop at needed ≡ needed_cells ordered c → (d : ℕ) → (get_or known d 0 ≡ 0 → ⊥) → is_among d (needed_cells ordered c) ≡ true
+pub known-needed : (ordered : Ordered) (c : ℕ) (plan : Plan) (marked : List Bool) (known needed : List ℕ) (from at : ℕ) → IsValidBase ordered.base
+    → IsOrder ordered.base ordered.sequence → c < ordered.base.cells → IsPlanOf ordered plan → IsPass ordered c plan marked known needed from at
+    → drop at needed ≡ needed_cells ordered c → (d : ℕ) → (get_or known d 0 ≡ 0 → ⊥) → is_among d (needed_cells ordered c) ≡ true
 known-needed ordered c plan marked known needed from at valid order low is pass found d some =
     elim (cases_lt d (length known)) [
       | inl here ↦
@@ -175,7 +200,9 @@ known-needed ordered c plan marked known needed from at valid order low is pass 
 -- ---- marks that are taken away
 
 -- one more number is 0, and the others are of the cells that are left
-pub forgotten : (cells known : List ℕ) (i c : ℕ) → i < length cells → c ≡ get_or cells i 0 → ((d : ℕ) → (get_or known d 0 ≡ 0 → ⊥) → is_among d (drop i cells) ≡ true) → (d : ℕ) → (get_or (set known c 0) d 0 ≡ 0 → ⊥) → is_among d (drop (i + 1) cells) ≡ true
+pub forgotten : (cells known : List ℕ) (i c : ℕ) → i < length cells → c ≡ get_or cells i 0
+    → ((d : ℕ) → (get_or known d 0 ≡ 0 → ⊥) → is_among d (drop i cells) ≡ true) → (d : ℕ) → (get_or (set known c 0) d 0 ≡ 0 → ⊥)
+    → is_among d (drop (i + 1) cells) ≡ true
 forgotten cells known i c low is kept d some =
     let one : suc i ≡ i + 1 = omega arith in
     elim (cases_eq d c) [
@@ -193,7 +220,8 @@ forgotten cells known i c low is kept d some =
     zero-set (x ∷ xs) zero = refl
     zero-set (x ∷ xs) (suc k) = zero-set xs k
 
-pub forgotten-all : (cells known : List ℕ) (i : ℕ) → length cells ≤ i → ((d : ℕ) → (get_or known d 0 ≡ 0 → ⊥) → is_among d (drop i cells) ≡ true) → (d : ℕ) → get_or known d 0 ≡ 0
+pub forgotten-all : (cells known : List ℕ) (i : ℕ) → length cells ≤ i → ((d : ℕ) → (get_or known d 0 ≡ 0 → ⊥) → is_among d (drop i cells) ≡ true) → (d : ℕ)
+    → get_or known d 0 ≡ 0
 forgotten-all cells known i low kept d = elim (cases_eq (get_or known d 0) 0) [
   | inl e ↦ e
   | inr n ↦ absurd (clash (subst (λ (xs : List ℕ). is_among d xs ≡ true) (drop_all i cells low) (kept d n)) refl)

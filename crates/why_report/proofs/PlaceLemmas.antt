@@ -30,7 +30,8 @@ places-none base places is size = record {
 }
 
 -- the definition at a position of the list has a cell of the base
-pub place-low : (base : Base) (items : List Definition) (i : ℕ) (d : Definition) → IsValidBase base → items ≡ base.definitions → i < length items → d ≡ get_or items i d → (d.0 < base.cells) × (d.0 ≡ target_at base i) × (i < length base.definitions)
+pub place-low : (base : Base) (items : List Definition) (i : ℕ) (d : Definition) → IsValidBase base → items ≡ base.definitions → i < length items
+    → d ≡ get_or items i d → (d.0 < base.cells) × (d.0 ≡ target_at base i) × (i < length base.definitions)
 place-low base items i d valid same_items low is =
     let here : i < length base.definitions = subst (λ (ds : List Definition). i < length ds) same_items low in
     let at = definition-at base i d here (is ∙ ap (λ (ds : List Definition). get_or ds i d) same_items) in
@@ -38,7 +39,8 @@ place-low base items i d valid same_items low is =
     let e = at.0 in
     (omega arith, e, here)
 
-pub places-more : (base : Base) (places : List ℕ) (i c : ℕ) → c < base.cells → c ≡ target_at base i → ArePlacesSoFar base places i → ArePlacesSoFar base (set places c (i + 1)) (i + 1)
+pub places-more : (base : Base) (places : List ℕ) (i c : ℕ) → c < base.cells → c ≡ target_at base i → ArePlacesSoFar base places i
+    → ArePlacesSoFar base (set places c (i + 1)) (i + 1)
 places-more base places i c low is so_far =
     let size = so_far.size in
     let within : c < length places = omega arith in
@@ -64,7 +66,8 @@ places-more base places i c low is so_far =
     less : (p : ℕ) → p < i + 1 → (p ≡ i → ⊥) → p < i
     less p h n = omega arith
 
-place-of : (base : Base) (places : List ℕ) (c n : ℕ) → IsValidBase base → ArePlacesSoFar base places (length base.definitions) → get_or places c 0 ≡ n → IsPlaceOf base c n
+place-of : (base : Base) (places : List ℕ) (c n : ℕ) → IsValidBase base → ArePlacesSoFar base places (length base.definitions) → get_or places c 0 ≡ n
+    → IsPlaceOf base c n
 place-of base places c zero valid done is = option_cases (definition_of base c)
     (λ (n : definition_of base c ≡ None). n)
     (λ t (s : definition_of base c ≡ Some t). let k = definition_of-position base c t s in absurd (done.missing c k.0 is k.1 k.2))
@@ -80,7 +83,8 @@ places-all base places i valid all so_far = record {
 
 -- ---- looked up
 
-pub place-term : (base : Base) (items : List Definition) (c n : ℕ) (d : Definition) → IsPlaceOf base c n → (n ≡ 0 → ⊥) → items ≡ base.definitions → d ≡ get_or items (n - 1) d → (n - 1 < length items) × (Some d.1 ≡ definition_of base c)
+pub place-term : (base : Base) (items : List Definition) (c n : ℕ) (d : Definition) → IsPlaceOf base c n → (n ≡ 0 → ⊥) → items ≡ base.definitions
+    → d ≡ get_or items (n - 1) d → (n - 1 < length items) × (Some d.1 ≡ definition_of base c)
 place-term base items c zero d place some same_items is = absurd (some refl)
 place-term base items c (suc p) d place some same_items is =
     let at : suc p - 1 ≡ p = omega arith in

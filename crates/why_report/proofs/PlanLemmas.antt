@@ -30,7 +30,8 @@ targets-append base (p ∷ later) further =
     ∙ ap (λ (xs : List ℕ). xs ++ further) (sym (targets-append base later (target_at base p ∷ [])))
 
 -- one position more is gone through, from the last on
-pub targets-turn : (base : Base) (sequence cells : List ℕ) (k c : ℕ) → k < length sequence → c ≡ target_at base (get_or sequence k 0) → cells ≡ targets_down base (drop (k + 1) sequence) [] → cells ++ c ∷ [] ≡ targets_down base (drop k sequence) []
+pub targets-turn : (base : Base) (sequence cells : List ℕ) (k c : ℕ) → k < length sequence → c ≡ target_at base (get_or sequence k 0)
+    → cells ≡ targets_down base (drop (k + 1) sequence) [] → cells ++ c ∷ [] ≡ targets_down base (drop k sequence) []
 targets-turn base sequence cells k c low is so_far =
     let one : suc k ≡ k + 1 = omega arith in
     ap (λ (xs : List ℕ). xs ++ c ∷ []) so_far
@@ -50,10 +51,13 @@ bare-not base n zero is e = absurd (e refl)
 bare-not base n (suc p) is e = ap (λ o. cond (is_some o) (bare_below base n) (n ∷ bare_below base n)) is.1
 
 -- what was added and what is left are all
-pub bare-added : (base : Base) (cells whole : List ℕ) (n place : ℕ) → IsPlaceOf base n place → place ≡ 0 → cells ++ bare_below base (suc n) ≡ whole → (cells ++ n ∷ []) ++ bare_below base n ≡ whole
-bare-added base cells whole n place is e so_far = append-assoc cells (n ∷ []) (bare_below base n) ∙ ap (λ (xs : List ℕ). cells ++ xs) (sym (bare-has base n place is e)) ∙ so_far
+pub bare-added : (base : Base) (cells whole : List ℕ) (n place : ℕ) → IsPlaceOf base n place → place ≡ 0 → cells ++ bare_below base (suc n) ≡ whole
+    → (cells ++ n ∷ []) ++ bare_below base n ≡ whole
+bare-added base cells whole n place is e so_far = append-assoc cells (n ∷ []) (bare_below base n)
+    ∙ ap (λ (xs : List ℕ). cells ++ xs) (sym (bare-has base n place is e)) ∙ so_far
 
-pub bare-passed : (base : Base) (cells whole : List ℕ) (n place : ℕ) → IsPlaceOf base n place → (place ≡ 0 → ⊥) → cells ++ bare_below base (suc n) ≡ whole → cells ++ bare_below base n ≡ whole
+pub bare-passed : (base : Base) (cells whole : List ℕ) (n place : ℕ) → IsPlaceOf base n place → (place ≡ 0 → ⊥) → cells ++ bare_below base (suc n) ≡ whole
+    → cells ++ bare_below base n ≡ whole
 bare-passed base cells whole n place is e so_far = ap (λ (xs : List ℕ). cells ++ xs) (sym (bare-not base n place is e)) ∙ so_far
 
 -- ---- spots
@@ -66,7 +70,8 @@ pub record AreSpotsSoFar (cells spots : List ℕ) (count i : ℕ) : Type 0 where
 pub spots-none : (cells spots : List ℕ) (count : ℕ) → length spots ≡ count → AreSpotsSoFar cells spots count 0
 spots-none cells spots count size = record { size = size; each = λ s h. absurd (omega arith) }
 
-pub spots-next : (cells spots : List ℕ) (count i c : ℕ) → AreDistinctCells cells → All (λ x. x < count) cells → i < length cells → c ≡ get_or cells i 0 → AreSpotsSoFar cells spots count i → AreSpotsSoFar cells (set spots c i) count (i + 1)
+pub spots-next : (cells spots : List ℕ) (count i c : ℕ) → AreDistinctCells cells → All (λ x. x < count) cells → i < length cells → c ≡ get_or cells i 0
+    → AreSpotsSoFar cells spots count i → AreSpotsSoFar cells (set spots c i) count (i + 1)
 spots-next cells spots count i c once within low is so_far = record {
   size = length-set spots c i ∙ so_far.size;
   each = λ s h. elim (cases_eq s i) [
@@ -83,7 +88,8 @@ spots-next cells spots count i c once within low is so_far = record {
 
 -- ---- what a plan says of spots
 
-pub spot-below : (ordered : Ordered) (plan : Plan) (c : ℕ) → IsValidBase ordered.base → IsOrder ordered.base ordered.sequence → IsPlanOf ordered plan → c < ordered.base.cells → (s : ℕ) × (s < ordered.base.cells) × (get_or plan.cells.items s 0 ≡ c) × (get_or plan.spots.items c 0 ≡ s)
+pub spot-below : (ordered : Ordered) (plan : Plan) (c : ℕ) → IsValidBase ordered.base → IsOrder ordered.base ordered.sequence → IsPlanOf ordered plan
+    → c < ordered.base.cells → (s : ℕ) × (s < ordered.base.cells) × (get_or plan.cells.items s 0 ≡ c) × (get_or plan.spots.items c 0 ≡ s)
 spot-below ordered plan c valid order is low =
     let there = (all-left ordered valid order).covers c low refl in
     let at = place-among c (cells_down ordered) there in
@@ -93,7 +99,8 @@ spot-below ordered plan c valid order is low =
     let small : at.0 < length plan.cells.items = omega (arith, ap length is.cells) in
     (at.0, omega arith, here, ap (λ n. get_or plan.spots.items n 0) (sym here) ∙ is.spots at.0 small)
 
-pub plan-spots : (ordered : Ordered) (plan : Plan) → IsValidBase ordered.base → IsOrder ordered.base ordered.sequence → IsPlanOf ordered plan → AreSpots plan.spots.items ordered.base.cells
+pub plan-spots : (ordered : Ordered) (plan : Plan) → IsValidBase ordered.base → IsOrder ordered.base ordered.sequence → IsPlanOf ordered plan
+    → AreSpots plan.spots.items ordered.base.cells
 plan-spots ordered plan valid order is = record {
   within = λ c low.
       let k = spot-below ordered plan c valid order is (omega (arith, is.size)) in

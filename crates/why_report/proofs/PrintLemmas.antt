@@ -17,13 +17,15 @@ line-parts name Undef = refl
 line-parts name (Num amount) = refl
 line-parts name Over = refl
 
-pub named-line : (declared : Declared) (cell owner : ℕ) (v : Variable) (value : Value) → owner ≡ get_or (owners_from 0 declared.variables) cell 0 → slice_get declared.variables owner ≡ Some v → value_line (cell_name declared cell) value ≡ printed_cell cell v ++ value_line [] value
+pub named-line : (declared : Declared) (cell owner : ℕ) (v : Variable) (value : Value) → owner ≡ get_or (owners_from 0 declared.variables) cell 0
+    → slice_get declared.variables owner ≡ Some v → value_line (cell_name declared cell) value ≡ printed_cell cell v ++ value_line [] value
 named-line declared cell owner v value is found =
     ap (λ name. value_line name value) (ap (λ o. option_map_or (printed_cell cell) o []) (ap (slice_get declared.variables) (sym is) ∙ found))
     ∙ line-parts (printed_cell cell v) value
 
 -- from a position on the text begins with the line that stands there
-pub report-at : (declared : Declared) (lines : List ReportLine) (i : ℕ) (line d : ReportLine) → i < length lines → line ≡ get_or lines i d → report_text declared (drop i lines) ≡ value_line (cell_name declared line.cell) line.value ++ report_text declared (drop (i + 1) lines)
+pub report-at : (declared : Declared) (lines : List ReportLine) (i : ℕ) (line d : ReportLine) → i < length lines → line ≡ get_or lines i d
+    → report_text declared (drop i lines) ≡ value_line (cell_name declared line.cell) line.value ++ report_text declared (drop (i + 1) lines)
 report-at declared lines i line d low is =
     ap (report_text declared) (drop_more lines i d low)
     ∙ ap (λ (l : ReportLine). value_line (cell_name declared l.cell) l.value ++ report_text declared (drop (i + 1) lines)) (sym is)

@@ -1,5 +1,6 @@
 -- The cells that are needed stand after all that they read, and their lines are a reason.
-use Rattle.std.proofs.Common.{◌≡◌, ℕ, zero, suc, ◌<◌, ◌≤◌, Bool, true, false, cond, nat_eq, List, [], ◌∷◌, ◌++◌, length, get_or, take, refl, ap, sym, ◌∙◌, subst, inl, inr, ◌⊎◌, arith}
+use Rattle.std.proofs.Common.{◌≡◌, ℕ, zero, suc, ◌<◌, ◌≤◌, Bool, true, false, cond, nat_eq, List, [], ◌∷◌, ◌++◌, length, get_or, take, refl, ap, sym, ◌∙◌}
+use Rattle.std.proofs.Common.{subst, inl, inr, ◌⊎◌, arith}
 use mathlib.Core.Bool.{◌||◌}
 use Rattle.std.specs.List.{All, list_any}
 use Rattle.std.proofs.lemmas.Bool.{cases_lt}
@@ -24,25 +25,37 @@ any_reads base xs d = list_any (λ x. cell_reads base x d) xs
 -- ---- cells after those that they read
 
 -- fewer cells before them suffice, if those that they read are left
-pub following-less : (base : Base) (f g cells : List ℕ) → ((c : ℕ) → is_among c g ≡ true → is_among c f ≡ true) → ((c : ℕ) → any_reads base cells c ≡ true → is_among c f ≡ true → is_among c g ≡ true) → AreFollowing base f cells → AreFollowing base g cells
+pub following-less : (base : Base) (f g cells : List ℕ) → ((c : ℕ) → is_among c g ≡ true → is_among c f ≡ true)
+    → ((c : ℕ) → any_reads base cells c ≡ true → is_among c f ≡ true → is_among c g ≡ true) → AreFollowing base f cells → AreFollowing base g cells
 following-less base f g [] back on h = tt
 following-less base f g (x ∷ cells) back on h = (
   not-true (is_among x g) (λ t. clash (back x t) h.0),
   λ c r. on c (or-left (cell_reads base x c) (any_reads base cells c) (reads-cell base x c r)) (h.1 c r),
   following-less base (x ∷ f) (x ∷ g) cells
-      (λ c k. elim (or-either (nat_eq c x) (is_among c g) k) [ inl y ↦ or-left (nat_eq c x) (is_among c f) y | inr m ↦ or-true (nat_eq c x) (is_among c f) (back c m) ])
-      (λ c r k. elim (or-either (nat_eq c x) (is_among c f) k) [ inl y ↦ or-left (nat_eq c x) (is_among c g) y | inr m ↦ or-true (nat_eq c x) (is_among c g) (on c (or-true (cell_reads base x c) (any_reads base cells c) r) m) ])
+      (λ c k. elim (or-either (nat_eq c x) (is_among c g) k) [
+        | inl y ↦ or-left (nat_eq c x) (is_among c f) y
+        | inr m ↦ or-true (nat_eq c x) (is_among c f)
+            (back c m)
+      ])
+      (λ c r k. elim (or-either (nat_eq c x) (is_among c f) k) [
+        | inl y ↦ or-left (nat_eq c x) (is_among c g) y
+        | inr m ↦ or-true (nat_eq c x) (is_among c g)
+            (on c (or-true (cell_reads base x c) (any_reads base cells c) r) m)
+      ])
       h.2,
 )
 
 -- a step down: the cell is taken, or it is passed
-pub along-taken : (base : Base) (c d : ℕ) (later ds : List ℕ) → is_needed base c later d ≡ true → needed_along base c later (d ∷ ds) ≡ needed_along base c (d ∷ later) ds
+pub along-taken : (base : Base) (c d : ℕ) (later ds : List ℕ) → is_needed base c later d ≡ true
+    → needed_along base c later (d ∷ ds) ≡ needed_along base c (d ∷ later) ds
 along-taken base c d later ds t = ap (λ b. needed_along base c (cond b (d ∷ later) later) ds) t
 
-pub along-passed : (base : Base) (c d : ℕ) (later ds : List ℕ) → is_needed base c later d ≡ false → needed_along base c later (d ∷ ds) ≡ needed_along base c later ds
+pub along-passed : (base : Base) (c d : ℕ) (later ds : List ℕ) → is_needed base c later d ≡ false
+    → needed_along base c later (d ∷ ds) ≡ needed_along base c later ds
 along-passed base c d later ds f = ap (λ b. needed_along base c (cond b (d ∷ later) later) ds) f
 
-pub along-following : (base : Base) (c : ℕ) (later ds : List ℕ) → IsDown base ds → AreFollowing base ds later → AreFollowing base [] (needed_along base c later ds)
+pub along-following : (base : Base) (c : ℕ) (later ds : List ℕ) → IsDown base ds → AreFollowing base ds later
+    → AreFollowing base [] (needed_along base c later ds)
 along-following base c later [] down h = h
 along-following base c later (d ∷ ds) down h = cases (is_needed base c later d)
     (λ (t : is_needed base c later d ≡ true).
@@ -61,7 +74,9 @@ along-following base c later (d ∷ ds) down h = cases (is_needed base c later d
 
 -- ---- all that is needed is found
 
-pub along-closed : (base : Base) (c : ℕ) (later ds : List ℕ) → IsDown base ds → ((e : ℕ) → is_needed base c later e ≡ true → (is_among e later || is_among e ds) ≡ true) → (e : ℕ) → is_needed base c (needed_along base c later ds) e ≡ true → is_among e (needed_along base c later ds) ≡ true
+pub along-closed : (base : Base) (c : ℕ) (later ds : List ℕ) → IsDown base ds
+    → ((e : ℕ) → is_needed base c later e ≡ true → (is_among e later || is_among e ds) ≡ true) → (e : ℕ)
+    → is_needed base c (needed_along base c later ds) e ≡ true → is_among e (needed_along base c later ds) ≡ true
 along-closed base c later [] down h = λ e n. sym (or-none (is_among e later)) ∙ h e n
 along-closed base c later (d ∷ ds) down h = cases (is_needed base c later d)
     (λ (t : is_needed base c later d ≡ true) (e : ℕ).
@@ -104,7 +119,8 @@ along-closed base c later (d ∷ ds) down h = cases (is_needed base c later d)
 
 -- ---- what is found is needed
 
-along-more : (base : Base) (c x : ℕ) (later ds : List ℕ) → is_among c ds ≡ false → AreNeededBy base c (x ∷ later) → AreNeededBy base c (needed_along base c (x ∷ later) ds)
+along-more : (base : Base) (c x : ℕ) (later ds : List ℕ) → is_among c ds ≡ false → AreNeededBy base c (x ∷ later)
+    → AreNeededBy base c (needed_along base c (x ∷ later) ds)
 along-more base c x later [] away h = h
 along-more base c x later (d ∷ ds) away h =
     let k = or-false (nat_eq c d) (is_among c ds) away in
@@ -137,7 +153,8 @@ along-first base c (d ∷ ds) down h = cases (nat_eq d c)
       | inr m ↦ m
     ])))
 
-along-part : (base : Base) (c : ℕ) (later ds : List ℕ) (e : ℕ) → is_among e (needed_along base c later ds) ≡ true → (is_among e later ≡ true) ⊎ (is_among e ds ≡ true)
+along-part : (base : Base) (c : ℕ) (later ds : List ℕ) (e : ℕ) → is_among e (needed_along base c later ds) ≡ true
+    → (is_among e later ≡ true) ⊎ (is_among e ds ≡ true)
 along-part base c later [] e h = inl h
 along-part base c later (d ∷ ds) e h = cases (is_needed base c later d)
     (λ (t : is_needed base c later d ≡ true).
@@ -153,19 +170,28 @@ along-part base c later (d ∷ ds) e h = cases (is_needed base c later d)
 
 -- ---- the needed cells of an ordered base
 
-pub needed-following : (ordered : Ordered) (c : ℕ) → IsValidBase ordered.base → IsOrder ordered.base ordered.sequence → AreFollowing ordered.base [] (needed_cells ordered c)
+pub needed-following : (ordered : Ordered) (c : ℕ) → IsValidBase ordered.base → IsOrder ordered.base ordered.sequence
+    → AreFollowing ordered.base [] (needed_cells ordered c)
 needed-following ordered c valid order = along-following ordered.base c [] (cells_down ordered) (all-left ordered valid order).down tt
 
-pub needed-closed : (ordered : Ordered) (c : ℕ) → IsValidBase ordered.base → IsOrder ordered.base ordered.sequence → c < ordered.base.cells → (e : ℕ) → is_needed ordered.base c (needed_cells ordered c) e ≡ true → is_among e (needed_cells ordered c) ≡ true
+pub needed-closed : (ordered : Ordered) (c : ℕ) → IsValidBase ordered.base → IsOrder ordered.base ordered.sequence → c < ordered.base.cells → (e : ℕ)
+    → is_needed ordered.base c (needed_cells ordered c) e ≡ true → is_among e (needed_cells ordered c) ≡ true
 needed-closed ordered c valid order low =
     let left = all-left ordered valid order in
     along-closed ordered.base c [] (cells_down ordered) left.down
-    (λ e n. elim (or-either (nat_eq e c) false n) [ inl y ↦ left.covers e (subst (λ m. m < ordered.base.cells) (sym (same e c y)) low) refl | inr k ↦ absurd (cc) ])
+    (λ e n. elim (or-either (nat_eq e c) false n) [
+      | inl y ↦ left.covers e (subst (λ m. m < ordered.base.cells) (sym (same e c y)) low) refl
+      | inr k ↦ absurd
+          (cc)
+    ])
 
-pub needed-below : (ordered : Ordered) (c : ℕ) → IsValidBase ordered.base → IsOrder ordered.base ordered.sequence → (e : ℕ) → is_among e (needed_cells ordered c) ≡ true → e < ordered.base.cells
-needed-below ordered c valid order e h = elim (along-part ordered.base c [] (cells_down ordered) e h) [ inl k ↦ absurd (cc) | inr k ↦ (all-left ordered valid order).within e k ]
+pub needed-below : (ordered : Ordered) (c : ℕ) → IsValidBase ordered.base → IsOrder ordered.base ordered.sequence → (e : ℕ)
+    → is_among e (needed_cells ordered c) ≡ true → e < ordered.base.cells
+needed-below ordered c valid order e h = elim (along-part ordered.base c [] (cells_down ordered) e h)
+    [ inl k ↦ absurd (cc) | inr k ↦ (all-left ordered valid order).within e k ]
 
-pub needed-all-below : (ordered : Ordered) (c : ℕ) → IsValidBase ordered.base → IsOrder ordered.base ordered.sequence → All (λ e. e < ordered.base.cells) (needed_cells ordered c)
+pub needed-all-below : (ordered : Ordered) (c : ℕ) → IsValidBase ordered.base → IsOrder ordered.base ordered.sequence
+    → All (λ e. e < ordered.base.cells) (needed_cells ordered c)
 needed-all-below ordered c valid order k d low = needed-below ordered c valid order (get_or (needed_cells ordered c) k d) (at (needed_cells ordered c) k d low)
   where
     at : (xs : List ℕ) (i d : ℕ) → i < length xs → is_among (get_or xs i d) xs ≡ true
@@ -179,11 +205,13 @@ pub reported-append : (lines more : List ReportLine) → reported_cells (lines +
 reported-append [] more = refl
 reported-append (l ∷ lines) more = ap (λ (cs : List ℕ). l.cell ∷ cs) (reported-append lines more)
 
-pub reported-more : (lines : List ReportLine) (line : ReportLine) (c : ℕ) → is_among c (reported_cells (lines ++ line ∷ [])) ≡ (is_among c (reported_cells lines) || (nat_eq c line.cell || false))
+pub reported-more : (lines : List ReportLine) (line : ReportLine) (c : ℕ)
+    → is_among c (reported_cells (lines ++ line ∷ [])) ≡ (is_among c (reported_cells lines) || (nat_eq c line.cell || false))
 reported-more lines line c = ap (is_among c) (reported-append lines (line ∷ [])) ∙ among-append c (reported_cells lines) (line.cell ∷ [])
 
 -- cells that follow one stand after its line
-pub following-line : (base : Base) (lines : List ReportLine) (line : ReportLine) (cells : List ℕ) → AreFollowing base (line.cell ∷ reported_cells lines) cells → AreFollowing base (reported_cells (lines ++ line ∷ [])) cells
+pub following-line : (base : Base) (lines : List ReportLine) (line : ReportLine) (cells : List ℕ) → AreFollowing base (line.cell ∷ reported_cells lines) cells
+    → AreFollowing base (reported_cells (lines ++ line ∷ [])) cells
 following-line base lines line cells h =
     following-less base (line.cell ∷ reported_cells lines) (reported_cells (lines ++ line ∷ [])) cells
     (λ c k. elim (or-either (is_among c (reported_cells lines)) (nat_eq c line.cell || false) (sym (reported-more lines line c) ∙ k)) [
@@ -196,7 +224,8 @@ following-line base lines line cells h =
     ])
     h
 
-pub lines-cells : (base : Base) (given : Environment) (earlier : List ReportLine) (cells : List ℕ) → reported_cells (lines_over base given earlier cells) ≡ reported_cells earlier ++ cells
+pub lines-cells : (base : Base) (given : Environment) (earlier : List ReportLine) (cells : List ℕ)
+    → reported_cells (lines_over base given earlier cells) ≡ reported_cells earlier ++ cells
 lines-cells base given earlier [] = sym (append-none (reported_cells earlier))
   where
     append-none : (xs : List ℕ) → xs ++ [] ≡ xs
@@ -235,7 +264,8 @@ length-more : (xs : List ReportLine) (l : ReportLine) → length (xs ++ l ∷ []
 length-more [] l = refl
 length-more (x ∷ xs) l = ap (λ n. suc n) (length-more xs l)
 
-sound-more : (base : Base) (given : Environment) (lines : List ReportLine) (l : ReportLine) → IsSound base given lines → IsDerived base given lines l → IsSound base given (lines ++ l ∷ [])
+sound-more : (base : Base) (given : Environment) (lines : List ReportLine) (l : ReportLine) → IsSound base given lines → IsDerived base given lines l
+    → IsSound base given (lines ++ l ∷ [])
 sound-more base given lines l sound here p low = elim (cases_lt p (length lines)) [
   | inl less ↦ subst (λ (earlier : List ReportLine). IsDerived base given earlier (line_at (lines ++ l ∷ []) p)) (sym (take-front lines l p (omega arith)))
       (subst (λ (line : ReportLine). IsDerived base given (take p lines) line) (sym (line-front lines l p less)) (sound p less))
@@ -243,11 +273,13 @@ sound-more base given lines l sound here p low = elim (cases_lt p (length lines)
       let long = length-more lines l in
       let is : p ≡ length lines = omega arith in
       subst (λ n. IsDerivedAt base given (lines ++ l ∷ []) n) (sym is)
-      (subst (λ (earlier : List ReportLine). IsDerived base given earlier (line_at (lines ++ l ∷ []) (length lines))) (sym (take-front lines l (length lines) (omega arith) ∙ take-whole lines))
+      (subst (λ (earlier : List ReportLine). IsDerived base given earlier (line_at (lines ++ l ∷ []) (length lines)))
+      (sym (take-front lines l (length lines) (omega arith) ∙ take-whole lines))
       (subst (λ (line : ReportLine). IsDerived base given lines line) (sym (line-last lines l)) here))
 ]
 
-pub lines-sound : (base : Base) (given : Environment) (earlier : List ReportLine) (cells : List ℕ) → IsSound base given earlier → AreFollowing base (reported_cells earlier) cells → IsSound base given (lines_over base given earlier cells)
+pub lines-sound : (base : Base) (given : Environment) (earlier : List ReportLine) (cells : List ℕ) → IsSound base given earlier
+    → AreFollowing base (reported_cells earlier) cells → IsSound base given (lines_over base given earlier cells)
 lines-sound base given earlier [] sound h = sound
 lines-sound base given earlier (c ∷ cells) sound h =
     let line : ReportLine = line_over base given earlier c in
@@ -256,7 +288,8 @@ lines-sound base given earlier (c ∷ cells) sound h =
     (following-line base earlier line cells h.2)
 
 -- the reason of a cell's value
-pub why-reason : (ordered : Ordered) (given : Environment) (c : ℕ) → IsValidBase ordered.base → IsOrder ordered.base ordered.sequence → c < ordered.base.cells → IsReasonOf ordered.base given c (why_lines ordered given c)
+pub why-reason : (ordered : Ordered) (given : Environment) (c : ℕ) → IsValidBase ordered.base → IsOrder ordered.base ordered.sequence → c < ordered.base.cells
+    → IsReasonOf ordered.base given c (why_lines ordered given c)
 why-reason ordered given c valid order low =
     let left = all-left ordered valid order in
     record {
@@ -265,7 +298,8 @@ why-reason ordered given c valid order low =
           (along-first ordered.base c (cells_down ordered) left.down (left.covers c low refl));
     }
 
-pub why-below : (ordered : Ordered) (given : Environment) (c : ℕ) → IsValidBase ordered.base → IsOrder ordered.base ordered.sequence → All (λ line. line.cell < ordered.base.cells) (why_lines ordered given c)
+pub why-below : (ordered : Ordered) (given : Environment) (c : ℕ) → IsValidBase ordered.base → IsOrder ordered.base ordered.sequence
+    → All (λ line. line.cell < ordered.base.cells) (why_lines ordered given c)
 why-below ordered given c valid order k d low =
     needed-below ordered c valid order (get_or lines k d).cell
     (subst (λ (xs : List ℕ). is_among (get_or lines k d).cell xs ≡ true) (lines-cells ordered.base given [] (needed_cells ordered c)) (at lines k d low))

@@ -8,7 +8,8 @@ use Rattle.micro_m.specs.declared.table.Picked.TheVariants.{Cell, Fixed}
 use Rattle.micro_m.specs.Values.{picked}
 use Rattle.micro_m.specs.Reads.{PickReads, TermReads, ArgumentsRead, StepsRead}
 use Rattle.micro_m.proofs.NumberLemmas.{clash}
-use Rattle.why_report.specs.inner.Standing.{is_set, AllStand, KnowsStanding, run_is_marked, picked_is_marked, table_is_marked, term_is_marked, arguments_stand, steps_stand}
+use Rattle.why_report.specs.inner.Standing.{is_set, AllStand, KnowsStanding, run_is_marked, picked_is_marked, table_is_marked, term_is_marked, arguments_stand}
+use Rattle.why_report.specs.inner.Standing.{steps_stand}
 
 -- ---- cells in a row
 
@@ -29,10 +30,12 @@ all-run marks first (suc size) h =
 
 -- one cell that doesn't stand
 pub run-not : (marks : List Bool) (first size c : ℕ) → first ≤ c → c < first + size → is_set marks c ≡ false → run_is_marked marks first size ≡ false
-run-not marks first size c low high f = elim (cases_Bool (run_is_marked marks first size)) [ inl t ↦ absurd (clash (run-all marks first size t c low high) f) | inr g ↦ g ]
+run-not marks first size c low high f = elim (cases_Bool (run_is_marked marks first size))
+    [ inl t ↦ absurd (clash (run-all marks first size t c low high) f) | inr g ↦ g ]
 
 -- so many more cells that are known to stand
-pub knows-more : (marks : List Bool) (known : List ℕ) (first size : ℕ) → KnowsStanding marks known → AllStand marks first size → KnowsStanding marks (set known first size)
+pub knows-more : (marks : List Bool) (known : List ℕ) (first size : ℕ) → KnowsStanding marks known → AllStand marks first size
+    → KnowsStanding marks (set known first size)
 knows-more marks known first size knows all f c low high =
     elim (cases_lt first (length known)) [
       | inl here ↦ elim (cases_eq f first) [
@@ -51,14 +54,16 @@ covers-picked : (marks : List Bool) (p : Picked) → ((c : ℕ) → p ≡ Cell c
 covers-picked marks (Cell c) h = h c refl
 covers-picked marks (Fixed v) h = refl
 
-table-covers : (marks : List Bool) (first size : ℕ) (index : Tree) (c : ℕ) → table_is_marked marks first size index ≡ true → PickReads first size index c → is_set marks c ≡ true
+table-covers : (marks : List Bool) (first size : ℕ) (index : Tree) (c : ℕ) → table_is_marked marks first size index ≡ true → PickReads first size index c
+    → is_set marks c ≡ true
 table-covers marks first size (lit v) c h r = picked-covers marks (picked first size v) c h r
 table-covers marks first size (cell d) c h r = run-all marks first size h c r.0 r.1
 table-covers marks first size (pick g s i) c h r = run-all marks first size h c r.0 r.1
 table-covers marks first size (apply o as') c h r = run-all marks first size h c r.0 r.1
 table-covers marks first size (chain a ss) c h r = run-all marks first size h c r.0 r.1
 
-covers-table : (marks : List Bool) (first size : ℕ) (index : Tree) → ((c : ℕ) → PickReads first size index c → is_set marks c ≡ true) → table_is_marked marks first size index ≡ true
+covers-table : (marks : List Bool) (first size : ℕ) (index : Tree) → ((c : ℕ) → PickReads first size index c → is_set marks c ≡ true)
+    → table_is_marked marks first size index ≡ true
 covers-table marks first size (lit v) h = covers-picked marks (picked first size v) h
 covers-table marks first size (cell d) h = all-run marks first size (λ c low high. h c (low, high))
 covers-table marks first size (pick g s i) h = all-run marks first size (λ c low high. h c (low, high))
@@ -69,8 +74,10 @@ mutual
   pub term-covers : (marks : List Bool) (t : Tree) → term_is_marked marks t ≡ true → (c : ℕ) → TermReads t c → is_set marks c ≡ true
   term-covers marks (lit v) h c r = absurd r
   term-covers marks (cell d) h c r = ap (is_set marks) r ∙ h
-  term-covers marks (pick first size index) h c (inl r) = term-covers marks index (and_parts (term_is_marked marks index) (table_is_marked marks first size index) h).0 c r
-  term-covers marks (pick first size index) h c (inr r) = table-covers marks first size index c (and_parts (term_is_marked marks index) (table_is_marked marks first size index) h).1 r
+  term-covers marks (pick first size index) h c (inl r) = term-covers marks index
+      (and_parts (term_is_marked marks index) (table_is_marked marks first size index) h).0 c r
+  term-covers marks (pick first size index) h c (inr r) = table-covers marks first size index c
+      (and_parts (term_is_marked marks index) (table_is_marked marks first size index) h).1 r
   term-covers marks (apply op all) h c r = arguments-cover marks all h c r
   term-covers marks (chain a steps) h c (inl r) = term-covers marks a (and_parts (term_is_marked marks a) (steps_stand marks steps) h).0 c r
   term-covers marks (chain a steps) h c (inr r) = steps-cover marks steps (and_parts (term_is_marked marks a) (steps_stand marks steps) h).1 c r
@@ -89,14 +96,18 @@ mutual
   pub covers-term : (marks : List Bool) (t : Tree) → ((c : ℕ) → TermReads t c → is_set marks c ≡ true) → term_is_marked marks t ≡ true
   covers-term marks (lit v) h = refl
   covers-term marks (cell d) h = h d refl
-  covers-term marks (pick first size index) h = and_from (term_is_marked marks index) (table_is_marked marks first size index) (covers-term marks index (λ c r. h c (inl r))) (covers-table marks first size index (λ c r. h c (inr r)))
+  covers-term marks (pick first size index) h = and_from (term_is_marked marks index) (table_is_marked marks first size index)
+      (covers-term marks index (λ c r. h c (inl r))) (covers-table marks first size index (λ c r. h c (inr r)))
   covers-term marks (apply op all) h = cover-arguments marks all h
-  covers-term marks (chain a steps) h = and_from (term_is_marked marks a) (steps_stand marks steps) (covers-term marks a (λ c r. h c (inl r))) (cover-steps marks steps (λ c r. h c (inr r)))
+  covers-term marks (chain a steps) h = and_from (term_is_marked marks a) (steps_stand marks steps) (covers-term marks a (λ c r. h c (inl r)))
+      (cover-steps marks steps (λ c r. h c (inr r)))
 
   cover-arguments : (marks : List Bool) (all : Trees) → ((c : ℕ) → ArgumentsRead all c → is_set marks c ≡ true) → arguments_stand marks all ≡ true
   cover-arguments marks none h = refl
-  cover-arguments marks (more a rest) h = and_from (term_is_marked marks a) (arguments_stand marks rest) (covers-term marks a (λ c r. h c (inl r))) (cover-arguments marks rest (λ c r. h c (inr r)))
+  cover-arguments marks (more a rest) h = and_from (term_is_marked marks a) (arguments_stand marks rest) (covers-term marks a (λ c r. h c (inl r)))
+      (cover-arguments marks rest (λ c r. h c (inr r)))
 
   cover-steps : (marks : List Bool) (steps : Steps) → ((c : ℕ) → StepsRead steps c → is_set marks c ≡ true) → steps_stand marks steps ≡ true
   cover-steps marks end h = refl
-  cover-steps marks (step op a rest) h = and_from (term_is_marked marks a) (steps_stand marks rest) (covers-term marks a (λ c r. h c (inl r))) (cover-steps marks rest (λ c r. h c (inr r)))
+  cover-steps marks (step op a rest) h = and_from (term_is_marked marks a) (steps_stand marks rest) (covers-term marks a (λ c r. h c (inl r)))
+      (cover-steps marks rest (λ c r. h c (inr r)))

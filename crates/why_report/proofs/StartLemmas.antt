@@ -1,5 +1,6 @@
 -- The environment at the start: its length, the cells of inputs in it, and what it is when an input is set.
-use Rattle.std.proofs.Common.{◌≡◌, ℕ, zero, suc, ◌+◌, ◌-◌, ◌<◌, ◌≤◌, true, false, cond, List, [], ◌∷◌, ◌++◌, length, get_or, set, drop, slice_get, replicate, Some, refl, ap, sym, ◌∙◌, subst, arith}
+use Rattle.std.proofs.Common.{◌≡◌, ℕ, zero, suc, ◌+◌, ◌-◌, ◌<◌, ◌≤◌, true, false, cond, List, [], ◌∷◌, ◌++◌, length, get_or, set, drop, slice_get, replicate}
+use Rattle.std.proofs.Common.{Some, refl, ap, sym, ◌∙◌, subst, arith}
 use Rattle.std.specs.List.{All}
 use Rattle.std.proofs.lemmas.List.{length-set, get_or-set_same, get_or-set_other, get_or_default, drop_all}
 use Rattle.m_fixed.specs.declared.amount.Value.{Value}
@@ -13,7 +14,8 @@ use Rattle.m_symbols.specs.Declarations.{Declared, inputs_from, placed_from}
 use Rattle.m_symbols.specs.Placed.{items_of, IsPlaced}
 use Rattle.rule_order.specs.declared.ordered.Ordered.{Ordered}
 use Rattle.why_report.specs.declared.line.ReportLine.{ReportLine}
-use Rattle.why_report.specs.Starts.{start_value, input_behind, start_among, start_env, input_cells_among, input_cells, Reporting, with_input, with_lines, IsStart, begun}
+use Rattle.why_report.specs.Starts.{start_value, input_behind, start_among, start_env, input_cells_among, input_cells, Reporting, with_input, with_lines}
+use Rattle.why_report.specs.Starts.{IsStart, begun}
 
 -- ---- lists
 
@@ -62,7 +64,8 @@ value-undef k n m (Constant amount) = refl
 
 start-undef : (k n m : ℕ) (vs : List Variable) → start_among (replicate k Undef) n vs ≡ start_among [] m vs
 start-undef k n m [] = refl
-start-undef k n m (v ∷ vs) = λ i. replicate v.cells (value-undef k n m v.item.role i) ++ start-undef k (input_behind n v.item.role) (input_behind m v.item.role) vs i
+start-undef k n m (v ∷ vs) = λ i. replicate v.cells (value-undef k n m v.item.role i) ++ start-undef k (input_behind n v.item.role) (input_behind m v.item.role)
+    vs i
 
 pub env-undef : (declared : Declared) (k : ℕ) → start_env declared (replicate k Undef) ≡ start_env declared []
 env-undef declared k = start-undef k 0 0 declared.variables
@@ -76,7 +79,9 @@ variable-at (w ∷ vs) (suc n) v low at =
     let is : suc n + 1 ≡ suc (n + 1) = omega arith in
     variable-at vs n v (omega arith) at ∙ ap (λ m. v ∷ drop m (w ∷ vs)) (sym is)
 
-pub start-turn : (vs : List Variable) (n : ℕ) (v : Variable) (env added whole : List Value) → n < length vs → slice_get vs n ≡ Some v → added ≡ env ++ replicate v.cells (start_value [] 0 v.item.role) → env ++ start_among [] 0 (drop n vs) ≡ whole → added ++ start_among [] 0 (drop (n + 1) vs) ≡ whole
+pub start-turn : (vs : List Variable) (n : ℕ) (v : Variable) (env added whole : List Value) → n < length vs → slice_get vs n ≡ Some v
+    → added ≡ env ++ replicate v.cells (start_value [] 0 v.item.role) → env ++ start_among [] 0 (drop n vs) ≡ whole
+    → added ++ start_among [] 0 (drop (n + 1) vs) ≡ whole
 start-turn vs n v env added whole low at is so_far =
     let rest : List Variable = drop (n + 1) vs in
     ap (λ (l : List Value). l ++ start_among [] 0 rest) is
@@ -88,7 +93,8 @@ start-turn vs n v env added whole low at is so_far =
 pub start-end : (vs : List Variable) (n : ℕ) (env whole : List Value) → length vs ≤ n → env ++ start_among [] 0 (drop n vs) ≡ whole → env ≡ whole
 start-end vs n env whole low so_far = sym (append-none env) ∙ sym (ap (λ (l : List Variable). env ++ start_among [] 0 l) (drop_all n vs low)) ∙ so_far
 
-pub cells-taken : (vs : List Variable) (n : ℕ) (v : Variable) (cells whole : List ℕ) → n < length vs → slice_get vs n ≡ Some v → is_input v.item.role ≡ true → cells ++ input_cells_among (drop n vs) ≡ whole → (cells ++ v.first_cell ∷ []) ++ input_cells_among (drop (n + 1) vs) ≡ whole
+pub cells-taken : (vs : List Variable) (n : ℕ) (v : Variable) (cells whole : List ℕ) → n < length vs → slice_get vs n ≡ Some v → is_input v.item.role ≡ true
+    → cells ++ input_cells_among (drop n vs) ≡ whole → (cells ++ v.first_cell ∷ []) ++ input_cells_among (drop (n + 1) vs) ≡ whole
 cells-taken vs n v cells whole low at t so_far =
     let rest : List ℕ = input_cells_among (drop (n + 1) vs) in
     cells-assoc cells (v.first_cell ∷ []) rest
@@ -96,7 +102,8 @@ cells-taken vs n v cells whole low at t so_far =
     ∙ sym (ap (λ (l : List Variable). cells ++ input_cells_among l) (variable-at vs n v low at))
     ∙ so_far
 
-pub cells-passed : (vs : List Variable) (n : ℕ) (v : Variable) (cells whole : List ℕ) → n < length vs → slice_get vs n ≡ Some v → is_input v.item.role ≡ false → cells ++ input_cells_among (drop n vs) ≡ whole → cells ++ input_cells_among (drop (n + 1) vs) ≡ whole
+pub cells-passed : (vs : List Variable) (n : ℕ) (v : Variable) (cells whole : List ℕ) → n < length vs → slice_get vs n ≡ Some v → is_input v.item.role ≡ false
+    → cells ++ input_cells_among (drop n vs) ≡ whole → cells ++ input_cells_among (drop (n + 1) vs) ≡ whole
 cells-passed vs n v cells whole low at f so_far =
     let rest : List ℕ = input_cells_among (drop (n + 1) vs) in
     sym (ap (λ b. cells ++ cond b (v.first_cell ∷ rest) rest) f)
@@ -110,13 +117,16 @@ cells-end vs n cells whole low so_far = sym (append-none cells) ∙ sym (ap (λ 
 
 -- the cells of the inputs of a variable with this role and of those after it, and what their cells begin with
 abbrev role-cells : Role → ℕ → List VariableItem → List ℕ
-role-cells role first items = cond (is_input role) (first ∷ input_cells_among (placed_from (first + cells_in (size_in role)) items)) (input_cells_among (placed_from (first + cells_in (size_in role)) items))
+role-cells role first items = cond (is_input role) (first ∷ input_cells_among (placed_from (first + cells_in (size_in role)) items))
+    (input_cells_among (placed_from (first + cells_in (size_in role)) items))
 
 abbrev role-env : Role → List Value → ℕ → ℕ → List VariableItem → List Value
-role-env role inputs n first items = replicate (cells_in (size_in role)) (start_value inputs n role) ++ start_among inputs (input_behind n role) (placed_from (first + cells_in (size_in role)) items)
+role-env role inputs n first items = replicate (cells_in (size_in role)) (start_value inputs n role) ++ start_among inputs (input_behind n role)
+    (placed_from (first + cells_in (size_in role)) items)
 
 abbrev role-inputs : Role → ℕ → ℕ → List VariableItem → List ℕ
-role-inputs role m first items = cond (is_input role) (m ∷ inputs_from (m + 1) (placed_from (first + cells_in (size_in role)) items)) (inputs_from (m + 1) (placed_from (first + cells_in (size_in role)) items))
+role-inputs role m first items = cond (is_input role) (m ∷ inputs_from (m + 1) (placed_from (first + cells_in (size_in role)) items))
+    (inputs_from (m + 1) (placed_from (first + cells_in (size_in role)) items))
 
 abbrev cell-of : ℕ → List VariableItem → ℕ → ℕ
 cell-of first items j = get_or (input_cells_among (placed_from first items)) j 0
@@ -125,7 +135,8 @@ abbrev count-of : ℕ → List VariableItem → ℕ
 count-of first items = length (input_cells_among (placed_from first items))
 
 -- there are as many as inputs
-long-role : (role : Role) (items : List VariableItem) → ((m first : ℕ) → count-of first items ≡ length (inputs_from m (placed_from first items))) → (m first : ℕ) → length (role-cells role first items) ≡ length (role-inputs role m first items)
+long-role : (role : Role) (items : List VariableItem) → ((m first : ℕ) → count-of first items ≡ length (inputs_from m (placed_from first items)))
+    → (m first : ℕ) → length (role-cells role first items) ≡ length (role-inputs role m first items)
 long-role (Input code) items h m first = ap suc (h (m + 1) (first + 1))
 long-role (Computed size) items h m first = h (m + 1) (first + cells_in size)
 long-role (Constant amount) items h m first = h (m + 1) (first + 1)
@@ -142,9 +153,11 @@ inputs-long declared placed =
 
 -- each is one of the cells
 abbrev Bounds : List VariableItem → Type 0
-Bounds items = (inputs : List Value) (n first j : ℕ) → j < count-of first items → (first ≤ cell-of first items j) × (cell-of first items j < first + length (start_among inputs n (placed_from first items)))
+Bounds items = (inputs : List Value) (n first j : ℕ) → j < count-of first items → (first ≤ cell-of first items j)
+    × (cell-of first items j < first + length (start_among inputs n (placed_from first items)))
 
-bounds-role : (role : Role) (items : List VariableItem) → Bounds items → (inputs : List Value) (n first j : ℕ) → j < length (role-cells role first items) → (first ≤ get_or (role-cells role first items) j 0) × (get_or (role-cells role first items) j 0 < first + length (role-env role inputs n first items))
+bounds-role : (role : Role) (items : List VariableItem) → Bounds items → (inputs : List Value) (n first j : ℕ) → j < length (role-cells role first items)
+    → (first ≤ get_or (role-cells role first items) j 0) × (get_or (role-cells role first items) j 0 < first + length (role-env role inputs n first items))
 bounds-role (Input code) items h inputs n first zero low = (omega arith, omega arith)
 bounds-role (Input code) items h inputs n first (suc j) low =
     let k = h inputs (n + 1) (first + 1) j (omega arith) in (omega (arith, k.0), omega (arith, k.1))
@@ -163,7 +176,8 @@ pub inputs-within : (declared : Declared) (inputs : List Value) → IsPlaced dec
 inputs-within declared inputs placed =
     subst (λ (vs : List Variable). All (λ c. c < length (start_among inputs 0 vs)) (input_cells_among vs)) (sym placed)
     (λ k d low. let b = bounds-of (items_of declared.variables) inputs 0 0 k low in
-    subst (λ c. c < length (start_among inputs 0 (placed_from 0 (items_of declared.variables)))) (get_or_default (input_cells_among (placed_from 0 (items_of declared.variables))) k 0 d low) (omega (arith, b.1)))
+    subst (λ c. c < length (start_among inputs 0 (placed_from 0 (items_of declared.variables))))
+    (get_or_default (input_cells_among (placed_from 0 (items_of declared.variables))) k 0 d low) (omega (arith, b.1)))
 
 -- ---- an input is set
 
@@ -179,12 +193,16 @@ behind-least m n (Constant amount) low = low
 
 start-later : (inputs : List Value) (m n : ℕ) (v : Value) (vs : List Variable) → m < n → start_among (set inputs m v) n vs ≡ start_among inputs n vs
 start-later inputs m n v [] low = refl
-start-later inputs m n v (w ∷ vs) low = λ i. replicate w.cells (value-later inputs m n v w.item.role low i) ++ start-later inputs m (input_behind n w.item.role) v vs (behind-least m n w.item.role low) i
+start-later inputs m n v (w ∷ vs) low = λ i. replicate w.cells (value-later inputs m n v w.item.role low i) ++ start-later inputs m (input_behind n w.item.role)
+    v vs (behind-least m n w.item.role low) i
 
 abbrev Sets : List VariableItem → Type 0
-Sets items = (inputs : List Value) (n first j : ℕ) (v : Value) → j < count-of first items → n + j < length inputs → set (start_among inputs n (placed_from first items)) (cell-of first items j - first) v ≡ start_among (set inputs (n + j) v) n (placed_from first items)
+Sets items = (inputs : List Value) (n first j : ℕ) (v : Value) → j < count-of first items → n + j < length inputs
+    → set (start_among inputs n (placed_from first items)) (cell-of first items j - first) v ≡ start_among (set inputs (n + j) v) n (placed_from first items)
 
-sets-role : (role : Role) (items : List VariableItem) → Bounds items → Sets items → (inputs : List Value) (n first j : ℕ) (v : Value) → j < length (role-cells role first items) → n + j < length inputs → set (role-env role inputs n first items) (get_or (role-cells role first items) j 0 - first) v ≡ role-env role (set inputs (n + j) v) n first items
+sets-role : (role : Role) (items : List VariableItem) → Bounds items → Sets items → (inputs : List Value) (n first j : ℕ) (v : Value)
+    → j < length (role-cells role first items) → n + j < length inputs
+    → set (role-env role inputs n first items) (get_or (role-cells role first items) j 0 - first) v ≡ role-env role (set inputs (n + j) v) n first items
 sets-role (Input code) items b h inputs n first zero v low few =
     let none : first - first ≡ 0 = omega arith in
     let same : n + 0 ≡ n = omega arith in
@@ -200,7 +218,8 @@ sets-role (Input code) items b h inputs n first (suc j) v low few =
     let rest : List Value = start_among inputs (n + 1) (placed_from (first + 1) items) in
     ap (λ m. set (get_or inputs n Undef ∷ rest) m v) is
     ∙ (λ i. get_or inputs n Undef ∷ h inputs (n + 1) (first + 1) j v (omega arith) (omega arith) i)
-    ∙ (λ i. sym (get_or-set_other inputs (n + suc j) n v Undef (λ e. absurd (omega (arith, e)))) i ∷ start_among (set inputs (next i) v) (n + 1) (placed_from (first + 1) items))
+    ∙ (λ i. sym (get_or-set_other inputs (n + suc j) n v Undef (λ e. absurd (omega (arith, e)))) i ∷ start_among (set inputs (next i) v) (n + 1)
+    (placed_from (first + 1) items))
 sets-role (Computed size) items b h inputs n first j v low few =
     let at : ℕ = first + cells_in size in
     let k = b inputs n at j low in
@@ -221,12 +240,15 @@ sets-role (Constant amount) items b h inputs n first j v low few =
 
 sets-of : (items : List VariableItem) → Sets items
 sets-of [] inputs n first j v low few = absurd (omega arith)
-sets-of (item ∷ items) inputs n first j v low few = sets-role item.role items (bounds-of items) (λ is m f i w a c. sets-of items is m f i w a c) inputs n first j v low few
+sets-of (item ∷ items) inputs n first j v low few = sets-role item.role items (bounds-of items) (λ is m f i w a c. sets-of items is m f i w a c) inputs n first
+    j v low few
 
-start-set : (declared : Declared) (inputs : List Value) (input : ℕ) (v : Value) → IsPlaced declared → length inputs ≡ length (inputs_from 0 declared.variables) → input < length inputs → set (start_env declared inputs) (get_or (input_cells declared) input 0) v ≡ start_env declared (set inputs input v)
+start-set : (declared : Declared) (inputs : List Value) (input : ℕ) (v : Value) → IsPlaced declared → length inputs ≡ length (inputs_from 0 declared.variables)
+    → input < length inputs → set (start_env declared inputs) (get_or (input_cells declared) input 0) v ≡ start_env declared (set inputs input v)
 start-set declared inputs input v placed size low =
     let items : List VariableItem = items_of declared.variables in
-    let long : count-of 0 items ≡ length inputs = sym (size ∙ sym (inputs-long declared placed) ∙ ap (λ (vs : List Variable). length (input_cells_among vs)) placed) in
+    let long : count-of 0 items ≡ length inputs = sym (size ∙ sym (inputs-long declared placed)
+    ∙ ap (λ (vs : List Variable). length (input_cells_among vs)) placed) in
     let none : cell-of 0 items input - 0 ≡ cell-of 0 items input = omega arith in
     let same : 0 + input ≡ input = omega arith in
     ap (λ (vs : List Variable). set (start_among inputs 0 vs) (get_or (input_cells_among vs) input 0) v) placed
@@ -235,7 +257,8 @@ start-set declared inputs input v placed size low =
     ∙ ap (λ m. start_among (set inputs m v) 0 (placed_from 0 items)) same
     ∙ sym (ap (start_among (set inputs input v) 0) placed)
 
-pub put-start : (declared : Declared) (held : Reporting) (input : ℕ) (v : Value) → input < length held.inputs → IsStart declared held → IsStart declared (with_input held input v)
+pub put-start : (declared : Declared) (held : Reporting) (input : ℕ) (v : Value) → input < length held.inputs → IsStart declared held
+    → IsStart declared (with_input held input v)
 put-start declared held input v low is = record {
   placed = is.placed;
   cells = is.cells;
@@ -253,7 +276,8 @@ lines-start declared held lines is = record { placed = is.placed; cells = is.cel
 abbrev pub held : Ordered → List ℕ → List Value → List Value → Reporting
 held ordered cells inputs env = record { ordered = ordered; input_cells = cells; inputs = inputs; env = env; lines = [] }
 
-pub begun-is : (ordered : Ordered) (declared : Declared) (cells : List ℕ) (inputs env : List Value) → IsPlaced declared → cells ≡ input_cells declared → inputs ≡ replicate (length cells) Undef → env ≡ start_env declared [] → held ordered cells inputs env ≡ begun ordered declared
+pub begun-is : (ordered : Ordered) (declared : Declared) (cells : List ℕ) (inputs env : List Value) → IsPlaced declared → cells ≡ input_cells declared
+    → inputs ≡ replicate (length cells) Undef → env ≡ start_env declared [] → held ordered cells inputs env ≡ begun ordered declared
 begun-is ordered declared cells inputs env placed cells_are inputs_are env_is =
     let k : ℕ = length (inputs_from 0 declared.variables) in
     let long : length cells ≡ k = ap length cells_are ∙ inputs-long declared placed in
@@ -266,7 +290,8 @@ replicate-long (suc n) = ap suc (replicate-long n)
 pub begun-start : (ordered : Ordered) (declared : Declared) → IsPlaced declared → IsStart declared (begun ordered declared)
 begun-start ordered declared placed = record { placed = placed; cells = refl; size = replicate-long (length (inputs_from 0 declared.variables)); env = refl }
 
-pub begun-within : (declared : Declared) (cells : List ℕ) (env : List Value) → IsPlaced declared → cells ≡ input_cells declared → env ≡ start_env declared [] → All (λ c. c < length env) cells
+pub begun-within : (declared : Declared) (cells : List ℕ) (env : List Value) → IsPlaced declared → cells ≡ input_cells declared → env ≡ start_env declared []
+    → All (λ c. c < length env) cells
 begun-within declared cells env placed cells_are env_is =
     subst (λ (xs : List ℕ). All (λ c. c < length env) xs) (sym cells_are)
     (subst (λ (vs : List Value). All (λ c. c < length vs) (input_cells declared)) (sym env_is) (inputs-within declared [] placed))

@@ -21,7 +21,8 @@ pub fn term_is_marked(term: &MTerm, marks: &[bool], known: &mut [usize]) -> bool
         MNode::Lit(_) => true,
         MNode::Cell(cell) => marks[*cell as usize],
         MNode::Pick(first, size, index) => {
-            term_is_marked(index, marks, known) && table_is_marked(*first, *size, index, marks, known)
+            term_is_marked(index, marks, known)
+                && table_is_marked(*first, *size, index, marks, known)
         }
         MNode::Apply(_, arguments) => arguments_stand(arguments, marks, known),
         MNode::Chain(first, steps) => {
@@ -64,7 +65,13 @@ fn steps_stand(steps: &[Step], marks: &[bool], known: &mut [usize]) -> bool
 
 /// Whether all stands that a table read reads of its table: at a literal the one cell that it comes to, if it comes to one, and else
 /// all cells.
-fn table_is_marked(first: u32, size: u32, index: &MTerm, marks: &[bool], known: &mut [usize]) -> bool
+fn table_is_marked(
+    first: u32,
+    size: u32,
+    index: &MTerm,
+    marks: &[bool],
+    known: &mut [usize],
+) -> bool
     requires within { first + size ≤ length marks.now }
     requires size { length known.old ≡ length marks.now }
     requires knows { KnowsStanding marks.now known.old }

@@ -1,5 +1,6 @@
 -- What a line does to the values of the inputs, put into a list that has them too.
-use Rattle.std.proofs.Common.{◌≡◌, ℕ, ℤ, ◌+◌, ◌<◌, zero, suc, List, [], ◌∷◌, ◌++◌, length, take, set, Bool, true, false, cond, Option, Some, Result, Ok, Err, refl, sym, ap, ◌∙◌, subst, arith}
+use Rattle.std.proofs.Common.{◌≡◌, ℕ, ℤ, ◌+◌, ◌<◌, zero, suc, List, [], ◌∷◌, ◌++◌, length, take, set, Bool, true, false, cond, Option, Some, Result, Ok, Err}
+use Rattle.std.proofs.Common.{refl, sym, ap, ◌∙◌, subst, arith}
 use Rattle.std.proofs.lemmas.Grind.{take-set_at}
 use Rattle.std.proofs.lemmas.List.{take_more}
 use Rattle.m_fixed.specs.declared.amount.Value.{Value}
@@ -29,11 +30,13 @@ set_put (x ∷ l) zero v = refl
 set_put (x ∷ l) (suc n) v = ap (λ rest. x ∷ rest) (set_put l n v)
 
 set_kept : (inputs : List Coded) (values : List Value) (input : ℕ) (read : Result ℤ AmountFault)
-    → set values input (value_at (values_edited values (parsed_set inputs (Some input) read)) input) ≡ values_edited values (parsed_set inputs (Some input) read)
+    → set values input (value_at (values_edited values (parsed_set inputs (Some input) read)) input) ≡ values_edited values
+    (parsed_set inputs (Some input) read)
 set_kept inputs values input (Err why) = set_same values input
 set_kept inputs values input (Ok z) = by (is_fitting inputs (input, z))
   where
-    by : (b : Bool) → set values input (value_at (values_edited values (cond b (Ok (input, Num z)) (Err NotOfType))) input) ≡ values_edited values (cond b (Ok (input, Num z)) (Err NotOfType))
+    by : (b : Bool) → set values input (value_at (values_edited values (cond b (Ok (input, Num z)) (Err NotOfType))) input) ≡ values_edited values
+        (cond b (Ok (input, Num z)) (Err NotOfType))
     by true = set_put values input (Num z)
     by false = set_same values input
 
@@ -46,7 +49,8 @@ named_edit showing values (sets code amount) input is =
     ≡ values_edited values (parsed_set showing.inputs found (amount_read (text_value amount)))) (sym is)
     (set_kept showing.inputs values input (amount_read (text_value amount)))
 named_edit showing values (clears code) input is =
-    subst (λ (found : Option ℕ). set values input (value_at (values_edited values (parsed_clear found)) input) ≡ values_edited values (parsed_clear found)) (sym is)
+    subst (λ (found : Option ℕ). set values input (value_at (values_edited values (parsed_clear found)) input) ≡ values_edited values (parsed_clear found))
+    (sym is)
     (set_put values input Undef)
 named_edit showing values shows input is = absurd (cc is)
 named_edit showing values too_long input is = absurd (cc is)
@@ -54,9 +58,11 @@ named_edit showing values bad input is = absurd (cc is)
 
 -- ---- values that are put one after another
 
-pub put_next : (l values : List Value) (n : ℕ) → n < length l → length l ≡ length values → take n l ≡ take n values → take (n + 1) (set l n (value_at values n)) ≡ take (n + 1) values
+pub put_next : (l values : List Value) (n : ℕ) → n < length l → length l ≡ length values → take n l ≡ take n values
+    → take (n + 1) (set l n (value_at values n)) ≡ take (n + 1) values
 put_next l values n few same is =
-    take-set_at l n (n + 1) (value_at values n) refl few ∙ ap (λ front. front ++ value_at values n ∷ []) is ∙ sym (take_more values n Undef (omega (arith, few, same)))
+    take-set_at l n (n + 1) (value_at values n) refl few ∙ ap (λ front. front ++ value_at values n ∷ []) is
+    ∙ sym (take_more values n Undef (omega (arith, few, same)))
 
 -- there is a value for each input
 pub as_many : (inputs : List Coded) (values : List Value) → AreValuesOf inputs values → length inputs ≡ length values

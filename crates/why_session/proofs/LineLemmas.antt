@@ -26,12 +26,14 @@ pub why_then : (showing : Showing) (explains : Explaining) (values : List Value)
 why_then showing explains values first name lines is = ap (requested_replies showing explains values first lines) is
 
 -- where no line asks why
-pub without_why : (showing : Showing) (explains : Explaining) (values : List Value) (lines : List (List ℕ)) → AllByRecursion (λ line. why_name line ≡ None) lines
+pub without_why : (showing : Showing) (explains : Explaining) (values : List Value) (lines : List (List ℕ))
+    → AllByRecursion (λ line. why_name line ≡ None) lines
     → explained_replies showing explains values lines ≡ lines_replies showing values lines
 without_why showing explains values [] none = refl
 without_why showing explains values (first ∷ lines) none =
     line_then showing explains values first lines none.0
-    ∙ ap (λ rest. command_reply showing values (session_command first) ++ rest) (without_why showing explains (command_values showing values (session_command first)) lines none.1)
+    ∙ ap (λ rest. command_reply showing values (session_command first) ++ rest)
+    (without_why showing explains (command_values showing values (session_command first)) lines none.1)
 
 -- the replies to lines begin with those to the first of them
 pub replies-begin : (showing : Showing) (explains : Explaining) (values : List Value) (front lines : List (List ℕ))
@@ -41,5 +43,6 @@ replies-begin showing explains values (first ∷ front) lines =
     let more = replies-begin showing explains (explained_values showing values first) front lines in (
       more.0,
       ap (λ text. explained_reply showing explains values first ++ text) more.1
-          ∙ sym (append_assoc (explained_reply showing explains values first) (explained_replies showing explains (explained_values showing values first) front) more.0),
+          ∙ sym (append_assoc (explained_reply showing explains values first) (explained_replies showing explains (explained_values showing values first) front)
+          more.0),
     )

@@ -25,20 +25,28 @@ use Rattle.why_session.proofs.EditLemmas.{named_edit}
 -- ---- a reason
 
 -- the lines that the reporter finds are what is told of the name
-pub reported_why : (joined : Joined) (name : List ℕ) (c : ℕ) (lines : List ReportLine) → AreJoined joined.seated joined.reporting joined.declared → request_cell joined.declared name ≡ Some c
+pub reported_why : (joined : Joined) (name : List ℕ) (c : ℕ) (lines : List ReportLine) → AreJoined joined.seated joined.reporting joined.declared
+    → request_cell joined.declared name ≡ Some c
     → lines ≡ why_lines joined.reporting.ordered (environment joined.reporting.env) c → explains_in joined name ≡ report_lines_of joined.declared lines
 reported_why joined name c lines parts is found =
-    ap (λ o. option_map_or (λ d. report_lines_of joined.declared (why_lines joined.reporting.ordered (environment (start_env joined.declared joined.seated.sitting.values)) d)) o (line (codes "refused unknown variable"))) is
-    ∙ ap (λ (env : List Value). report_lines_of joined.declared (why_lines joined.reporting.ordered (environment env) c)) (sym (parts.start.env ∙ ap (start_env joined.declared) parts.same))
+    ap (λ o. option_map_or (λ d. report_lines_of joined.declared
+    (why_lines joined.reporting.ordered (environment (start_env joined.declared joined.seated.sitting.values)) d)) o
+    (line (codes "refused unknown variable"))) is
+    ∙ ap (λ (env : List Value). report_lines_of joined.declared (why_lines joined.reporting.ordered (environment env) c))
+    (sym (parts.start.env ∙ ap (start_env joined.declared) parts.same))
     ∙ ap (report_lines_of joined.declared) (sym found)
 
 -- of a name that no cell has
-pub reported_unknown : (joined : Joined) (name : List ℕ) → request_cell joined.declared name ≡ None → explains_in joined name ≡ line (codes "refused unknown variable")
+pub reported_unknown : (joined : Joined) (name : List ℕ) → request_cell joined.declared name ≡ None
+    → explains_in joined name ≡ line (codes "refused unknown variable")
 reported_unknown joined name is =
-    ap (λ o. option_map_or (λ d. report_lines_of joined.declared (why_lines joined.reporting.ordered (environment (start_env joined.declared joined.seated.sitting.values)) d)) o (line (codes "refused unknown variable"))) is
+    ap (λ o. option_map_or (λ d. report_lines_of joined.declared
+    (why_lines joined.reporting.ordered (environment (start_env joined.declared joined.seated.sitting.values)) d)) o
+    (line (codes "refused unknown variable"))) is
 
 -- lines that were found leave all else
-pub found_stays : (seated : Seated) (reporting new : Reporting) (declared : Declared) (lines : List ReportLine) → AreJoined seated reporting declared → new ≡ with_lines reporting lines
+pub found_stays : (seated : Seated) (reporting new : Reporting) (declared : Declared) (lines : List ReportLine) → AreJoined seated reporting declared
+    → new ≡ with_lines reporting lines
     → IsStart declared new → AreJoined seated new declared
 found_stays seated reporting new declared lines parts is start = record {
   start = start;
@@ -48,7 +56,8 @@ found_stays seated reporting new declared lines parts is start = record {
 }
 
 pub replies_stay : (seated : Seated) (reporting new : Reporting) (declared : Declared) (lines : List ReportLine) → new ≡ with_lines reporting lines
-    → joined_replies (record { seated = seated; reporting = new; declared = declared }) ≡ joined_replies (record { seated = seated; reporting = reporting; declared = declared })
+    → joined_replies (record { seated = seated; reporting = new; declared = declared }) ≡ joined_replies
+    (record { seated = seated; reporting = reporting; declared = declared })
 replies_stay seated reporting new declared lines is =
     ap (λ (r : Reporting). joined_replies (record { seated = seated; reporting = r; declared = declared })) is
 
@@ -64,19 +73,22 @@ line_put seated later reporting new declared bytes input parts after named put s
       ∙ ap (λ (s : Sitting). set seated.sitting.values input (value_at s.values input)) after
       ∙ named_edit (showing_of seated.sitting) seated.sitting.values (session_command bytes) input named
       ∙ sym (ap (λ (s : Sitting). s.values) after);
-  values = subst (λ (s : Sitting). AreValuesOf s.face.inputs s.values) (sym after) (command_keeps (showing_of seated.sitting) seated.sitting.values (session_command bytes) parts.values);
+  values = subst (λ (s : Sitting). AreValuesOf s.face.inputs s.values) (sym after)
+      (command_keeps (showing_of seated.sitting) seated.sitting.values (session_command bytes) parts.values);
   cells = ap (λ (r : Reporting). r.ordered.base.cells) put ∙ parts.cells;
 }
 
 -- the replies go on from the session after a line
-pub line_goes_on : (joined later : Joined) (bytes : List ℕ) → why_name bytes ≡ None → later.seated.sitting ≡ after_line joined.seated.sitting bytes → later.declared ≡ joined.declared
+pub line_goes_on : (joined later : Joined) (bytes : List ℕ) → why_name bytes ≡ None → later.seated.sitting ≡ after_line joined.seated.sitting bytes
+    → later.declared ≡ joined.declared
     → later.reporting.ordered ≡ joined.reporting.ordered → (lines : List (List ℕ))
     → joined_replies joined (bytes ∷ lines) ≡ reply_of joined.seated.sitting bytes ++ joined_replies later lines
 line_goes_on joined later bytes none after declared ordered lines =
     line_then (showing_of joined.seated.sitting) (explains_by joined.declared joined.reporting.ordered) joined.seated.sitting.values bytes lines none
     ∙ sym (λ i. reply_of joined.seated.sitting bytes ++ explained_replies (showing_of (after i)) (explains_by (declared i) (ordered i)) (after i).values lines)
 
-pub why_goes_on : (joined later : Joined) (bytes name : List ℕ) → why_name bytes ≡ Some name → joined_replies later ≡ joined_replies joined → (lines : List (List ℕ))
+pub why_goes_on : (joined later : Joined) (bytes name : List ℕ) → why_name bytes ≡ Some name → joined_replies later ≡ joined_replies joined
+    → (lines : List (List ℕ))
     → joined_replies joined (bytes ∷ lines) ≡ explains_in joined name ++ joined_replies later lines
 why_goes_on joined later bytes name is same lines =
     why_then (showing_of joined.seated.sitting) (explains_by joined.declared joined.reporting.ordered) joined.seated.sitting.values bytes name lines is

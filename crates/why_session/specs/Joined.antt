@@ -25,4 +25,5 @@ explains_in joined name = explains_by joined.declared joined.reporting.ordered j
 
 -- The replies to lines.
 abbrev pub joined_replies : Joined → List (List ℕ) → List ℕ
-joined_replies joined lines = explained_replies (showing_of joined.seated.sitting) (explains_by joined.declared joined.reporting.ordered) joined.seated.sitting.values lines
+joined_replies joined lines = explained_replies (showing_of joined.seated.sitting) (explains_by joined.declared joined.reporting.ordered)
+    joined.seated.sitting.values lines

@@ -4,9 +4,9 @@
 //! input is cut into lines. Only the start takes memory.
 #![tactic(auto)]
 
-mod why_line;
 mod explainer;
 mod laws;
+mod why_line;
 
 pub use explainer::Explainer;
 pub use laws::replies_without_why;

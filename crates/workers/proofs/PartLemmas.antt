@@ -1,5 +1,6 @@
 -- The parts of a list, and what is made of them, from one part to the next.
-use Rattle.std.proofs.Common.{◌≡◌, ℕ, zero, suc, ◌+◌, ◌*◌, ◌<◌, ◌≤◌, List, [], ◌∷◌, length, get_or, take, drop, Result, Ok, Err, Vec, refl, sym, ap, subst, ◌∙◌, arith}
+use Rattle.std.proofs.Common.{◌≡◌, ℕ, zero, suc, ◌+◌, ◌*◌, ◌<◌, ◌≤◌, List, [], ◌∷◌, length, get_or, take, drop, Result, Ok, Err, Vec, refl, sym, ap, subst, ◌∙◌}
+use Rattle.std.proofs.Common.{arith}
 use Rattle.std.specs.declared.alloc.Global.{Global}
 use Rattle.std.specs.List.{AllZip, range_with_len}
 use Rattle.std.proofs.lemmas.List.{drop_all, drop-drop, length-take, length-drop}
@@ -22,12 +23,14 @@ module _ {X U : Type 0} (gives : ℕ → List X → U → Type 0) (size : ℕ) (
       let some : 0 < length (drop (n * size) items) = let long = length-drop (n * size) items in omega (arith, inside, long) in (
         some,
         gave,
-        subst (λ k. AreOfParts gives size k (drop size (drop (n * size) items)) made) next (subst (λ xs. AreOfParts gives size ((n + 1) * size) xs made) left rest),
+        subst (λ k. AreOfParts gives size k (drop size (drop (n * size) items)) made) next
+            (subst (λ xs. AreOfParts gives size ((n + 1) * size) xs made) left rest),
       )
 
   -- what is made of the parts from one on, part after part
   parts_from : (n : ℕ) (made : List U) → ((k : ℕ) (d : U) → k < length made → gives ((n + k) * size) (part_at items size ((n + k) * size)) (get_or made k d))
-      → ((k : ℕ) → k < length made → (n + k) * size < length items) → length items ≤ (n + length made) * size → AreOfParts gives size (n * size) (drop (n * size) items) made
+      → ((k : ℕ) → k < length made → (n + k) * size < length items) → length items ≤ (n + length made) * size
+      → AreOfParts gives size (n * size) (drop (n * size) items) made
   parts_from n [] each inside reach = let same : n + 0 ≡ n = omega arith in drop_all (n * size) items (subst (λ m. length items ≤ m * size) same reach)
   parts_from n (u ∷ made) each inside reach =
       let here : n + 0 ≡ n = omega arith in
@@ -35,21 +38,25 @@ module _ {X U : Type 0} (gives : ℕ → List X → U → Type 0) (size : ℕ) (
       a_part n u made (subst (λ m. m * size < length items) here (inside 0 (omega arith)))
       (subst (λ m. gives (m * size) (part_at items size (m * size)) u) here (each 0 u (omega arith)))
       (parts_from (n + 1) made
-      (λ k d h. let there : n + suc k ≡ n + 1 + k = omega arith in subst (λ m. gives (m * size) (part_at items size (m * size)) (get_or made k d)) there (each (suc k) d (omega (arith, h))))
+      (λ k d h. let there : n + suc k ≡ n + 1 + k = omega arith in subst (λ m. gives (m * size) (part_at items size (m * size)) (get_or made k d)) there
+      (each (suc k) d (omega (arith, h))))
       (λ k h. let there : n + suc k ≡ n + 1 + k = omega arith in subst (λ m. m * size < length items) there (inside (suc k) (omega (arith, h))))
       (subst (λ m. length items ≤ m * size) long reach))
 
   -- What is made of each part, for callers: `gives` is what they say of it.
-  pub of_parts : (made : List U) → ((n : ℕ) (d : U) → n < length made → gives (n * size) (part_at items size (n * size)) (get_or made n d)) → ((n : ℕ) → n < length made → n * size < length items)
+  pub of_parts : (made : List U) → ((n : ℕ) (d : U) → n < length made → gives (n * size) (part_at items size (n * size)) (get_or made n d))
+      → ((n : ℕ) → n < length made → n * size < length items)
       → length items ≤ length made * size → AreOfParts gives size 0 items made
   of_parts made each inside reach =
       let plus : (k : ℕ) → k ≡ 0 + k = λ k. omega arith in
       subst (λ k. AreOfParts gives size k (drop k items) made) (zero-mul size)
-      (parts_from 0 made (λ k d h. subst (λ m. gives (m * size) (part_at items size (m * size)) (get_or made k d)) (plus k) (each k d h)) (λ k h. subst (λ m. m * size < length items) (plus k) (inside k h))
+      (parts_from 0 made (λ k d h. subst (λ m. gives (m * size) (part_at items size (m * size)) (get_or made k d)) (plus k) (each k d h))
+      (λ k h. subst (λ m. m * size < length items) (plus k) (inside k h))
       (subst (λ m. length items ≤ m * size) (plus (length made)) reach))
 
 -- results of calls with numbers, one after another
-pub zipped_at : {U : Type 0} (R : ℕ → U → Type 0) (n count : ℕ) (made : List U) → AllZip R (range_with_len n count) made → (k : ℕ) (d : U) → k < length made → R (n + k) (get_or made k d)
+pub zipped_at : {U : Type 0} (R : ℕ → U → Type 0) (n count : ℕ) (made : List U) → AllZip R (range_with_len n count) made → (k : ℕ) (d : U) → k < length made
+    → R (n + k) (get_or made k d)
 zipped_at R n count [] all k d h = absurd (omega (arith, h))
 zipped_at R n zero (u ∷ made) all k d h = absurd all
 zipped_at R n (suc count) (u ∷ made) all zero d h = let same : n ≡ n + 0 = omega arith in subst (λ m. R m u) same all.0
@@ -66,7 +73,8 @@ zipped_many R n (suc count) (u ∷ made) all = ap suc (zipped_many R (n + 1) cou
 pub stated_of_parts : {X U E : Type 0} (gives : ℕ → List X → Result (Vec U Global) E → Type 0) (size : ℕ) (Says : ℕ → List X → Result (List U) E → Type 0)
     → ((at : ℕ) → Says at [] (Ok []))
     → ((at : ℕ) (items : List X) (fault : E) → 0 < length items → gives at (take size items) (Err fault) → Says at items (Err fault))
-    → ((at : ℕ) (items : List X) (part : Vec U Global) (rest : Result (List U) E) → 0 < length items → gives at (take size items) (Ok part) → Says (at + size) (drop size items) rest
+    → ((at : ℕ) (items : List X) (part : Vec U Global) (rest : Result (List U) E) → 0 < length items → gives at (take size items) (Ok part)
+    → Says (at + size) (drop size items) rest
     → Says at items (behind part.items rest))
     → (at : ℕ) (items : List X) (parts : List (Result (Vec U Global) E)) → AreOfParts gives size at items parts → Says at items (joined parts)
 stated_of_parts gives size Says none stops goes at items [] h = subst (λ xs. Says at xs (Ok [])) (sym h) (none at)

@@ -52,7 +52,8 @@ all_items (Ok all) = Ok all.items
 all_items (Err fault) = Err fault
 
 -- what is made of the parts of a list is this, joined
-pub record IsJoined {X U E : Type 0} (gives : ℕ → List X → Result (Vec U Global) E → Type 0) (size : ℕ) (items : List X) (all : Result (List U) E) : Type 0 where
-  pub parts : List (Result (Vec U Global) E)
-  pub made : MadeOfParts gives size items parts
-  pub all_is : all ≡ joined parts
+pub record IsJoined {X U E : Type 0} (gives : ℕ → List X → Result (Vec U Global) E → Type 0) (size : ℕ) (items : List X) (all : Result (List U) E) : Type 0
+  where
+    pub parts : List (Result (Vec U Global) E)
+    pub made : MadeOfParts gives size items parts
+    pub all_is : all ≡ joined parts

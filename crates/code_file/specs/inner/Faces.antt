@@ -1,5 +1,6 @@
 -- What the lines of a face spell, as they are read from left to right. A line is without its line feed here.
-use Rattle.std.specs.Prelude.{◌≡◌, ℕ, ◌+◌, ◌-◌, ◌*◌, ◌==◌, ◌<◌, nat_lt, nat_le, Bool, true, false, ◌&&◌, ◌||◌, List, [], ◌∷◌, ◌++◌, length, codes, take, slice_index_or, not, Option, Some, None, is_some, if◌then◌else◌}
+use Rattle.std.specs.Prelude.{◌≡◌, ℕ, ◌+◌, ◌-◌, ◌*◌, ◌==◌, ◌<◌, nat_lt, nat_le, Bool, true, false, ◌&&◌, ◌||◌, List, [], ◌∷◌, ◌++◌, length, codes, take}
+use Rattle.std.specs.Prelude.{slice_index_or, not, Option, Some, None, is_some, if◌then◌else◌}
 use Rattle.std.specs.Option.{option_and_then, option_map}
 use Rattle.std.specs.List.{AllByRecursion}
 use Rattle.std.specs.Str.{bytes_eq}
@@ -93,7 +94,8 @@ bytes_of (a ∷ b ∷ digits) = option_and_then (λ byte. option_map (λ bytes. 
 
 -- an error's kind by its word
 abbrev pub error_kind : List ℕ → Option ErrorKind
-error_kind word = if bytes_eq word (codes "anomalie") then Some Anomalie else if bytes_eq word (codes "discordance") then Some Discordance else if bytes_eq word (codes "informative") then Some Informative else None
+error_kind word = if bytes_eq word (codes "anomalie") then Some Anomalie else if bytes_eq word (codes "discordance") then Some Discordance else if bytes_eq word
+    (codes "informative") then Some Informative else None
 
 -- the words of a verification's label: its number, its error's name and kind, and the digits of its error's text
 pub record VerifWords : Type 0 where
@@ -119,7 +121,8 @@ abbrev pub verif_of : List ℕ → Option Label
 verif_of text = option_and_then verif_with (verif_words text)
 
 abbrev pub label_kind : List ℕ × List ℕ → Option FaceLabel
-label_kind p = if bytes_eq p.0 (codes "driver") then option_map DriverLine (short p.1) else if bytes_eq p.0 (codes "verif") then option_map Verif (verif_of p.1) else None
+label_kind p = if bytes_eq p.0 (codes "driver") then option_map DriverLine (short p.1) else if bytes_eq p.0 (codes "verif") then option_map Verif (verif_of p.1)
+    else None
 
 -- what stands after `label`: a word, and what stands after that
 abbrev pub behind_label : List ℕ × List ℕ → Option (List ℕ × List ℕ)

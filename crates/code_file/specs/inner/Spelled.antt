@@ -1,10 +1,12 @@
 -- What a line spells, as it is read from left to right. A line is without its line feed here.
-use Rattle.std.specs.Prelude.{ℕ, zero, suc, ℤ, pos, negsuc, ◌+◌, ◌-◌, ◌*◌, ◌==◌, nat_lt, Bool, true, false, ◌&&◌, List, [], ◌∷◌, length, codes, Option, Some, None, if◌then◌else◌}
+use Rattle.std.specs.Prelude.{ℕ, zero, suc, ℤ, pos, negsuc, ◌+◌, ◌-◌, ◌*◌, ◌==◌, nat_lt, Bool, true, false, ◌&&◌, List, [], ◌∷◌, length, codes, Option, Some}
+use Rattle.std.specs.Prelude.{None, if◌then◌else◌}
 use Rattle.std.specs.Option.{option_and_then, option_map}
 use Rattle.std.specs.Str.{bytes_eq}
 use Rattle.m_text.specs.Bytes.{is_digit}
 use Rattle.m_fixed.specs.declared.operator.Op.{Op}
-use Rattle.m_fixed.specs.declared.operator.Op.TheVariants.{Add, Sub, Mul, Div, Neg, Eq, Ne, Lt, Le, Gt, Ge, And, Or, Not, Present, Abs, Positive, PositiveOrNull, Null, Arr, Inf, Max, Min, Truth as TruthOf, Choose, At}
+use Rattle.m_fixed.specs.declared.operator.Op.TheVariants.{Add, Sub, Mul, Div, Neg, Eq, Ne, Lt, Le, Gt, Ge, And, Or, Not, Present, Abs, Positive}
+use Rattle.m_fixed.specs.declared.operator.Op.TheVariants.{PositiveOrNull, Null, Arr, Inf, Max, Min, Truth as TruthOf, Choose, At}
 use Rattle.m_fixed.specs.Operators.{arity_of}
 use Rattle.m_fixed.specs.Amounts.{most}
 use Rattle.m_fixed.specs.declared.amount.Value.{Value}
@@ -70,7 +72,8 @@ literal text = if bytes_eq text (codes "undef") then Some Undef else if bytes_eq
 
 -- the operators
 abbrev pub operators : List Op
-operators = Add ∷ Sub ∷ Mul ∷ Max ∷ Min ∷ Choose ∷ Div ∷ Or ∷ And ∷ Gt ∷ Ge ∷ Lt ∷ Le ∷ Eq ∷ Ne ∷ Not ∷ Neg ∷ Present ∷ Arr ∷ Inf ∷ Positive ∷ PositiveOrNull ∷ Null ∷ Abs ∷ TruthOf ∷ At ∷ []
+operators = Add ∷ Sub ∷ Mul ∷ Max ∷ Min ∷ Choose ∷ Div ∷ Or ∷ And ∷ Gt ∷ Ge ∷ Lt ∷ Le ∷ Eq ∷ Ne ∷ Not ∷ Neg ∷ Present ∷ Arr ∷ Inf ∷ Positive ∷ PositiveOrNull
+    ∷ Null ∷ Abs ∷ TruthOf ∷ At ∷ []
 
 -- the first of some operators that has this word
 abbrev pub op_among : List Op → List ℕ → Option Op

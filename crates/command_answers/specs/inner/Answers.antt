@@ -49,9 +49,11 @@ pub record IsExplainerOf (program : Program) (declared : Declared) (ordered : Or
 
 -- A session over an input, which tells this of names that it is asked about, ended: with an error of the household or for lack of memory before anything was
 -- taken from the input, or it began and had its lines.
-pub data IsServedBy (scheme : Scheme) (explains : Explaining) (rows : List ℕ) (heard reported : InputView) (old new : OutputView) (status : Status) : Type 0 where
-  refused : (line : List ℕ) (fault : HouseholdFault) → household_of scheme.inputs rows ≡ Err fault → household_fault_line fault ≡ Some line → reported ≡ heard
-      → Prints line Refused old new status → IsServedBy scheme explains rows heard reported old new status
-  no_memory : reported ≡ heard → new ≡ old → status ≡ Memory → IsServedBy scheme explains rows heard reported old new status
-  served : (pairs : List (ℕ × ℤ)) → household_of scheme.inputs rows ≡ Ok pairs
-      → Served (session_replies scheme explains pairs) (ended_replies scheme explains pairs) heard reported old new status → IsServedBy scheme explains rows heard reported old new status
+pub data IsServedBy (scheme : Scheme) (explains : Explaining) (rows : List ℕ) (heard reported : InputView) (old new : OutputView) (status : Status) : Type 0
+  where
+    refused : (line : List ℕ) (fault : HouseholdFault) → household_of scheme.inputs rows ≡ Err fault → household_fault_line fault ≡ Some line → reported ≡ heard
+        → Prints line Refused old new status → IsServedBy scheme explains rows heard reported old new status
+    no_memory : reported ≡ heard → new ≡ old → status ≡ Memory → IsServedBy scheme explains rows heard reported old new status
+    served : (pairs : List (ℕ × ℤ)) → household_of scheme.inputs rows ≡ Ok pairs
+        → Served (session_replies scheme explains pairs) (ended_replies scheme explains pairs) heard reported old new status
+        → IsServedBy scheme explains rows heard reported old new status

@@ -1,8 +1,10 @@
 -- That what is read of a list is what it says. No reader of the contracts needs it.
-use Rattle.std.proofs.Common.{◌≡◌, ◌==◌, ℕ, ◌+◌, ◌≤◌, Bool, true, false, not, ◌&&◌, ◌||◌, List, [], ◌∷◌, ◌++◌, length, Option, Some, None, MatchOption, MatchResult, nat_le, refl, sym, ap, ◌∙◌, subst, arith, inl, inr}
+use Rattle.std.proofs.Common.{◌≡◌, ◌==◌, ℕ, ◌+◌, ◌≤◌, Bool, true, false, not, ◌&&◌, ◌||◌, List, [], ◌∷◌, ◌++◌, length, Option, Some, None, MatchOption}
+use Rattle.std.proofs.Common.{MatchResult, nat_le, refl, sym, ap, ◌∙◌, subst, arith, inl, inr}
 use Rattle.std.specs.List.{AllByRecursion, list_all}
 use Rattle.std.specs.Str.{is_utf8}
-use Rattle.std.proofs.lemmas.Bool.{and_from, and_parts, not-true, not_from_false, or_left, or_right, or_cases, le-leb, leb-true, eq-eqb, eqb-true, cases_Bool, cases_lt, false_from_ne_true, lt-leb, both_ways}
+use Rattle.std.proofs.lemmas.Bool.{and_from, and_parts, not-true, not_from_false, or_left, or_right, or_cases, le-leb, leb-true, eq-eqb, eqb-true, cases_Bool}
+use Rattle.std.proofs.lemmas.Bool.{cases_lt, false_from_ne_true, lt-leb, both_ways}
 use Rattle.std.proofs.lemmas.Str.{IsUtf8-from_is_utf8, is_utf8-from_IsUtf8}
 use Rattle.m_places.specs.declared.limits.TheConstants.{FILE_NAME_BYTES, LIST_FILES}
 use Rattle.m_text.specs.Bytes.{IsDigit, IsWordByte, is_digit}
@@ -35,11 +37,14 @@ behind_capital b = (nat_le 97 b && nat_le b 122) || behind_letter b
 
 word_byte_test : (b : ℕ) → IsWordByte b → is_word_byte b ≡ true
 word_byte_test b (inl (inl h)) = or_left (nat_le 65 b && nat_le b 90) (behind_capital b) (within_test 65 90 b h.0 h.1)
-word_byte_test b (inl (inr h)) = or_right (nat_le 65 b && nat_le b 90) (behind_capital b) (or_left (nat_le 97 b && nat_le b 122) (behind_letter b) (within_test 97 122 b h.0 h.1))
+word_byte_test b (inl (inr h)) = or_right (nat_le 65 b && nat_le b 90) (behind_capital b)
+    (or_left (nat_le 97 b && nat_le b 122) (behind_letter b) (within_test 97 122 b h.0 h.1))
 word_byte_test b (inr (inl h)) =
-    or_right (nat_le 65 b && nat_le b 90) (behind_capital b) (or_right (nat_le 97 b && nat_le b 122) (behind_letter b) (or_left (is_digit b) (b == 95) (within_test 48 57 b h.0 h.1)))
+    or_right (nat_le 65 b && nat_le b 90) (behind_capital b)
+    (or_right (nat_le 97 b && nat_le b 122) (behind_letter b) (or_left (is_digit b) (b == 95) (within_test 48 57 b h.0 h.1)))
 word_byte_test b (inr (inr h)) =
-    or_right (nat_le 65 b && nat_le b 90) (behind_capital b) (or_right (nat_le 97 b && nat_le b 122) (behind_letter b) (or_right (is_digit b) (b == 95) (eq-eqb b 95 h)))
+    or_right (nat_le 65 b && nat_le b 90) (behind_capital b)
+    (or_right (nat_le 97 b && nat_le b 122) (behind_letter b) (or_right (is_digit b) (b == 95) (eq-eqb b 95 h)))
 
 test_word_byte : (b : ℕ) → is_word_byte b ≡ true → IsWordByte b
 test_word_byte b e = elim (or_cases (nat_le 65 b && nat_le b 90) (behind_capital b) e) [
@@ -68,7 +73,8 @@ pub file_line_test : (line : List ℕ) → IsFileLine line → is_file_line line
 file_line_test line h = and_from (nat_le (length line) FILE_NAME_BYTES) (is_utf8 line) (le-leb (length line) FILE_NAME_BYTES h.0) (is_utf8-from_IsUtf8 line h.1)
 
 pub test_file_line : (line : List ℕ) → is_file_line line ≡ true → IsFileLine line
-test_file_line line e = let q = and_parts (nat_le (length line) FILE_NAME_BYTES) (is_utf8 line) e in (leb-true (length line) FILE_NAME_BYTES q.0, IsUtf8-from_is_utf8 line q.1)
+test_file_line line e = let q = and_parts (nat_le (length line) FILE_NAME_BYTES) (is_utf8 line) e in
+    (leb-true (length line) FILE_NAME_BYTES q.0, IsUtf8-from_is_utf8 line q.1)
 
 -- lines before the first bad one, and it
 record FirstBadIn (number : ℕ) (lines : List (List ℕ)) (found : ℕ) : Type 0 where
@@ -80,27 +86,49 @@ record FirstBadIn (number : ℕ) (lines : List (List ℕ)) (found : ℕ) : Type 
   bad_name : IsFileLine bad → ⊥
   number_is : found ≡ number + length good
 
-one_line_more : (number : ℕ) (line : List ℕ) (lines : List (List ℕ)) (found : Option ℕ) → IsFileLine line → MatchOption found (AllByRecursion IsFileLine lines) (FirstBadIn (number + 1) lines)
+one_line_more : (number : ℕ) (line : List ℕ) (lines : List (List ℕ)) (found : Option ℕ) → IsFileLine line
+    → MatchOption found (AllByRecursion IsFileLine lines) (FirstBadIn (number + 1) lines)
     → MatchOption found (AllByRecursion IsFileLine (line ∷ lines)) (FirstBadIn number (line ∷ lines))
 one_line_more number line lines None h k = (h, k)
 one_line_more number line lines (Some found) h k =
     let e = k.number_is in
-    record { good = line ∷ k.good; bad = k.bad; others = k.others; parts = ap (λ x. line ∷ x) k.parts; names = (h, k.names); bad_name = k.bad_name; number_is = omega arith }
+    record {
+      good = line ∷ k.good;
+      bad = k.bad;
+      others = k.others;
+      parts = ap (λ x. line ∷ x) k.parts;
+      names = (h, k.names);
+      bad_name = k.bad_name;
+      number_is = omega arith;
+    }
 
 first_bad_meaning : (number : ℕ) (lines : List (List ℕ)) → MatchOption (first_bad_from number lines) (AllByRecursion IsFileLine lines) (FirstBadIn number lines)
 first_bad_meaning number [] = tt
 first_bad_meaning number (line ∷ lines) = elim (cases_Bool (is_file_line line)) [
   | inl e ↦ rw e (one_line_more number line lines (first_bad_from (number + 1) lines) (test_file_line line e) (first_bad_meaning (number + 1) lines))
-  | inr e ↦ rw e (record { good = []; bad = line; others = lines; parts = refl; names = tt; bad_name = λ h. both_ways (is_file_line line) e (file_line_test line h); number_is = omega arith })
+  | inr e ↦ rw e (record {
+    good = [];
+    bad = line;
+    others = lines;
+    parts = refl;
+    names = tt;
+    bad_name = λ h. both_ways (is_file_line line) e
+        (file_line_test line h);
+    number_is = omega arith;
+  })
 ]
 
 -- what the lines after the application say
 files_meaning : (bytes application : List ℕ) (lines : List (List ℕ)) (found : Option ℕ) → lines_of bytes ≡ application ∷ lines → IsWord application
-    → MatchOption found (AllByRecursion IsFileLine lines) (FirstBadIn 2 lines) → MatchResult (files_read application lines found) (IsListing bytes) (IsListFault bytes)
-files_meaning bytes application lines (Some number) e w h = no_name application h.bad h.good h.others (record { parts = refl; word = w; names = h.names }) h.bad_name (e ∙ ap (λ x. application ∷ x) h.parts) h.number_is
+    → MatchOption found (AllByRecursion IsFileLine lines) (FirstBadIn 2 lines)
+    → MatchResult (files_read application lines found) (IsListing bytes) (IsListFault bytes)
+files_meaning bytes application lines (Some number) e w h = no_name application h.bad h.good h.others (record { parts = refl; word = w; names = h.names })
+    h.bad_name (e ∙ ap (λ x. application ∷ x) h.parts) h.number_is
 files_meaning bytes application lines None e w h = elim (cases_lt LIST_FILES (length (files_of lines))) [
-  | inl many ↦ rw (lt-leb (length (files_of lines)) LIST_FILES many) (record { application = application; others = lines; good = record { parts = e; word = w; names = h }; many = many })
-  | inr few ↦ rw (le-leb (length (files_of lines)) LIST_FILES few) (record { others = lines; good = record { parts = e; word = w; names = h }; files = refl; few = few })
+  | inl many ↦ rw (lt-leb (length (files_of lines)) LIST_FILES many)
+      (record { application = application; others = lines; good = record { parts = e; word = w; names = h }; many = many })
+  | inr few ↦ rw (le-leb (length (files_of lines)) LIST_FILES few)
+      (record { others = lines; good = record { parts = e; word = w; names = h }; files = refl; few = few })
 ]
 
 lines_meaning : (bytes : List ℕ) (lines : List (List ℕ)) → lines_of bytes ≡ lines → MatchResult (lines_read lines) (IsListing bytes) (IsListFault bytes)

@@ -30,7 +30,8 @@ pub record IsCarried (nodes : List Node) (i : ℕ) (built : List Node) (numbers 
   pub size : length numbers ≡ i
   pub few : length built ≤ i
   pub within : (q : ℕ) → q < i → look numbers q < length built
-  pub value : (q : ℕ) → q < i → (inputs : List Value) → ArePlain inputs → entry_at (values_for inputs) built (look numbers q) ≡ entry_at (values_for inputs) nodes q
+  pub value : (q : ℕ) → q < i → (inputs : List Value) → ArePlain inputs → entry_at (values_for inputs) built (look numbers q) ≡ entry_at (values_for inputs)
+      nodes q
 
 abbrev pub is_live : List Bool → ℕ → Bool
 is_live live x = slice_index_or live x false

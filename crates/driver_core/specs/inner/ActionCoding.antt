@@ -20,12 +20,17 @@ abbrev mutual
 
 mutual
   pub inj : (x y : Action) → code x ≡ code y → x ≡ y
-  inj (assign m c t) (assign n d u) p = λ i. assign (ap (λ g. num (head (tail g))) p i) (ap (λ g. num (head (tail (tail g)))) p i) (coded_formula.inj t u (ap (λ g. tail (tail (tail g))) p) i)
+  inj (assign m c t) (assign n d u) p = λ i. assign (ap (λ g. num (head (tail g))) p i) (ap (λ g. num (head (tail (tail g)))) p i)
+      (coded_formula.inj t u (ap (λ g. tail (tail (tail g))) p) i)
   inj (clear m c) (clear n d) p = λ i. clear (ap (λ g. num (head (tail g))) p i) (ap (λ g. num (tail (tail g))) p i)
-  inj (branch m t a b) (branch n u c d) p = λ i. branch (ap (λ g. num (head (tail g))) p i) (coded_formula.inj t u (ap (λ g. head (tail (tail g))) p) i) (inj_all a c (ap (λ g. head (tail (tail (tail g)))) p) i) (inj_all b d (ap (λ g. tail (tail (tail (tail g)))) p) i)
-  inj (partition m xs a) (partition n ys b) p = λ i. partition (ap (λ g. num (head (tail g))) p i) ((coded_list coded_ℕ).inj xs ys (ap (λ g. head (tail (tail g))) p) i) (inj_all a b (ap (λ g. tail (tail (tail g))) p) i)
-  inj (call m j xs f) (call n k ys g) p = λ i. call (ap (λ g. num (head (tail g))) p i) (ap (λ g. num (head (tail (tail (tail g))))) p i) ((coded_list coded_ℕ).inj xs ys (ap (λ g. tail (tail (tail (tail g)))) p) i) (ap (λ g. num (head (tail (tail g)))) p i)
-  inj (solve m j xs) (solve n k ys) p = λ i. solve (ap (λ g. num (head (tail g))) p i) (ap (λ g. num (head (tail (tail g)))) p i) ((coded_list coded_ℕ).inj xs ys (ap (λ g. tail (tail (tail g))) p) i)
+  inj (branch m t a b) (branch n u c d) p = λ i. branch (ap (λ g. num (head (tail g))) p i) (coded_formula.inj t u (ap (λ g. head (tail (tail g))) p) i)
+      (inj_all a c (ap (λ g. head (tail (tail (tail g)))) p) i) (inj_all b d (ap (λ g. tail (tail (tail (tail g)))) p) i)
+  inj (partition m xs a) (partition n ys b) p = λ i. partition (ap (λ g. num (head (tail g))) p i)
+      ((coded_list coded_ℕ).inj xs ys (ap (λ g. head (tail (tail g))) p) i) (inj_all a b (ap (λ g. tail (tail (tail g))) p) i)
+  inj (call m j xs f) (call n k ys g) p = λ i. call (ap (λ g. num (head (tail g))) p i) (ap (λ g. num (head (tail (tail (tail g))))) p i)
+      ((coded_list coded_ℕ).inj xs ys (ap (λ g. tail (tail (tail (tail g)))) p) i) (ap (λ g. num (head (tail (tail g)))) p i)
+  inj (solve m j xs) (solve n k ys) p = λ i. solve (ap (λ g. num (head (tail g))) p i) (ap (λ g. num (head (tail (tail g)))) p i)
+      ((coded_list coded_ℕ).inj xs ys (ap (λ g. tail (tail (tail g))) p) i)
   inj _ _ p = absurd (omega (arith, ap (λ g. num (head g)) p))
 
   pub inj_all : (x y : Block) → code_all x ≡ code_all y → x ≡ y

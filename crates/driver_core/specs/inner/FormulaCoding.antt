@@ -48,7 +48,8 @@ mutual
 
   pub inj_steps : (x y : Steps) → code_steps x ≡ code_steps y → x ≡ y
   inj_steps no_steps no_steps p = refl
-  inj_steps (a_step f a r) (a_step g b s) p = λ i. a_step (operators.the_row.coded.inj f g (ap head p) i) (inj a b (ap (λ g. head (tail g)) p) i) (inj_steps r s (ap (λ g. tail (tail g)) p) i)
+  inj_steps (a_step f a r) (a_step g b s) p = λ i. a_step (operators.the_row.coded.inj f g (ap head p) i) (inj a b (ap (λ g. head (tail g)) p) i)
+      (inj_steps r s (ap (λ g. tail (tail g)) p) i)
   inj_steps _ _ p = absurd (cc)
 
 abbrev pub coded_formula : Coded Formula

@@ -11,4 +11,5 @@ IsNumbered index = (attribute : ℕ) (value : ℤ) → length index.attributes �
 
 -- an attribute that was there has its number, and a new one is numbered after all others
 abbrev pub HasNumber : List (List ℕ) → List ℕ → ℕ → List (List ℕ) → Type 0
-HasNumber old attribute n new = ((index_of attribute old ≡ Some n) × (new ≡ old)) ⊎ ((has attribute old ≡ false) × (n ≡ length old) × (new ≡ old ++ attribute ∷ []))
+HasNumber old attribute n new = ((index_of attribute old ≡ Some n) × (new ≡ old)) ⊎ ((has attribute old ≡ false) × (n ≡ length old)
+    × (new ≡ old ++ attribute ∷ []))

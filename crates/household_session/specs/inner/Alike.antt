@@ -13,5 +13,6 @@ too_long_is bytes long = rw (lt-leb (length bytes) SESSION_LINE_BYTES long) refl
 pub long_alike : (sitting : Sitting) (one other : List ℕ) (lines : List (List ℕ)) → SESSION_LINE_BYTES < length one → SESSION_LINE_BYTES < length other
     → replies_to sitting (one ∷ lines) ≡ replies_to sitting (other ∷ lines)
 long_alike sitting one other lines long longer =
-    ap (λ c. command_reply (showing_of sitting) sitting.values c ++ lines_replies (showing_of sitting) (command_values (showing_of sitting) sitting.values c) lines)
+    ap (λ c. command_reply (showing_of sitting) sitting.values c ++ lines_replies (showing_of sitting) (command_values (showing_of sitting) sitting.values c)
+    lines)
     (too_long_is one long ∙ sym (too_long_is other longer))

@@ -47,12 +47,14 @@ pub record Took {S K : Type 0} (left : S → Option (List ℕ)) (source_faults :
 abbrev pub Stopped : {S K : Type 0} (left : S → Option (List ℕ)) (source_faults : S → ℕ) (written : K → Option (List ℕ)) (faults : K → ℕ)
     (source_old source_now : S) (old now : K) (start : Telling) (held : List ℕ) (most : ℕ) → ServeEnd → Type 0
 Stopped left source_faults written faults source_old source_now old now start held most Done =
-    (left source_now ≡ left source_old) × IsAtEnd (left source_now) × (source_faults source_now ≡ source_faults source_old) × Finished written faults old now start held Done
+    (left source_now ≡ left source_old) × IsAtEnd (left source_now) × (source_faults source_now ≡ source_faults source_old)
+    × Finished written faults old now start held Done
 Stopped left source_faults written faults source_old source_now old now start held most ReadFault =
     (left source_now ≡ left source_old) × Rose (source_faults source_old) (source_faults source_now) × (written now ≡ written old) × (faults now ≡ faults old)
 Stopped left source_faults written faults source_old source_now old now start held most WriteFault =
     (source_faults source_now ≡ source_faults source_old)
-    × (((piece : List ℕ) × (length piece ≤ most) × (left source_old ≡ prepend_known piece (left source_now)) × BreaksOff written faults old now (ended_of start (held ++ piece)))
+    × (((piece : List ℕ) × (length piece ≤ most) × (left source_old ≡ prepend_known piece (left source_now))
+    × BreaksOff written faults old now (ended_of start (held ++ piece)))
     ⊎ ((left source_now ≡ left source_old) × IsAtEnd (left source_now) × BreaksOff written faults old now (whole_of start held)))
 Stopped left source_faults written faults source_old source_now old now start held most TooLong = ⊥
 

@@ -8,7 +8,8 @@ use Rattle.m_batch.specs.Printing.{counted_to_end, printed_count, printed_text}
 use Rattle.m_batch.specs.declared.texts.PartText.{PartText}
 
 -- a text that holds what is printed of rows with these answers, and how much is counted of them
-pub record IsTextOf (text : ℕ → Row → Answer → List ℕ) (count : ℕ → Row → Answer → ℕ) (at : ℕ) (rows : List Row) (answers : List Answer) (made : PartText) : Type 0 where
+pub record IsTextOf (text : ℕ → Row → Answer → List ℕ) (count : ℕ → Row → Answer → ℕ) (at : ℕ) (rows : List Row) (answers : List Answer)
+    (made : PartText) : Type 0 where
   pub text_is : made.text.bytes ≡ printed_text text at rows answers
   pub count_is : made.count ≡ counted_to_end (printed_count count at rows answers)
 

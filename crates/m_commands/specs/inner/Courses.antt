@@ -68,9 +68,11 @@ WorkIsAnswered (Cases source table) heard reported old new status = (reported �
 -- The words were no command, or there was no memory to copy them, or their command's plan ended before its files were
 -- there, or it was gathered and answered.
 pub data Course (words : List (List ℕ)) (before after : FilesView) (heard reported : InputView) (old new : OutputView) (status : Status) : Type 0 where
-  is_no_command : command_of words ≡ None → after ≡ before → reported ≡ heard → Prints usage_line Usage old new status → Course words before after heard reported old new status
+  is_no_command : command_of words ≡ None → after ≡ before → reported ≡ heard → Prints usage_line Usage old new status
+      → Course words before after heard reported old new status
   has_no_memory : after ≡ before → reported ≡ heard → new ≡ old → status ≡ Memory → Course words before after heard reported old new status
-  ended : (wanted : Command) (ending : Ending) → command_of words ≡ Some wanted → GoesAlong (plan_of wanted) before after (Err ending) → reported ≡ heard → ReportsEnding ending old new status
+  ended : (wanted : Command) (ending : Ending) → command_of words ≡ Some wanted → GoesAlong (plan_of wanted) before after (Err ending) → reported ≡ heard
+      → ReportsEnding ending old new status
       → Course words before after heard reported old new status
   answered : (wanted : Command) (work : Work) → command_of words ≡ Some wanted → GoesAlong (plan_of wanted) before after (Ok work) → IsWorkOf wanted work
       → WorkIsAnswered work heard reported old new status → Course words before after heard reported old new status

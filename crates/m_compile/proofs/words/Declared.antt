@@ -23,7 +23,8 @@ added : {B : Type 0} (Q : B → Type 0) (o : Option B) (ys : List B) → IfSome 
 added Q None ys h a = a
 added Q (Some y) ys h a = (h, a)
 
-pub all_filtered : {A B : Type 0} (f : A → Option B) (P : A → Type 0) (Q : B → Type 0) → ((x : A) → P x → IfSome (f x) Q) → (xs : List A) → AllByRecursion P xs → AllByRecursion Q (filter_map f xs)
+pub all_filtered : {A B : Type 0} (f : A → Option B) (P : A → Type 0) (Q : B → Type 0) → ((x : A) → P x → IfSome (f x) Q) → (xs : List A) → AllByRecursion P xs
+    → AllByRecursion Q (filter_map f xs)
 all_filtered f P Q h [] a = tt
 all_filtered f P Q h (x ∷ xs) a = added Q (f x) (filter_map f xs) (h x a.0) (all_filtered f P Q h xs a.1)
 
@@ -59,7 +60,8 @@ small here (Some size) e =
     ltb-false TABLE_CELLS size p.1
 
 item_small : (d : Declared) (i : Item) → fault_at d i ≡ None → IsSmall i
-item_small d (Variable v) e = small v.place (variable_size v) (parts (size_fault v) (cells_fault d v) (parts (code_fault d v) _ (parts (name_fault d v) _ e).1).1).0
+item_small d (Variable v) e = small v.place (variable_size v)
+    (parts (size_fault v) (cells_fault d v) (parts (code_fault d v) _ (parts (name_fault d v) _ e).1).1).0
 item_small d (Rule r) e = tt
 item_small d (Verif v) e = tt
 item_small d (Error x) e = tt
@@ -98,7 +100,8 @@ all_placed first (v ∷ vs) a = (a.0, all_placed (first + variable_cells v) vs a
 pub items_good : (items : List Item) → AllByRecursion IsWorded items → first_fault items ≡ None → AllByRecursion IsGood (variables_of items)
 items_good items w e = all_filtered variable_in (λ i. IsWorded i × IsSmall i) IsGood good items (both_all IsWorded IsSmall items w (items_small [] items e))
 
-pub variables_good : (items : List Item) → AllByRecursion IsWorded items → first_fault items ≡ None → AllByRecursion (λ (v : Declaration). IsGood v.item) (declared_by items).variables
+pub variables_good : (items : List Item) → AllByRecursion IsWorded items → first_fault items ≡ None
+    → AllByRecursion (λ (v : Declaration). IsGood v.item) (declared_by items).variables
 variables_good items w e = all_placed 0 (variables_of items) (items_good items w e)
 
 pub errors_good : (items : List Item) → AllByRecursion IsWorded items → AllByRecursion IsWordedError (declared_by items).errors

@@ -44,10 +44,12 @@ of_lines : (labels : List FaceLabel) → AllByRecursion IsDriverLine labels → 
 of_lines [] a = tt
 of_lines (l ∷ labels) a = (line_printable l a.0, of_lines labels a.1)
 
-labels_all : (n : ℕ) (labels : List FaceLabel) (first : List Label) → take n labels ≡ map Verif first → AllByRecursion IsPrintableVerif first → AllByRecursion IsDriverLine (drop n labels) → AllByRecursion IsPrintableLabel labels
+labels_all : (n : ℕ) (labels : List FaceLabel) (first : List Label) → take n labels ≡ map Verif first → AllByRecursion IsPrintableVerif first
+    → AllByRecursion IsDriverLine (drop n labels) → AllByRecursion IsPrintableLabel labels
 labels_all n labels first e a b =
     subst (AllByRecursion IsPrintableLabel) (take-append-drop n labels)
-    (all_append IsPrintableLabel (take n labels) (drop n labels) (subst (AllByRecursion IsPrintableLabel) (sym e) (of_base first a)) (of_lines (drop n labels) b))
+    (all_append IsPrintableLabel (take n labels) (drop n labels) (subst (AllByRecursion IsPrintableLabel) (sym e) (of_base first a))
+    (of_lines (drop n labels) b))
 
 -- ---- outputs
 
@@ -56,27 +58,33 @@ outputs_all [] a = tt
 outputs_all (Named name ∷ outputs) a = (a.0, outputs_all outputs a.1)
 outputs_all (Noted number ∷ outputs) a = (tt, outputs_all outputs a)
 
-cells_all : (declared : Declared) (cells : List ℕ) (most : ℕ) → ((c : ℕ) → c < most → IsCellName (cell_name declared c)) → AllByRecursion (λ c. c < most) cells → AllByRecursion IsCellName (map (cell_name declared) cells)
+cells_all : (declared : Declared) (cells : List ℕ) (most : ℕ) → ((c : ℕ) → c < most → IsCellName (cell_name declared c)) → AllByRecursion (λ c. c < most) cells
+    → AllByRecursion IsCellName (map (cell_name declared) cells)
 cells_all declared [] most h a = tt
 cells_all declared (c ∷ cells) most h a = (h c a.0, cells_all declared cells most h a.1)
 
 -- ---- the whole
 
-pub printable_face : (texts : List Text) (application : List ℕ) (given : Option (List ℕ)) (declared : Declared) (base : Base) (requests : List ℕ) (face : Face) → IsBaseOf texts application declared base → parsed_requests given declared ≡ Ok requests
-    → AreDistinct (codes_of declared.variables) → codes_shown face.inputs ≡ codes_of declared.variables → names_of face.outputs ≡ map (cell_name declared) requests → take (length base.labels) face.labels ≡ map Verif base.labels
+pub printable_face : (texts : List Text) (application : List ℕ) (given : Option (List ℕ)) (declared : Declared) (base : Base) (requests : List ℕ) (face : Face)
+    → IsBaseOf texts application declared base → parsed_requests given declared ≡ Ok requests
+    → AreDistinct (codes_of declared.variables) → codes_shown face.inputs ≡ codes_of declared.variables
+    → names_of face.outputs ≡ map (cell_name declared) requests → take (length base.labels) face.labels ≡ map Verif base.labels
     → AllByRecursion IsDriverLine (drop (length base.labels) face.labels) → IsPrintable face
 printable_face texts application given declared base requests face b q d i o f l =
     let worded = files_worded b.declares.stated in
     let faultless = b.declares.faultless in
     let stated = b.symbols in
-    let variables = subst (λ (x : Declared). AllByRecursion (λ (v : Variable). IsGood v.item) x.variables) (sym stated) (variables_good b.items worded faultless) in
+    let variables = subst (λ (x : Declared). AllByRecursion (λ (v : Variable). IsGood v.item) x.variables) (sym stated)
+    (variables_good b.items worded faultless) in
     let errors = subst (λ (x : Declared). AllByRecursion IsWordedError x.errors) (sym stated) (errors_good b.items worded) in
     let verifs = base_printable declared (expansion b.items application declared) base errors (all_numbered application b.items worded) b.resolves in
     let known = requests_known declared given requests (declared_placed b.items declared stated) q in
-    let cell : (c : ℕ) → c < length (owners_from 0 declared.variables) → IsCellName (cell_name declared c) = λ c h. cell_named (variables_of b.items) declared c (ap (λ (x : Declared). x.variables) stated) (items_good b.items worded faultless) h in
+    let cell : (c : ℕ) → c < length (owners_from 0 declared.variables) → IsCellName (cell_name declared c) = λ c h. cell_named (variables_of b.items) declared c
+    (ap (λ (x : Declared). x.variables) stated) (items_good b.items worded faultless) h in
     record {
       inputs = subst (AllByRecursion IsFreeWord) (sym i) (codes_free declared.variables variables);
       apart = subst AreApart (sym i) (are_apart (codes_of declared.variables) d);
       labels = labels_all (length base.labels) face.labels base.labels f verifs l;
-      outputs = outputs_all face.outputs (subst (AllByRecursion IsCellName) (sym o) (cells_all declared requests (length (owners_from 0 declared.variables)) cell known));
+      outputs = outputs_all face.outputs (subst (AllByRecursion IsCellName) (sym o) (cells_all declared requests (length (owners_from 0 declared.variables))
+          cell known));
     }

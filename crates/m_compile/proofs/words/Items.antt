@@ -12,7 +12,8 @@ use Rattle.m_places.specs.declared.source.Text.{Text}
 use Rattle.m_lexer.specs.Chains.{Chain, ended, further}
 use Rattle.m_terms.proofs.Passes.{Behind, over, skip, first_passes}
 use Rattle.m_items.specs.Tokens.{word as a_word}
-use Rattle.m_items.specs.DeclarationGrammar.{Attribute, attribute, Attributes, SpellsNumber, SpellsAttributes, attributes, SpellsVariable, input, computed, constant, SpellsError, error, IsFourOrFive, SpellsDeclaration, a_variable, an_error, an_application, a_chaining}
+use Rattle.m_items.specs.DeclarationGrammar.{Attribute, attribute, Attributes, SpellsNumber, SpellsAttributes, attributes, SpellsVariable, input, computed}
+use Rattle.m_items.specs.DeclarationGrammar.{constant, SpellsError, error, IsFourOrFive, SpellsDeclaration, a_variable, an_error, an_application, a_chaining}
 use Rattle.m_items.proofs.DeclarationPassLaws.{number_on}
 use Rattle.m_items.specs.Many.{Many, no_more, one_more}
 use Rattle.m_items.specs.RuleGrammar.{head, verification}
@@ -46,8 +47,11 @@ attributes_behind : {l : Attributes} {ts mid rest : List Token} → Behind mid t
 attributes_behind b (attributes c) = chain_behind b c
 
 variable_worded : {v : VariableItem} {ts rest : List Token} → SpellsVariable v ts rest → AreSpelled ts → IsWordedVariable v
-variable_worded (input d s k e j f g) a =
-    (name_plain d a, word_free f (behind_spelled (over (attributes_behind (over (first_passes d) (over (first_passes s) (first_passes k))) e) (first_passes j)) a))
+variable_worded (input d s k e j f g) a = (
+  name_plain d a,
+  word_free f (behind_spelled (over (attributes_behind (over (first_passes d) (over (first_passes s) (first_passes k))) e) (first_passes j))
+      a),
+)
 variable_worded (computed d s e j f g) a = (name_plain d a, tt)
 variable_worded (constant d s k f g h) a = (name_plain d a, tt)
 

@@ -1,5 +1,6 @@
 -- Labels of a base: a number of few digits, an error with a plain name, and a text that isn't empty.
-use Rattle.std.proofs.Common.{◌≡◌, ◌≢◌, ◌≤◌, ℕ, zero, suc, Bool, true, false, cond, List, [], ◌∷◌, ◌++◌, map, filter, length, Option, Some, None, Ok, inl, inr, refl, subst, arith, slice_get}
+use Rattle.std.proofs.Common.{◌≡◌, ◌≢◌, ◌≤◌, ℕ, zero, suc, Bool, true, false, cond, List, [], ◌∷◌, ◌++◌, map, filter, length, Option, Some, None, Ok, inl, inr}
+use Rattle.std.proofs.Common.{refl, subst, arith, slice_get}
 use Rattle.std.specs.List.{AllByRecursion, flat_map}
 use Rattle.std.specs.Option.{option_and_then}
 use Rattle.m_places.specs.declared.verification.Label.{Label}
@@ -16,7 +17,8 @@ use Rattle.m_ast.specs.declared.plain_rules.Plain.{Plain}
 use Rattle.index_expand.specs.Expansion.{counts_in, item_conditions, condition_of}
 use Rattle.micro_m.specs.declared.base.Base.{Base}
 use Rattle.m_resolve.specs.Terms.{if_resolved, resolved_term}
-use Rattle.m_resolve.specs.Bases.{printable, behind_colon, error_text, label_of, error_named, resolved_label, Checks, with_condition, resolved_conditions, resolved_definitions, base_with, resolved}
+use Rattle.m_resolve.specs.Bases.{printable, behind_colon, error_text, label_of, error_named, resolved_label, Checks, with_condition, resolved_conditions}
+use Rattle.m_resolve.specs.Bases.{resolved_definitions, base_with, resolved}
 use Rattle.m_resolve.proofs.Valid.{resolved_by}
 use Rattle.code_file.specs.Printable.{IsPrintableVerif}
 use Rattle.m_compile.proofs.words.Tokens.{IsWholeNumber}
@@ -42,7 +44,8 @@ label_printable verif e n w = (n.0, n.1, w.0, text_there e.texts (two_texts (len
 
 -- ---- conditions
 
-listed : (v : VerifItem) (checks : List CheckItem) → IsWholeNumber v.number → AllByRecursion (λ (c : Condition). IsWholeNumber c.verif) (map (condition_of v) checks)
+listed : (v : VerifItem) (checks : List CheckItem) → IsWholeNumber v.number
+    → AllByRecursion (λ (c : Condition). IsWholeNumber c.verif) (map (condition_of v) checks)
 listed v [] h = tt
 listed v (c ∷ checks) h = (h, listed v checks h)
 
@@ -58,7 +61,8 @@ one_more : (i : Item) (items : List Item) (b : Bool) → IsWorded i → AllByRec
 one_more i items true h a = all_append _ (item_conditions i) (flat_map item_conditions items) (item_numbered i h) a
 one_more i items false h a = a
 
-pub all_numbered : (application : List ℕ) (items : List Item) → AllByRecursion IsWorded items → AllByRecursion (λ (c : Condition). IsWholeNumber c.verif) (flat_map item_conditions (filter (counts_in application) items))
+pub all_numbered : (application : List ℕ) (items : List Item) → AllByRecursion IsWorded items
+    → AllByRecursion (λ (c : Condition). IsWholeNumber c.verif) (flat_map item_conditions (filter (counts_in application) items))
 all_numbered application [] a = tt
 all_numbered application (i ∷ items) a = one_more i (filter (counts_in application) items) (counts_in application i) a.0 (all_numbered application items a.1)
 
@@ -73,27 +77,35 @@ at_number : (es : List ErrorItem) (n : Option ℕ) (e : ErrorItem) → AllByRecu
 at_number es None e a f = absurd (cc)
 at_number es (Some i) e a f = every IsWordedError es i e a f
 
-label_by : (condition : Condition) (o : Option ErrorItem) (label : Label) → IsWholeNumber condition.verif → ((e : ErrorItem) → o ≡ Some e → IsWordedError e) → resolved_label condition o ≡ Ok label → IsPrintableVerif label
+label_by : (condition : Condition) (o : Option ErrorItem) (label : Label) → IsWholeNumber condition.verif → ((e : ErrorItem) → o ≡ Some e → IsWordedError e)
+    → resolved_label condition o ≡ Ok label → IsPrintableVerif label
 label_by condition None label n w f = absurd (cc)
 label_by condition (Some e) label n w f =
     let same : label_of condition.verif e ≡ label = cc in
     subst IsPrintableVerif same (label_printable condition.verif e n (w e refl))
 
-labels_printable : (declared : Declared) (before made : Checks) (all : List Condition) → AllByRecursion IsWordedError declared.errors → AllByRecursion (λ (c : Condition). IsWholeNumber c.verif) all → AllByRecursion IsPrintableVerif before.1
+labels_printable : (declared : Declared) (before made : Checks) (all : List Condition) → AllByRecursion IsWordedError declared.errors
+    → AllByRecursion (λ (c : Condition). IsWholeNumber c.verif) all → AllByRecursion IsPrintableVerif before.1
     → resolved_conditions declared before all ≡ Ok made → AllByRecursion IsPrintableVerif made.1
 labels_printable declared before made [] w n b e = let same : before ≡ made = cc in subst (λ (m : Checks). AllByRecursion IsPrintableVerif m.1) same b
 labels_printable declared before made (x ∷ all) w n b e =
     let k = resolved_by (λ stated. resolved_conditions declared stated all) (with_condition declared before x) made e in
-    let t = resolved_by (λ tree. if_resolved (λ label. Ok (before.0 ++ (tree, length before.1, x.place) ∷ [], before.1 ++ label ∷ [])) (resolved_label x (error_named declared x.error))) (resolved_term declared x.term) k.0 k.1 in
-    let l = resolved_by (λ label. Ok (before.0 ++ (t.0, length before.1, x.place) ∷ [], before.1 ++ label ∷ [])) (resolved_label x (error_named declared x.error)) k.0 t.2 in
+    let t = resolved_by (λ tree. if_resolved (λ label. Ok (before.0 ++ (tree, length before.1, x.place) ∷ [], before.1 ++ label ∷ []))
+    (resolved_label x (error_named declared x.error))) (resolved_term declared x.term) k.0 k.1 in
+    let l = resolved_by (λ label. Ok (before.0 ++ (t.0, length before.1, x.place) ∷ [], before.1 ++ label ∷ []))
+    (resolved_label x (error_named declared x.error)) k.0 t.2 in
     let same : (before.0 ++ (t.0, length before.1, x.place) ∷ [], before.1 ++ l.0 ∷ []) ≡ k.0 = (let f = l.2 in cc) in
-    let good = label_by x (error_named declared x.error) l.0 n.0 (λ i f. at_number declared.errors (index_of x.error (error_names_of declared.errors)) i w f) l.1 in
-    labels_printable declared k.0 made all w n.1 (subst (λ (m : Checks). AllByRecursion IsPrintableVerif m.1) same (all_append _ before.1 (l.0 ∷ []) b (good, tt))) k.2
+    let good = label_by x (error_named declared x.error) l.0 n.0 (λ i f. at_number declared.errors (index_of x.error (error_names_of declared.errors)) i w f)
+    l.1 in
+    labels_printable declared k.0 made all w n.1
+    (subst (λ (m : Checks). AllByRecursion IsPrintableVerif m.1) same (all_append _ before.1 (l.0 ∷ []) b (good, tt))) k.2
 
-pub base_printable : (declared : Declared) (plain : Plain) (base : Base) → AllByRecursion IsWordedError declared.errors → AllByRecursion (λ (c : Condition). IsWholeNumber c.verif) plain.conditions → resolved declared plain ≡ Ok base
+pub base_printable : (declared : Declared) (plain : Plain) (base : Base) → AllByRecursion IsWordedError declared.errors
+    → AllByRecursion (λ (c : Condition). IsWholeNumber c.verif) plain.conditions → resolved declared plain ≡ Ok base
     → AllByRecursion IsPrintableVerif base.labels
 base_printable declared plain base w n r =
-    let d = resolved_by (λ definitions. if_resolved (λ checks. Ok (base_with declared definitions checks)) (resolved_conditions declared ([], []) plain.conditions)) (resolved_definitions declared [] plain.definitions) base r in
+    let d = resolved_by (λ definitions. if_resolved (λ checks. Ok (base_with declared definitions checks))
+    (resolved_conditions declared ([], []) plain.conditions)) (resolved_definitions declared [] plain.definitions) base r in
     let c = resolved_by (λ checks. Ok (base_with declared d.0 checks)) (resolved_conditions declared ([], []) plain.conditions) base d.2 in
     let same : base_with declared d.0 c.0 ≡ base = (let e = c.2 in cc) in
     subst (λ (b : Base). AllByRecursion IsPrintableVerif b.labels) same (labels_printable declared ([], []) c.0 plain.conditions w n tt c.1)

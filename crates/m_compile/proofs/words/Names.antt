@@ -1,5 +1,6 @@
 -- Names of cells: each is a plain name, or one with the number of a table's cell.
-use Rattle.std.proofs.Common.{◌≡◌, ◌≤◌, ◌<◌, ◌+◌, ◌-◌, ℕ, zero, suc, Bool, true, false, nat_lt, List, [], ◌∷◌, ◌++◌, length, get_or, Option, Some, None, refl, inl, inr, sym, ap, ◌∙◌, subst, arith, slice_get, replicate, length-append}
+use Rattle.std.proofs.Common.{◌≡◌, ◌≤◌, ◌<◌, ◌+◌, ◌-◌, ℕ, zero, suc, Bool, true, false, nat_lt, List, [], ◌∷◌, ◌++◌, length, get_or, Option, Some, None, refl}
+use Rattle.std.proofs.Common.{inl, inr, sym, ap, ◌∙◌, subst, arith, slice_get, replicate, length-append}
 use Rattle.std.specs.Prelude.{IfSome}
 use Rattle.std.specs.List.{AllByRecursion}
 use Rattle.std.specs.Option.{option_map_or}
@@ -15,7 +16,8 @@ use Rattle.code_file.specs.Printable.{IsPlainName, IsCellName}
 use Rattle.m_compile.proofs.words.Declared.{IsGood}
 
 -- a cell of a variable
-text_named : (size : Option ℕ) (name : List ℕ) (k cells : ℕ) → IsPlainName name → IfSome size (λ s. s ≤ TABLE_CELLS) → cells ≡ cells_in size → k < cells → IsCellName (cell_text size name k)
+text_named : (size : Option ℕ) (name : List ℕ) (k cells : ℕ) → IsPlainName name → IfSome size (λ s. s ≤ TABLE_CELLS) → cells ≡ cells_in size → k < cells
+    → IsCellName (cell_text size name k)
 text_named None name k cells p s e h = inl p
 text_named (Some size) name k cells p s e h = inr (name, k, p, omega (arith, s, e, h), refl)
 
@@ -29,7 +31,8 @@ get_more (suc n) number rest (suc i) h = get_more n number rest i (omega (arith,
 pub get_behind : (n number : ℕ) (rest : List ℕ) (i : ℕ) → n ≤ i → get_or (replicate n number ++ rest) i 0 ≡ get_or rest (i - n) 0
 get_behind zero number rest i h = let e : i ≡ i - 0 = omega arith in ap (λ k. get_or rest k 0) e
 get_behind (suc n) number rest zero h = absurd (omega (arith, h))
-get_behind (suc n) number rest (suc i) h = let e : i - n ≡ suc i - suc n = omega (arith, h) in get_behind n number rest i (omega (arith, h)) ∙ ap (λ k. get_or rest k 0) e
+get_behind (suc n) number rest (suc i) h = let e : i - n ≡ suc i - suc n = omega (arith, h) in get_behind n number rest i (omega (arith, h))
+    ∙ ap (λ k. get_or rest k 0) e
 
 -- what a cell's variable is, where the first has the number `number` and its first cell is `first`
 record Owned (vs : List Variable) (number first cell : ℕ) : Type 0 where
@@ -49,7 +52,8 @@ mine first number cell v rest g h =
           (text_named (variable_size v) v.name (first + cell - first) (variable_cells v) g.0.0 g.1 refl (omega (arith, h)));
     }
 
-behind : (first number cell : ℕ) (v : VariableItem) (rest : List Variable) → variable_cells v ≤ cell → Owned rest (number + 1) (first + variable_cells v) (cell - variable_cells v) → Owned (one first v ∷ rest) number first cell
+behind : (first number cell : ℕ) (v : VariableItem) (rest : List Variable) → variable_cells v ≤ cell
+    → Owned rest (number + 1) (first + variable_cells v) (cell - variable_cells v) → Owned (one first v ∷ rest) number first cell
 behind first number cell v rest h o =
     let n = variable_cells v in
     let owner = get_or (owners_from (number + 1) rest) (cell - n) 0 in
@@ -68,7 +72,8 @@ by : (first number cell : ℕ) (v : VariableItem) (rest : List Variable) (b : Bo
 by first number cell v rest true e g o = mine first number cell v rest g (ltb-true cell (variable_cells v) e)
 by first number cell v rest false e g o = let low = ltb-false cell (variable_cells v) e in behind first number cell v rest low (o low)
 
-owned : (items : List VariableItem) (first number cell : ℕ) → AllByRecursion IsGood items → cell < length (owners_from number (placed_from first items)) → Owned (placed_from first items) number first cell
+owned : (items : List VariableItem) (first number cell : ℕ) → AllByRecursion IsGood items → cell < length (owners_from number (placed_from first items))
+    → Owned (placed_from first items) number first cell
 owned [] first number cell a h = absurd (omega (arith, h))
 owned (v ∷ items) first number cell a h =
     let rest = placed_from (first + variable_cells v) items in
@@ -78,7 +83,8 @@ owned (v ∷ items) first number cell a h =
     (λ low. owned items (first + variable_cells v) (number + 1) (cell - variable_cells v) a.1 (omega (arith, h, n, r, low)))
 
 -- the name of a cell of what is declared
-pub cell_named : (items : List VariableItem) (declared : Declared) (cell : ℕ) → declared.variables ≡ placed_from 0 items → AllByRecursion IsGood items → cell < length (owners_from 0 declared.variables) → IsCellName (cell_name declared cell)
+pub cell_named : (items : List VariableItem) (declared : Declared) (cell : ℕ) → declared.variables ≡ placed_from 0 items → AllByRecursion IsGood items
+    → cell < length (owners_from 0 declared.variables) → IsCellName (cell_name declared cell)
 cell_named items declared cell e a h =
     let o = owned items 0 0 cell a (subst (λ (vs : List Variable). cell < length (owners_from 0 vs)) e h) in
     let vs = placed_from 0 items in

@@ -31,7 +31,8 @@ IsSpelled (Sign s) = Unit {0}
 abbrev pub EachKind : (Kind → Type 0) → List Token → Type 0
 EachKind P tokens = AllByRecursion (λ t. P t.kind) tokens
 
-pub lexed_each : (P : Kind → Type 0) → ((t : List ℕ) (kind : Kind) → Spells t kind → P kind) → {p : Place} {bytes : List ℕ} {tokens : List Token} → Lexes p bytes tokens → EachKind P tokens
+pub lexed_each : (P : Kind → Type 0) → ((t : List ℕ) (kind : Kind) → Spells t kind → P kind) → {p : Place} {bytes : List ℕ} {tokens : List Token}
+    → Lexes p bytes tokens → EachKind P tokens
 lexed_each P known end = tt
 lexed_each P known (gap l g rest) = lexed_each P known rest
 lexed_each P known (token {t = t} {kind = kind} l s rest) = (known t kind s, lexed_each P known rest)

@@ -53,7 +53,8 @@ pub record AreRequests (declared : Declared) (source : Source) (core : Core) (re
 -- Why that can't be told: the fault of the driver, or else that of the requests.
 pub data IsRequestsFault (declared : Declared) (source : Source) : SourceFault → Type 0 where
   in_driver : {fault : SourceFault} → IsDriverFault declared source.driver fault → IsRequestsFault declared source fault
-  in_requests : {written : Option Core} {fault : RequestFault} → IsWritten declared source.driver written → parsed_requests source.requests declared ≡ Err fault → IsRequestsFault declared source (Requests fault)
+  in_requests : {written : Option Core} {fault : RequestFault} → IsWritten declared source.driver written → parsed_requests source.requests declared ≡ Err fault
+      → IsRequestsFault declared source (Requests fault)
 
 -- what a driver over rules in an order is compiled to, where these cells are asked for
 pub record IsProgram (declared : Declared) (base : Base) (core : Core) (requests : List ℕ) (flat : Flat) (face : Face) : Type 0 where

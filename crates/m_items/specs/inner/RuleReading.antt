@@ -110,7 +110,8 @@ formula_at ts = do
 -- Rules.
 
 unfoldable pub chaining_at : List Token → Option (Bool × List Token)
-chaining_at ts = choose (key_at keys.Enchaineur ts) (Some (false, ts)) (λ o. sign_at signs.Colon o.1 >>= λ c. open_at word c.1 >>= λ w. sign_at signs.Semicolon w.1 >>= λ s. Some (true, s.1))
+chaining_at ts = choose (key_at keys.Enchaineur ts) (Some (false, ts)) (λ o. sign_at signs.Colon o.1 >>= λ c. open_at word c.1 >>= λ w. sign_at signs.Semicolon
+    w.1 >>= λ s. Some (true, s.1))
 
 unfoldable pub rule_at : List Token → Option (RuleItem × List Token)
 rule_at ts = do

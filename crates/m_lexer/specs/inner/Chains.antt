@@ -19,4 +19,5 @@ open_at opens (t ∷ ts) = choose (opens t) None (λ b. Some (b, ts))
 -- What stands any number of times: at most n further ones, after those that are done.
 unfoldable pub chain_at : {T A B X : Type 0} → (T → Option B) → (B → A → X) → (List T → Option (A × List T)) → ℕ → List X → List T → Option (List X × List T)
 chain_at opens made p zero done ts = Some (done, ts)
-chain_at opens made p (suc n) done ts = choose (open_at opens ts) (Some (done, ts)) (λ o. p o.1 >>= λ x. chain_at opens made p n (done ++ made o.0 x.0 ∷ []) x.1)
+chain_at opens made p (suc n) done ts = choose (open_at opens ts) (Some (done, ts)) (λ o. p o.1 >>= λ x. chain_at opens made p n (done ++ made o.0 x.0 ∷ [])
+    x.1)

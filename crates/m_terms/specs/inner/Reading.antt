@@ -26,7 +26,8 @@ use Rattle.m_terms.specs.declared.cursor.Level.{Level}
 use Rattle.m_terms.specs.declared.cursor.Level.TheVariants.{Disjunction, Conjunction, Sum, Product}
 use Rattle.m_terms.specs.Tokens.{is_sign, kind_is_sign, kind_is_key}
 use Rattle.m_terms.specs.Headers.{point, letter, span, index, header}
-use Rattle.m_terms.specs.Grammar.{one, two, three, addition, addition_of, multiplication, multiplication_of, conjunction, conjunction_of, disjunction, disjunction_of, comparison, function_of, link, member, gathered}
+use Rattle.m_terms.specs.Grammar.{one, two, three, addition, addition_of, multiplication, multiplication_of, conjunction, conjunction_of, disjunction}
+use Rattle.m_terms.specs.Grammar.{disjunction_of, comparison, function_of, link, member, gathered}
 
 -- What a reader of the code returned is what reading gives, unless memory ran out.
 abbrev pub Fails : {A : Type 0} → TermFault → Option A → Type 0
@@ -76,7 +77,8 @@ abbrev pub values_at : List Token → Option (List Span × List Token)
 values_at = joined_at (is_sign signs.Comma) span_at
 
 unfoldable pub places_at : List Token → Option (List Span × List Token)
-places_at ts = choose (mark_at (OfSign signs.OpenParen) ts) (values_at ts) (λ o. values_at o.1 >>= λ vs. mark_at (OfSign signs.CloseParen) vs.1 >>= λ r. Some (vs.0, r.1))
+places_at ts = choose (mark_at (OfSign signs.OpenParen) ts) (values_at ts) (λ o. values_at o.1 >>= λ vs. mark_at (OfSign signs.CloseParen) vs.1 >>= λ r. Some
+    (vs.0, r.1))
 
 unfoldable pub assigned_at : List Token → Option (Index × List Token)
 assigned_at ts = do
@@ -142,7 +144,8 @@ choice_at e ts = do
   Some (three ops.Choose a.0 b.0 c.0, c.1)
 
 unfoldable pub named_at : (List Token → Option (Syntax × List Token)) → List ℕ → Place → List Token → Option (Syntax × List Token)
-named_at e w p ts = choose (mark_at (OfSign signs.OpenBracket) ts) (Some (named w p, ts)) (λ o. until_at e (OfSign signs.CloseBracket) o.1 >>= λ t. Some (cell w t.0 p, t.1))
+named_at e w p ts = choose (mark_at (OfSign signs.OpenBracket) ts) (Some (named w p, ts))
+    (λ o. until_at e (OfSign signs.CloseBracket) o.1 >>= λ t. Some (cell w t.0 p, t.1))
 
 unfoldable pub called_at : (List Token → Option (Syntax × List Token)) → Op → List Token → Option (Syntax × List Token)
 called_at e op ts = until_at e (OfSign signs.CloseParen) ts >>= λ t. Some (one op t.0, t.1)
@@ -239,7 +242,8 @@ outside_at t ts = mark_at (OfKey keys.Dans) ts >>= λ d. inside_at true t d.1
 
 -- what follows a sum that isn't compared
 unfoldable pub membership_at : Syntax → List Token → Option (Syntax × List Token)
-membership_at t ts = choose (mark_at (OfKey keys.Dans) ts) (choose (mark_at (OfKey keys.Non) ts) (Some (t, ts)) (λ n. outside_at t n.1)) (λ d. inside_at false t d.1)
+membership_at t ts = choose (mark_at (OfKey keys.Dans) ts) (choose (mark_at (OfKey keys.Non) ts) (Some (t, ts)) (λ n. outside_at t n.1))
+    (λ d. inside_at false t d.1)
 
 unfoldable pub relation_at : (List Token → Option (Syntax × List Token)) → List Token → Option (Syntax × List Token)
 relation_at e ts = do

@@ -36,7 +36,8 @@ mutual
   pub inj : (x y : Tree) → code x ≡ code y → x ≡ y
   inj (lit a) (lit b) p = ap lit (value.the_row.coded.inj a b (ap tail p))
   inj (cell m) (cell n) p = ap cell (ap (λ g. num (tail g)) p)
-  inj (pick f s a) (pick g t b) p = λ i. pick (ap (λ h. num (head (tail h))) p i) (ap (λ h. num (head (tail (tail h)))) p i) (inj a b (ap (λ h. tail (tail (tail h))) p) i)
+  inj (pick f s a) (pick g t b) p = λ i. pick (ap (λ h. num (head (tail h))) p i) (ap (λ h. num (head (tail (tail h)))) p i)
+      (inj a b (ap (λ h. tail (tail (tail h))) p) i)
   inj (apply o a) (apply q b) p = λ i. apply (op.the_row.coded.inj o q (ap (λ g. head (tail g)) p) i) (inj_all a b (ap (λ g. tail (tail g)) p) i)
   inj (chain a r) (chain b s) p = λ i. chain (inj a b (ap (λ g. head (tail g)) p) i) (inj_along r s (ap (λ g. tail (tail g)) p) i)
   inj _ _ p = absurd (omega (arith, ap (λ g. num (head g)) p))
@@ -48,7 +49,8 @@ mutual
 
   pub inj_along : (x y : Steps) → code_along x ≡ code_along y → x ≡ y
   inj_along end end p = refl
-  inj_along (step o a r) (step q b s) p = λ i. step (op.the_row.coded.inj o q (ap head p) i) (inj a b (ap (λ g. head (tail g)) p) i) (inj_along r s (ap (λ g. tail (tail g)) p) i)
+  inj_along (step o a r) (step q b s) p = λ i. step (op.the_row.coded.inj o q (ap head p) i) (inj a b (ap (λ g. head (tail g)) p) i)
+      (inj_along r s (ap (λ g. tail (tail g)) p) i)
   inj_along _ _ p = absurd (cc)
 
 abbrev pub coded_tree : Coded Tree

@@ -1,5 +1,6 @@
 -- What a flat program so far is worth, and what a step adds to it.
-use Rattle.std.specs.Prelude.{◌≡◌, ℕ, zero, suc, ◌+◌, ◌*◌, ◌<◌, ◌≤◌, Bool, true, false, pos, negsuc, if◌then◌else◌, List, [], ◌∷◌, ◌++◌, Option, Some, None, map, length, replicate, slice_index_or, slice_set, option_and_then}
+use Rattle.std.specs.Prelude.{◌≡◌, ℕ, zero, suc, ◌+◌, ◌*◌, ◌<◌, ◌≤◌, Bool, true, false, pos, negsuc, if◌then◌else◌, List, [], ◌∷◌, ◌++◌, Option, Some, None}
+use Rattle.std.specs.Prelude.{map, length, replicate, slice_index_or, slice_set, option_and_then}
 use Rattle.std.specs.List.{AllByRecursion, cons_option}
 use Rattle.std.specs.Option.{option_or}
 use Rattle.m_fixed.specs.declared.amount.Value.{Value}
@@ -287,7 +288,8 @@ pub record Held (b : Builder) (ps : List (ℕ × ℕ)) : Type 0 where
 pub record Merged (b c : Builder) (truth : ℕ) (rest whole : List (ℕ × ℕ)) (env env' : List ℕ) : Type 0 where
   pub grows : Grows b c
   pub known : Known c env'
-  pub first : (inputs : List Value) → at b inputs truth ≡ Num (pos 1000000) → written (entries b inputs rest) (denoted c inputs env') ≡ written (entries b inputs whole) (denoted b inputs env)
+  pub first : (inputs : List Value) → at b inputs truth ≡ Num (pos 1000000)
+      → written (entries b inputs rest) (denoted c inputs env') ≡ written (entries b inputs whole) (denoted b inputs env)
   pub second : (inputs : List Value) → at b inputs truth ≡ Num (pos 0) → denoted c inputs env' ≡ denoted b inputs env
 
 -- the three literals, and neither a check nor a note

@@ -37,4 +37,5 @@ pub record Answers (core : Core) (base : Base) (declared : Declared) (requests :
   pub outputs_are : outputs ≡ nodes_of b.notes.items ++ wanted
   pub requested_known : AllByRecursion (IsUsable b) wanted
   pub requested_long : length wanted ≡ length requests
-  pub answer : (inputs : List Value) → AreValuesOf (inputs_declared declared) inputs → ended_so (so_far b inputs) (map (at b inputs) wanted) ≡ answer_of core base declared requests inputs
+  pub answer : (inputs : List Value) → AreValuesOf (inputs_declared declared) inputs
+      → ended_so (so_far b inputs) (map (at b inputs) wanted) ≡ answer_of core base declared requests inputs

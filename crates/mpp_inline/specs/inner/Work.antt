@@ -52,7 +52,8 @@ abbrev pub done : Whole → Builder → List Value → Work → Point → Point
 done whole b inputs (Run depth block) p = record { guard = p.guard; far = under p.guard p.far (does whole depth block.now) }
 done whole b inputs (Under k) p = record { guard = at b inputs k; far = p.far }
 done whole b inputs (Restore before) p = record { guard = p.guard; far = then_do p.far (λ e. goes [] (written (entries b inputs before.items) e)) }
-done whole b inputs (Return cells outer) p = record { guard = p.guard; far = then_do p.far (λ e. goes [] (with_values cells.now (environment e) (denoted b inputs outer.items))) }
+done whole b inputs (Return cells outer)
+    p = record { guard = p.guard; far = then_do p.far (λ e. goes [] (with_values cells.now (environment e) (denoted b inputs outer.items))) }
 
 -- all items, the last first
 abbrev pub finish : Whole → Builder → List Value → List Work → Point → Point

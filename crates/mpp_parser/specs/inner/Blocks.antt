@@ -1,5 +1,6 @@
 -- Reading lines as a function: as many commands as the lines at the start spell, and the lines after them.
-use Rattle.std.specs.Prelude.{◌≡◌, ℕ, zero, suc, ◌==◌, ◌&&◌, nat_lt, Bool, false, cond, List, [], ◌∷◌, ◌++◌, length, Option, Some, None, Result, Ok, Err, is_some}
+use Rattle.std.specs.Prelude.{◌≡◌, ℕ, zero, suc, ◌==◌, ◌&&◌, nat_lt, Bool, false, cond, List, [], ◌∷◌, ◌++◌, length, Option, Some, None, Result, Ok, Err}
+use Rattle.std.specs.Prelude.{is_some}
 use Rattle.std.specs.declared.alloc.AllocError.{AllocError}
 use Rattle.m_places.specs.declared.limits.TheConstants.{DRIVER_LEVEL}
 use Rattle.mpp_lexer.specs.declared.piece.Line.{Line}
@@ -59,7 +60,8 @@ some_of (a ∷ acts) ls = Some (a ∷ acts, ls)
 unfoldable pub block_at : ℕ → ℕ → List Line → Option (List Act × List Line)
 block_at zero i ls = None
 block_at (suc d) i [] = None
-block_at (suc d) i (l ∷ ls) = cond (nat_lt i l.indent) (some_of (commands_at (block_at d) l.indent (l ∷ ls)).0 (commands_at (block_at d) l.indent (l ∷ ls)).1) None
+block_at (suc d) i (l ∷ ls) = cond (nat_lt i l.indent) (some_of (commands_at (block_at d) l.indent (l ∷ ls)).0 (commands_at (block_at d) l.indent (l ∷ ls)).1)
+    None
 
 unfoldable pub headed_at : ℕ → Sentence → List Line → Option (Function × List Line)
 headed_at n (sentences.Function name) ls = block_at DRIVER_LEVEL 0 ls >>= λ b. Some (record { name = name; line = n; body = b.0 }, b.1)

@@ -21,11 +21,15 @@ abbrev mutual
 
 mutual
   pub inj : (x y : Act) → code x ≡ code y → x ≡ y
-  inj (set m c t) (set n d u) p = λ i. set (ap (λ g. num (head (tail g))) p i) (cells.the_row.coded.inj c d (ap (λ g. head (tail (tail g))) p) i) (coded_term.inj t u (ap (λ g. tail (tail (tail g))) p) i)
+  inj (set m c t) (set n d u) p = λ i. set (ap (λ g. num (head (tail g))) p i) (cells.the_row.coded.inj c d (ap (λ g. head (tail (tail g))) p) i)
+      (coded_term.inj t u (ap (λ g. tail (tail (tail g))) p) i)
   inj (del m c) (del n d) p = λ i. del (ap (λ g. num (head (tail g))) p i) (cells.the_row.coded.inj c d (ap (λ g. tail (tail g)) p) i)
-  inj (when m t a b) (when n u c d) p = λ i. when (ap (λ g. num (head (tail g))) p i) (coded_term.inj t u (ap (λ g. head (tail (tail g))) p) i) (inj_all a c (ap (λ g. head (tail (tail (tail g)))) p) i) (inj_all b d (ap (λ g. tail (tail (tail (tail g)))) p) i)
-  inj (partition m k a) (partition n l b) p = λ i. partition (ap (λ g. num (head (tail g))) p i) (kinds.the_row.coded.inj k l (ap (λ g. head (tail (tail g))) p) i) (inj_all a b (ap (λ g. tail (tail (tail g))) p) i)
-  inj (call m cs f) (call n ds g) p = λ i. call (ap (λ g. num (head (tail g))) p i) ((coded_list cells.the_row.coded).inj cs ds (ap (λ g. head (tail (tail g))) p) i) ((coded_list coded_ℕ).inj f g (ap (λ g. tail (tail (tail g))) p) i)
+  inj (when m t a b) (when n u c d) p = λ i. when (ap (λ g. num (head (tail g))) p i) (coded_term.inj t u (ap (λ g. head (tail (tail g))) p) i)
+      (inj_all a c (ap (λ g. head (tail (tail (tail g)))) p) i) (inj_all b d (ap (λ g. tail (tail (tail (tail g)))) p) i)
+  inj (partition m k a) (partition n l b) p = λ i. partition (ap (λ g. num (head (tail g))) p i)
+      (kinds.the_row.coded.inj k l (ap (λ g. head (tail (tail g))) p) i) (inj_all a b (ap (λ g. tail (tail (tail g))) p) i)
+  inj (call m cs f) (call n ds g) p = λ i. call (ap (λ g. num (head (tail g))) p i)
+      ((coded_list cells.the_row.coded).inj cs ds (ap (λ g. head (tail (tail g))) p) i) ((coded_list coded_ℕ).inj f g (ap (λ g. tail (tail (tail g))) p) i)
   inj _ _ p = absurd (omega (arith, ap (λ g. num (head g)) p))
 
   pub inj_all : (x y : Acts) → code_all x ≡ code_all y → x ≡ y

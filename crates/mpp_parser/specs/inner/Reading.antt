@@ -25,7 +25,8 @@ use Rattle.mpp_parser.specs.declared.sentence.Sentence.{Sentence}
 use Rattle.mpp_parser.specs.declared.sentence.Sentence.TheVariants as sentences
 use Rattle.mpp_parser.specs.Keywords.{keyword_of}
 use Rattle.mpp_parser.specs.Trees.{Term, lit, named, exists}
-use Rattle.mpp_parser.specs.Grammar.{is, key, disjunction, conjunction, comparison, addition, multiplication, link, gathered, unary, binary, cast_of, tax_benefit}
+use Rattle.mpp_parser.specs.Grammar.{is, key, disjunction, conjunction, comparison, addition, multiplication, link, gathered, unary, binary, cast_of}
+use Rattle.mpp_parser.specs.Grammar.{tax_benefit}
 
 -- What a reader of the code returned is what reading gives, unless memory ran out.
 abbrev pub Fails : {A : Type 0} → Unread → Option A → Type 0
@@ -70,10 +71,12 @@ word_of _ = None
 abbrev pub word_at : List DriverPiece → Option (List ℕ × List DriverPiece)
 word_at = open_at word_of
 
-abbrev pub links_at : (DriverPiece → Option Op) → (List DriverPiece → Option (Term × List DriverPiece)) → List DriverPiece → Option (List DLink × List DriverPiece)
+abbrev pub links_at : (DriverPiece → Option Op) → (List DriverPiece → Option (Term × List DriverPiece)) → List DriverPiece
+    → Option (List DLink × List DriverPiece)
 links_at operator p ts = chain_at operator link p (length ts) [] ts
 
-unfoldable pub gathered_at : (DriverPiece → Option Op) → (List DriverPiece → Option (Term × List DriverPiece)) → List DriverPiece → Option (Term × List DriverPiece)
+unfoldable pub gathered_at : (DriverPiece → Option Op) → (List DriverPiece → Option (Term × List DriverPiece)) → List DriverPiece
+    → Option (Term × List DriverPiece)
 gathered_at operator p ts = do
   first ← p ts
   others ← links_at operator p first.1
@@ -89,7 +92,8 @@ bracket_at ts = do
 
 -- after the word
 unfoldable pub cell_rest_at : List ℕ → List DriverPiece → Option (CellName × List DriverPiece)
-cell_rest_at w ts = choose (sign_at OpenBracket ts) (Some (record { name = w; index = None }, ts)) (λ o. bracket_at o.1 >>= λ n. Some (record { name = w; index = Some n.0 }, n.1))
+cell_rest_at w ts = choose (sign_at OpenBracket ts) (Some (record { name = w; index = None }, ts))
+    (λ o. bracket_at o.1 >>= λ n. Some (record { name = w; index = Some n.0 }, n.1))
 
 unfoldable pub cell_at : List DriverPiece → Option (CellName × List DriverPiece)
 cell_at ts = do

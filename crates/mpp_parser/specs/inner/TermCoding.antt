@@ -50,7 +50,8 @@ mutual
 
   pub inj_links : (x y : Links) → code_links x ≡ code_links y → x ≡ y
   inj_links no_links no_links p = refl
-  inj_links (a_link f a r) (a_link g b s) p = λ i. a_link (operators.the_row.coded.inj f g (ap head p) i) (inj a b (ap (λ g. head (tail g)) p) i) (inj_links r s (ap (λ g. tail (tail g)) p) i)
+  inj_links (a_link f a r) (a_link g b s) p = λ i. a_link (operators.the_row.coded.inj f g (ap head p) i) (inj a b (ap (λ g. head (tail g)) p) i)
+      (inj_links r s (ap (λ g. tail (tail g)) p) i)
   inj_links _ _ p = absurd (cc)
 
 abbrev pub coded_term : Coded Term

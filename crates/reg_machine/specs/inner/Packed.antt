@@ -12,7 +12,8 @@ use Rattle.reg_machine.specs.declared.instr.Instr.TheVariants.{Take, Lit, Do, St
 use Rattle.reg_machine.specs.declared.instr.TheConstants.{REGISTERS}
 use Rattle.reg_machine.specs.declared.code.Packed.{Packed}
 use Rattle.reg_machine.specs.declared.code.Parts.{Parts}
-use Rattle.reg_machine.specs.declared.code.Packed.TheVariants.{Take as Takes, Lit as Lits, Do as Does, Store as Stores, Load as Loads, Check as Checks, Output as Outputs}
+use Rattle.reg_machine.specs.declared.code.Packed.TheVariants.{Take as Takes, Lit as Lits, Do as Does, Store as Stores, Load as Loads, Check as Checks}
+use Rattle.reg_machine.specs.declared.code.Packed.TheVariants.{Output as Outputs}
 
 -- the instruction, by the pool and the slots that are used
 abbrev pub unpacked : List Value → List ℕ → Packed → Instr

@@ -1,5 +1,6 @@
 -- The allocator's invariant.
-use Rattle.std.specs.Prelude.{◌≡◌, ℕ, suc, ◌+◌, ◌*◌, ◌<◌, ◌≤◌, nat_lt, Bool, true, ◌⊎◌, List, ◌++◌, [], ◌∷◌, length, slice_index_or, take, drop, map, Option, Some, None, if◌then◌else◌}
+use Rattle.std.specs.Prelude.{◌≡◌, ℕ, suc, ◌+◌, ◌*◌, ◌<◌, ◌≤◌, nat_lt, Bool, true, ◌⊎◌, List, ◌++◌, [], ◌∷◌, length, slice_index_or, take, drop, map, Option}
+use Rattle.std.specs.Prelude.{Some, None, if◌then◌else◌}
 use Rattle.std.specs.List.{sum_by}
 use Rattle.flat_code.specs.declared.program.Flat.{Flat}
 use Rattle.flat_code.specs.declared.program.Node.{Node}

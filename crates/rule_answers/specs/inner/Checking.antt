@@ -39,6 +39,7 @@ pub data LinesReplies (base : Base) (given : Environment) (lines : List ReportLi
 
 -- what is answered to a report
 pub data SaidReplies (declared : Declared) (base : Base) (given : Environment) (report : List ℕ) : List ℕ → Status → Type 0 where
-  refused : {line : List ℕ} (fault : ReportFault) → parsed_report declared report ≡ Err fault → report_fault_line fault ≡ Some line → SaidReplies declared base given report line Refused
+  refused : {line : List ℕ} (fault : ReportFault) → parsed_report declared report ≡ Err fault → report_fault_line fault ≡ Some line
+      → SaidReplies declared base given report line Refused
   reported : {text : List ℕ} {status : Status} (lines : List ReportLine) → parsed_report declared report ≡ Ok lines → LinesReplies base given lines text status
       → SaidReplies declared base given report text status

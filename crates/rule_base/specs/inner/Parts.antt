@@ -31,7 +31,8 @@ pub record IsBaseOver (items : List Item) (application : List ℕ) (declared : D
 -- why the rules of the items are no base
 pub data IsOverFault (items : List Item) (application : List ℕ) (declared : Declared) : RuleFault → Type 0 where
   loops : {fault : ExpandFault} → expand_fault items application declared ≡ Some fault → IsOverFault items application declared (Expand fault)
-  names : {fault : ResolveFault} → expand_fault items application declared ≡ None → resolved declared (expansion items application declared) ≡ Err fault → IsOverFault items application declared (Resolve fault)
+  names : {fault : ResolveFault} → expand_fault items application declared ≡ None → resolved declared (expansion items application declared) ≡ Err fault
+      → IsOverFault items application declared (Resolve fault)
 
 -- a cycle of the base, shown by the names of its cells
 pub data ShowsNamedCycle (declared : Declared) (base : Base) : RuleFault → Type 0 where

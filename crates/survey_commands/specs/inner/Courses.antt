@@ -38,7 +38,8 @@ WorkIsAnswered Version old new status = Prints version_line Done old new status
 pub data Course (words : List (List ℕ)) (before after : FilesView) (old new : OutputView) (status : Status) : Type 0 where
   is_no_command : command_of words ≡ None → after ≡ before → Prints usage_line Usage old new status → Course words before after old new status
   has_no_memory : after ≡ before → new ≡ old → status ≡ Memory → Course words before after old new status
-  ended : (wanted : Command) (ending : Ending) → command_of words ≡ Some wanted → GoesAlong (plan_of wanted) before after (Err ending) → ReportsEnding ending old new status
+  ended : (wanted : Command) (ending : Ending) → command_of words ≡ Some wanted → GoesAlong (plan_of wanted) before after (Err ending)
+      → ReportsEnding ending old new status
       → Course words before after old new status
   answered : (wanted : Command) (work : Work) → command_of words ≡ Some wanted → GoesAlong (plan_of wanted) before after (Ok work) → IsWorkOf wanted work
       → WorkIsAnswered work old new status → Course words before after old new status

@@ -15,6 +15,8 @@ pub data IsFactsBy (base : Base) (compiled : Compiled) (given : List Possible) :
 
 -- the text is the line of a fault of the ranges, or that of what holds within them
 pub data IsFactsOf (base : Base) (compiled : Compiled) (ranges : Option (List ℕ)) : List ℕ → Status → Type 0 where
-  are_refused : {line : List ℕ} (fault : HouseholdFault) → given_by compiled.face.inputs ranges ≡ Err fault → ranges_fault_line fault ≡ Some line → IsFactsOf base compiled ranges line Refused
-  are_found : {text : List ℕ} {status : Status} (given : List Possible) → given_by compiled.face.inputs ranges ≡ Ok given → IsFactsBy base compiled given text status
+  are_refused : {line : List ℕ} (fault : HouseholdFault) → given_by compiled.face.inputs ranges ≡ Err fault → ranges_fault_line fault ≡ Some line
+      → IsFactsOf base compiled ranges line Refused
+  are_found : {text : List ℕ} {status : Status} (given : List Possible) → given_by compiled.face.inputs ranges ≡ Ok given
+      → IsFactsBy base compiled given text status
       → IsFactsOf base compiled ranges text status

@@ -10,7 +10,8 @@ use Rattle.value_sheet.specs.inner.Readers.{node_at, IsReaders, IsInputRows}
 
 -- Between two calls: the kept values are those for the inputs of the last settled state, which are those of now where nothing was
 -- put, and nothing is marked.
-pub record IsSheet (flat : Flat) (settled now : List Value) (put : List Bool) (kept : List Value) (marks : List Bool) (readers input_rows : List (List ℕ)) : Type 0 where
+pub record IsSheet (flat : Flat) (settled now : List Value) (put : List Bool) (kept : List Value) (marks : List Bool)
+    (readers input_rows : List (List ℕ)) : Type 0 where
   pub valid : IsFlat flat
   pub few : 3 * length flat.nodes < 4_294_967_295
   pub given : length now ≡ flat.inputs

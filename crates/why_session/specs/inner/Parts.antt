@@ -34,13 +34,16 @@ replies_to_why showing explains values lines wanted command =
     option_map_or (explains values) wanted (command_reply showing values command)
     ++ explained_replies showing explains (option_map_or (λ name. values) wanted (command_values showing values command)) lines
 
-replies_long : (showing : Showing) (explains : Explaining) (values : List Value) (one other : List ℕ) (lines : List (List ℕ)) → SESSION_LINE_BYTES < length one → SESSION_LINE_BYTES < length other
+replies_long : (showing : Showing) (explains : Explaining) (values : List Value) (one other : List ℕ) (lines : List (List ℕ)) → SESSION_LINE_BYTES < length one
+    → SESSION_LINE_BYTES < length other
     → explained_replies showing explains values (one ∷ lines) ≡ explained_replies showing explains values (other ∷ lines)
 replies_long showing explains values one other lines long longer =
-    ap (λ wanted. replies_to_why showing explains values lines wanted (session_command one)) (too_long_names_none one long ∙ sym (too_long_names_none other longer))
+    ap (λ wanted. replies_to_why showing explains values lines wanted (session_command one)) (too_long_names_none one long
+    ∙ sym (too_long_names_none other longer))
     ∙ ap (λ command. replies_to_why showing explains values lines (why_name other) command) (too_long_is one long ∙ sym (too_long_is other longer))
 
 pub long_alike : (joined : Joined) (one other : List ℕ) (lines : List (List ℕ)) → SESSION_LINE_BYTES < length one → SESSION_LINE_BYTES < length other
     → joined_replies joined (one ∷ lines) ≡ joined_replies joined (other ∷ lines)
 long_alike joined one other lines long longer =
-    replies_long (showing_of joined.seated.sitting) (explains_by joined.declared joined.reporting.ordered) joined.seated.sitting.values one other lines long longer
+    replies_long (showing_of joined.seated.sitting) (explains_by joined.declared joined.reporting.ordered) joined.seated.sitting.values one other lines long
+    longer

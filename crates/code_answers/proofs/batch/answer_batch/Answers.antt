@@ -23,7 +23,8 @@ returns-in-Ok g c = λ scheme shown.
     let given = subst (λ inputs. table_of inputs c.args.table.now ≡ Ok c.in-Ok.rows) shown.inputs c.in-Ok.ensures.outcome in
     batch_written _ _ _ _ _ _ (TableReplies scheme c.args.table.now) _ (rows_are_answered c.in-Ok.rows given)
     c.status_of_rows.ensures
-    (rw (rows_reported scheme c.args.loaded.now 0 c.in-Ok.rows shown (code_many scheme c.args.loaded.now shown) (table_gives scheme.inputs c.args.table.now c.in-Ok.rows given)) at (rw c.as_slice.ensures at c.print_batch.ensures.text))
+    (rw (rows_reported scheme c.args.loaded.now 0 c.in-Ok.rows shown (code_many scheme c.args.loaded.now shown)
+    (table_gives scheme.inputs c.args.table.now c.in-Ok.rows given)) at (rw c.as_slice.ensures at c.print_batch.ensures.text))
 
 pub returns-in-Err : goal.returns-in-Err
 returns-in-Err g c = λ scheme shown.

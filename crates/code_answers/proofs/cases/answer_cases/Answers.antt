@@ -19,14 +19,22 @@ pub returns-in-Ok : goal.returns-in-Ok
 returns-in-Ok g c = λ scheme shown.
     let loaded = c.args.loaded.now in
     let given = c.in-Ok.cases in
-    let stated = face_read (length (notes_of loaded.face.outputs)) (cases_of loaded.face.inputs (names_of loaded.face.outputs) c.args.table.now) given c.in-Ok.ensures.outcome in
+    let stated = face_read (length (notes_of loaded.face.outputs)) (cases_of loaded.face.inputs (names_of loaded.face.outputs) c.args.table.now) given
+    c.in-Ok.ensures.outcome in
     let cases = stated.0 in
-    let read : AreRead scheme loaded cases given = record { same = stated.2; shown = shown; inputs = code_many scheme loaded shown; types = c.in-Ok.ensures.amounts; many = c.in-Ok.ensures.many } in
+    let read : AreRead scheme loaded cases given = record {
+      same = stated.2;
+      shown = shown;
+      inputs = code_many scheme loaded shown;
+      types = c.in-Ok.ensures.amounts;
+      many = c.in-Ok.ensures.many;
+    } in
     let of : cases_of scheme.inputs scheme.names c.args.table.now ≡ Ok cases =
     subst (λ names. cases_of scheme.inputs names c.args.table.now ≡ Ok cases) shown.names
     (subst (λ inputs. cases_of inputs (names_of loaded.face.outputs) c.args.table.now ≡ Ok cases) shown.inputs stated.1) in
     cases_written _ _ _ _ _ _ _ (ComparedReplies scheme c.args.table.now) _ (is_compared cases of)
-    (λ n is. counted_is _ n _ (rw (c.as_slice.ensures, c.as_slice-in-Ok.ensures) at c.print_cases.ensures.count) is ∙ counted_reported scheme loaded cases given read) c.status_of_cases.ensures
+    (λ n is. counted_is _ n _ (rw (c.as_slice.ensures, c.as_slice-in-Ok.ensures) at c.print_cases.ensures.count) is
+    ∙ counted_reported scheme loaded cases given read) c.status_of_cases.ensures
     (rw (text_reported scheme loaded cases given read) at (rw (c.as_slice.ensures, c.as_slice-in-Ok.ensures) at c.print_cases.ensures.text))
 
 pub returns-in-Err : goal.returns-in-Err
@@ -36,5 +44,6 @@ returns-in-Err g c = λ scheme shown.
     (cases_reported {IsFault = cases_of scheme.inputs scheme.names c.args.table.now ≡ Err c.in-Err.fault} c.in-Err.fault _ _ _
     (λ m. subst (λ names. cases_of scheme.inputs names c.args.table.now ≡ Err c.in-Err.fault) shown.names
     (subst (λ inputs. cases_of inputs (names_of loaded.face.outputs) c.args.table.now ≡ Err c.in-Err.fault) shown.inputs
-    (face_fault (length (notes_of loaded.face.outputs)) (cases_of loaded.face.inputs (names_of loaded.face.outputs) c.args.table.now) c.in-Err.fault (c.in-Err.ensures.outcome m))))
+    (face_fault (length (notes_of loaded.face.outputs)) (cases_of loaded.face.inputs (names_of loaded.face.outputs) c.args.table.now) c.in-Err.fault
+    (c.in-Err.ensures.outcome m))))
     (rw c.cases_entry.ensures at c.report_refusal.ensures))

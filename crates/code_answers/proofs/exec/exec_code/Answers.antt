@@ -9,7 +9,8 @@ answer_run-requires g c = form_runs c.args.code.now c.in-Ok.loaded c.in-Ok.ensur
 pub returns-in-Ok : goal.returns-in-Ok
 returns-in-Ok g c =
     let shown = code_shows c.in-Ok.loaded (form_runs c.args.code.now c.in-Ok.loaded c.in-Ok.ensures) in
-    exec_answered c.args.code.now c.args.household.now c.in-Ok.loaded (code_scheme c.in-Ok.loaded) _ _ _ c.in-Ok.ensures shown (c.answer_run.ensures (code_scheme c.in-Ok.loaded) shown)
+    exec_answered c.args.code.now c.args.household.now c.in-Ok.loaded (code_scheme c.in-Ok.loaded) _ _ _ c.in-Ok.ensures shown
+    (c.answer_run.ensures (code_scheme c.in-Ok.loaded) shown)
 
 pub returns-in-Err : goal.returns-in-Err
 returns-in-Err g c =

@@ -18,7 +18,8 @@ give_large-requires g c =
 
 pub returns-in-Ok : goal.returns-in-Ok
 returns-in-Ok g c = λ scheme shown.
-    rows_printed (large_line c.args.n) scheme c.args.loaded.now (household_text c.args.n) c.in-Ok.answer _ _ _ shown (rw c.requires.generated at c.in-Ok.ensures)
+    rows_printed (large_line c.args.n) scheme c.args.loaded.now (household_text c.args.n) c.in-Ok.answer _ _ _ shown
+    (rw c.requires.generated at c.in-Ok.ensures)
     (rw c.status_of.ensures at (prints_given _ _ _ _ _ _ _ _ c.give_large.ensures c.printed.ensures))
 
 pub without_answer-requires : goal.without_answer-requires

@@ -11,7 +11,8 @@ use Rattle.code_answers.proofs.run.answer_run.Goals as goal
 pub give_answer-requires : goal.give_answer-requires
 give_answer-requires g c =
     let of = c.in-Ok-answer_of.ensures in
-    subst (AnswerIsWithin c.args.loaded.now.face) (sym of.ran) (answer_within c.args.loaded.now (values_of of.pairs c.args.loaded.now.code.counts.inputs) c.requires)
+    subst (AnswerIsWithin c.args.loaded.now.face) (sym of.ran) (answer_within c.args.loaded.now (values_of of.pairs c.args.loaded.now.code.counts.inputs)
+    c.requires)
 
 pub returns-in-Ok-answer_of : goal.returns-in-Ok-answer_of
 returns-in-Ok-answer_of g c = λ scheme shown.

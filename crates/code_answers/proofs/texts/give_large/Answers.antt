@@ -9,5 +9,6 @@ pub returns-in-Ok : goal.returns-in-Ok
 returns-in-Ok g c =
     let gave = c.give_all.ensures in
     gives_whole _ _ _ _ _ _ (large_line c.args.n ++ answer_lines c.args.face.now c.args.answer.now)
-    (held_whole _ _ (large_line c.args.n ++ answer_lines c.args.face.now c.args.answer.now) _ (ap (λ (t : TextIn). t.bytes) c.clear.ensures) c.in-Ok.ensures.all c.text.ensures)
+    (held_whole _ _ (large_line c.args.n ++ answer_lines c.args.face.now c.args.answer.now) _ (ap (λ (t : TextIn). t.bytes) c.clear.ensures) c.in-Ok.ensures.all
+    c.text.ensures)
     (record { all = gave.all; failed = gave.failed; prefix = gave.prefix; faultless = gave.faultless; counted = gave.counted })

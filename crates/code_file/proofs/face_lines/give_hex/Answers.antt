@@ -8,7 +8,8 @@ pub returns-in_err-give_byte : goal.returns-in_err-give_byte
 returns-in_err-give_byte g c =
     let p = err_from_is_err_and c.from_residual.result c.from_residual.ensures.1 in
     let gave = c.in_err-give_byte.ensures in
-    piece_failed _ _ _ _ _ _ _ _ _ _ _ p.1 (hex-at c.args.text.now c.loop-byte.byte-index c.loop-byte-test.true) c.loop-byte.invariant gave.failed gave.prefix gave.counted
+    piece_failed _ _ _ _ _ _ _ _ _ _ _ p.1 (hex-at c.args.text.now c.loop-byte.byte-index c.loop-byte-test.true) c.loop-byte.invariant gave.failed gave.prefix
+    gave.counted
 
 pub loop-byte-preserved : goal.loop-byte-preserved
 loop-byte-preserved g c =

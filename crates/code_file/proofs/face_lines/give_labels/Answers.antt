@@ -9,12 +9,14 @@ pub returns-in_err-give_label : goal.returns-in_err-give_label
 returns-in_err-give_label g c =
     let p = err_from_is_err_and c.from_residual.result c.from_residual.ensures.1 in
     let gave = c.in_err-give_label.ensures in
-    piece_failed _ _ _ _ _ _ _ _ _ _ _ p.1 (lines-at label_line c.args.labels.now c.loop-k.k _ _ c.loop-k-test.true c.index-labels-k.is) c.loop-k.invariant gave.failed gave.prefix gave.counted
+    piece_failed _ _ _ _ _ _ _ _ _ _ _ p.1 (lines-at label_line c.args.labels.now c.loop-k.k _ _ c.loop-k-test.true c.index-labels-k.is) c.loop-k.invariant
+    gave.failed gave.prefix gave.counted
 
 pub loop-k-preserved : goal.loop-k-preserved
 loop-k-preserved g c =
     let gave = c.in_ok-give_label.ensures in
-    piece_given _ _ _ _ _ _ _ _ _ (lines-at label_line c.args.labels.now c.loop-k.k _ _ c.loop-k-test.true c.index-labels-k.is) c.loop-k.invariant gave.all gave.faultless
+    piece_given _ _ _ _ _ _ _ _ _ (lines-at label_line c.args.labels.now c.loop-k.k _ _ c.loop-k-test.true c.index-labels-k.is) c.loop-k.invariant gave.all
+    gave.faultless
 
 pub returns : goal.returns
 returns g c = all_given _ _ _ _ _ _ tt refl (rw (lines-end label_line c.args.labels.now c.loop-k.k c.loop-k-test.false) at c.loop-k.invariant)

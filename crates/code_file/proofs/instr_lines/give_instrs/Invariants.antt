@@ -4,4 +4,5 @@ use Rattle.code_file.specs.Text.{lines, instr_line}
 use Rattle.code_file.proofs.instr_lines.give_instrs.Given as goal
 
 abbrev pub invariant-loop-place : goal.invariant-loop-place
-invariant-loop-place g l = Given g.K.Sink.written g.K.Sink.faults l.initial.out l.out (lines instr_line l.code.instrs) (lines instr_line (drop l.place l.code.instrs))
+invariant-loop-place g l = Given g.K.Sink.written g.K.Sink.faults l.initial.out l.out (lines instr_line l.code.instrs)
+    (lines instr_line (drop l.place l.code.instrs))

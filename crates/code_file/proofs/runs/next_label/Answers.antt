@@ -8,7 +8,9 @@ pub returns-in-None : goal.returns-in-None
 returns-in-None c = no-line label_line label_of IsRightLabel label-spelling c.args.text.now c.in-None.ensures
 
 pub returns-in-None-2 : goal.returns-in-None-2
-returns-in-None-2 c = no-front label_line label_of IsRightLabel label-spelling c.args.text.now c.in-Some.line.now c.in-Some.behind.now c.in-Some.ensures (rw c.in-None-2.is at c.in_ok-read_label-in-Some.ensures)
+returns-in-None-2 c = no-front label_line label_of IsRightLabel label-spelling c.args.text.now c.in-Some.line.now c.in-Some.behind.now c.in-Some.ensures
+    (rw c.in-None-2.is at c.in_ok-read_label-in-Some.ensures)
 
 pub returns-in-Some-2 : goal.returns-in-Some-2
-returns-in-Some-2 c = front-is label_line label_of IsRightLabel label-spelling c.args.text.now c.in-Some.line.now c.in-Some.behind.now c.in-Some-2.label c.in-Some.ensures (rw c.in-Some-2.is at c.in_ok-read_label-in-Some.ensures)
+returns-in-Some-2 c = front-is label_line label_of IsRightLabel label-spelling c.args.text.now c.in-Some.line.now c.in-Some.behind.now c.in-Some-2.label
+    c.in-Some.ensures (rw c.in-Some-2.is at c.in_ok-read_label-in-Some.ensures)

@@ -7,6 +7,7 @@ pub loop-inputs-preserved : goal.loop-inputs-preserved
 loop-inputs-preserved c =
     let front = rw c.in-Some.is at c.in_ok-next_input.ensures in
     record {
-      whole = rw c.in_ok-push-in-Some.ensures.items (lines-push input_line c.args.text.now c.loop-inputs.rest.now c.in-Some.behind.now c.loop-inputs.inputs.items c.in-Some.input c.loop-inputs.invariant.whole front.0);
+      whole = rw c.in_ok-push-in-Some.ensures.items (lines-push input_line c.args.text.now c.loop-inputs.rest.now c.in-Some.behind.now
+          c.loop-inputs.inputs.items c.in-Some.input c.loop-inputs.invariant.whole front.0);
       right = rw c.in_ok-push-in-Some.ensures.items (all-push IsRightInput c.loop-inputs.inputs.items c.in-Some.input c.loop-inputs.invariant.right front.1);
     }

@@ -10,7 +10,8 @@ returns-then-not-may_follow c = record {
   whole = c.loop-outputs.invariant.whole;
   right = c.loop-outputs.invariant.right;
   first = c.loop-outputs.invariant.first;
-  ends = not-follows c.args.labels.now c.loop-outputs.outputs.items c.in-Some.output c.loop-outputs.rest.now c.in-Some.behind.now c.loop-outputs.named c.loop-outputs.invariant.first c.loop-outputs.invariant.named
+  ends = not-follows c.args.labels.now c.loop-outputs.outputs.items c.in-Some.output c.loop-outputs.rest.now c.in-Some.behind.now c.loop-outputs.named
+      c.loop-outputs.invariant.first c.loop-outputs.invariant.named
       (rw c.in-Some.is at c.in_ok-next_output.ensures) (sym c.may_follow.ensures ∙ c.if-not-may_follow.true);
 }
 
@@ -18,8 +19,12 @@ pub loop-outputs-preserved : goal.loop-outputs-preserved
 loop-outputs-preserved c =
     let front = rw c.in-Some.is at c.in_ok-next_output.ensures in
     record {
-      whole = rw c.in_ok-push-in-Some.ensures.items (lines-push output_line c.args.text.now c.loop-outputs.rest.now c.in-Some.behind.now c.loop-outputs.outputs.items c.in-Some.output c.loop-outputs.invariant.whole front.0);
-      right = rw c.in_ok-push-in-Some.ensures.items (all-push IsRightOutput c.loop-outputs.outputs.items c.in-Some.output c.loop-outputs.invariant.right front.1);
-      first = rw c.in_ok-push-in-Some.ensures.items (follows c.args.labels.now c.loop-outputs.outputs.items c.in-Some.output c.loop-outputs.invariant.first ∙ ap (λ b. may_follow c.args.labels.now b c.in-Some.output) (sym c.loop-outputs.invariant.named) ∙ sym c.may_follow.ensures ∙ c.if-not-may_follow.false);
+      whole = rw c.in_ok-push-in-Some.ensures.items (lines-push output_line c.args.text.now c.loop-outputs.rest.now c.in-Some.behind.now
+          c.loop-outputs.outputs.items c.in-Some.output c.loop-outputs.invariant.whole front.0);
+      right = rw c.in_ok-push-in-Some.ensures.items (all-push IsRightOutput c.loop-outputs.outputs.items c.in-Some.output c.loop-outputs.invariant.right
+          front.1);
+      first = rw c.in_ok-push-in-Some.ensures.items (follows c.args.labels.now c.loop-outputs.outputs.items c.in-Some.output c.loop-outputs.invariant.first
+          ∙ ap (λ b. may_follow c.args.labels.now b c.in-Some.output) (sym c.loop-outputs.invariant.named) ∙ sym c.may_follow.ensures
+          ∙ c.if-not-may_follow.false);
       named = rw c.in_ok-push-in-Some.ensures.items (c.is_name-named.ensures ∙ sym (ends-push c.loop-outputs.outputs.items c.in-Some.output));
     }

@@ -8,7 +8,8 @@ pub prepare_code-requires-clause-limits : goal.prepare_code-requires-clause-limi
 prepare_code-requires-clause-limits g c = λ κs held. rw c.in-Ok.ensures (large_within c.args.n c.requires.some c.requires.few)
 
 pub answer_large-requires-clause-reads : goal.answer_large-requires-clause-reads
-answer_large-requires-clause-reads g c = reads_large c.args.n c.requires.some c.requires.few c.in-Ok-prepare_code.loaded (rw c.in-Ok.ensures at c.in-Ok-prepare_code.ensures.outcome)
+answer_large-requires-clause-reads g c = reads_large c.args.n c.requires.some c.requires.few c.in-Ok-prepare_code.loaded
+    (rw c.in-Ok.ensures at c.in-Ok-prepare_code.ensures.outcome)
 
 pub returns-in-Ok-prepare_code : goal.returns-in-Ok-prepare_code
 returns-in-Ok-prepare_code g c =

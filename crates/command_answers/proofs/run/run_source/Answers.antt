@@ -11,4 +11,5 @@ returns-in-Ok g c =
 pub returns-in-Err : goal.returns-in-Err
 returns-in-Err g c =
     run_refused c.args.source.now c.args.household.now _ _ _
-    (source_reported c.args.source.now (λ inputs. household_of inputs c.args.household.now) c.in-Err.fault _ _ _ c.in-Err.ensures.outcome c.report_source.ensures)
+    (source_reported c.args.source.now (λ inputs. household_of inputs c.args.household.now) c.in-Err.fault _ _ _ c.in-Err.ensures.outcome
+    c.report_source.ensures)

@@ -13,7 +13,8 @@ answer_serve-requires-clause-many g c =
 
 pub returns-in-Ok : goal.returns-in-Ok
 returns-in-Ok g c =
-    let is : IsPrepared c.args.source.now c.program_of.result = rw c.program_of.ensures (is_prepared c.args.source.now c.in-Ok.compiled c.in-Ok.ensures.outcome) in
+    let is : IsPrepared c.args.source.now c.program_of.result = rw c.program_of.ensures
+    (is_prepared c.args.source.now c.in-Ok.compiled c.in-Ok.ensures.outcome) in
     serve_answered c.args.source.now c.program_of.result c.args.household.now _ _ _ _ _ (explains_by c.in-Ok.made.symbols c.in-Ok.made.ordered) is
     (is_explained c.args.source.now c.in-Ok.made.symbols c.in-Ok.made.ordered c.in-Ok.ensures.rules c.in-Ok.ensures.valid c.in-Ok.ensures.order)
     (c.answer_serve.ensures is.scheme is.shows)
@@ -21,4 +22,5 @@ returns-in-Ok g c =
 pub returns-in-Err : goal.returns-in-Err
 returns-in-Err g c =
     serve_refused c.args.source.now c.args.household.now _ _ _ _
-    (source_reported c.args.source.now (λ inputs. household_of inputs c.args.household.now) c.in-Err.fault _ _ _ c.in-Err.ensures.outcome c.report_source.ensures)
+    (source_reported c.args.source.now (λ inputs. household_of inputs c.args.household.now) c.in-Err.fault _ _ _ c.in-Err.ensures.outcome
+    c.report_source.ensures)

@@ -41,7 +41,10 @@ loop-i-preserved c =
     let here : i < length now = omega arith in
     let le : i ≤ i = omega arith in
     let read = node-read now now i c.index-nodes-i.result refl here c.index-nodes-i.is ∙ c.loop-i.invariant.rest i le in
-    let node : c.renamed-node.result ≡ renamed (look numbers) (node_at old i) = c.renamed-node.ensures ∙ ap (λ xs. renamed (look xs) c.index-nodes-i.result) c.deref.ensures.value ∙ ap (renamed (look numbers)) read in
+    let node : c.renamed-node.result ≡ renamed (look numbers) (node_at old i) = c.renamed-node.ensures
+    ∙ ap (λ xs. renamed (look xs) c.index-nodes-i.result) c.deref.ensures.value ∙ ap (renamed (look numbers)) read in
     subst (IsGathered old c.put-more.new.nodes (is_live c.args.live.now) (i + 1) c.put-more.result) (sym c.in_ok-push.ensures.items)
-    (gathered-step old now c.put-more.new.nodes (is_live c.args.live.now) i c.loop-i.kept c.put-more.result numbers c.renamed-node.result (is_live c.args.live.now i)
-    (reads-below c.args.inputs i (node_at old i) (are-valid c.args.inputs old c.requires.valid i lt)) lt c.loop-i.invariant refl node c.put-more.ensures.nodes c.put-more.ensures.kept)
+    (gathered-step old now c.put-more.new.nodes (is_live c.args.live.now) i c.loop-i.kept c.put-more.result numbers c.renamed-node.result
+    (is_live c.args.live.now i)
+    (reads-below c.args.inputs i (node_at old i) (are-valid c.args.inputs old c.requires.valid i lt)) lt c.loop-i.invariant refl node c.put-more.ensures.nodes
+    c.put-more.ensures.kept)

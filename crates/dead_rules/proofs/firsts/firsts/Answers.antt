@@ -13,6 +13,7 @@ loop-i-preserved c =
     let new = c.take.new.taken.items in
     let lt : i < length checks = search rules in
     record {
-      firsts = subst (λ front. AreFirsts front new) (sym (take_more checks i _ lt)) (firsts-step (take i checks) old new (check_at checks i) c.loop-i.invariant.firsts c.in_ok-take.ensures.taken);
+      firsts = subst (λ front. AreFirsts front new) (sym (take_more checks i _ lt))
+          (firsts-step (take i checks) old new (check_at checks i) c.loop-i.invariant.firsts c.in_ok-take.ensures.taken);
       same = c.in_ok-take.ensures.same;
     }

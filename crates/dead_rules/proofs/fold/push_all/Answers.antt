@@ -27,9 +27,12 @@ push-requires-clause-node c =
     let count = length c.loop-i.builder.nodes in
     let lt : i < length nodes = search rules in
     let read = node-read nodes nodes i c.index-nodes-i.result refl lt c.index-nodes-i.is in
-    let node : c.renamed-node.result ≡ renamed (look numbers) (node_at nodes i) = c.renamed-node.ensures ∙ ap (λ xs. renamed (look xs) c.index-nodes-i.result) c.deref.ensures.value ∙ ap (renamed (look numbers)) read in
+    let node : c.renamed-node.result ≡ renamed (look numbers) (node_at nodes i) = c.renamed-node.ensures
+    ∙ ap (λ xs. renamed (look xs) c.index-nodes-i.result) c.deref.ensures.value ∙ ap (renamed (look numbers)) read in
     subst (λ n. IsNode n count c.renamed-node.result) (sym c.loop-i.invariant.inputs)
-    (subst (IsNode c.args.inputs count) (sym node) (renamed-node (look numbers) c.args.inputs i count (node_at nodes i) (are-valid c.args.inputs nodes c.requires.valid i lt) c.loop-i.invariant.carried.within))
+    (subst (IsNode c.args.inputs count) (sym node)
+    (renamed-node (look numbers) c.args.inputs i count (node_at nodes i) (are-valid c.args.inputs nodes c.requires.valid i lt)
+    c.loop-i.invariant.carried.within))
 
 pub loop-i-preserved : goal.loop-i-preserved
 loop-i-preserved c =
@@ -41,11 +44,13 @@ loop-i-preserved c =
     let number = c.in_ok-number.number in
     let lt : i < length nodes = search rules in
     let read = node-read nodes nodes i c.index-nodes-i.result refl lt c.index-nodes-i.is in
-    let node : c.renamed-node.result ≡ renamed (look numbers) (node_at nodes i) = c.renamed-node.ensures ∙ ap (λ xs. renamed (look xs) c.index-nodes-i.result) c.deref.ensures.value ∙ ap (renamed (look numbers)) read in
+    let node : c.renamed-node.result ≡ renamed (look numbers) (node_at nodes i) = c.renamed-node.ensures
+    ∙ ap (λ xs. renamed (look xs) c.index-nodes-i.result) c.deref.ensures.value ∙ ap (renamed (look numbers)) read in
     let pushed : c.push-in-loop-i.new.self.items ≡ numbers ++ number ∷ [] = c.in_ok-push.ensures.items in
     record {
       carried = subst (IsCarried nodes (i + 1) new.nodes) (sym pushed)
-          (carried-step c.args.inputs nodes i old new numbers number (are-valid c.args.inputs nodes c.requires.valid) lt c.loop-i.invariant.carried c.in_ok-number.ensures.grows
+          (carried-step c.args.inputs nodes i old new numbers number (are-valid c.args.inputs nodes c.requires.valid) lt c.loop-i.invariant.carried
+          c.in_ok-number.ensures.grows
           (subst (λ n. Denotes new.nodes n number) node c.in_ok-number.ensures.stands));
       inputs = grows-inputs old new c.in_ok-number.ensures.grows ∙ c.loop-i.invariant.inputs;
     }

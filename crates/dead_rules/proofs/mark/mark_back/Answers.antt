@@ -17,7 +17,8 @@ mark_arguments-requires c =
     let le : p - 1 ≤ length c.loop-p.live = omega arith in
     let node = node-read flat.nodes c.as_slice-nodes.result.now (p - 1) c.index-nodes-p.result c.as_slice-nodes.ensures lt c.index-nodes-p.is in
     subst (ReadsBelow (length c.loop-p.live)) (sym node)
-    (below-more (p - 1) (length c.loop-p.live) (node_at flat.nodes (p - 1)) le (reads-below flat.inputs (p - 1) (node_at flat.nodes (p - 1)) (are-valid flat.inputs flat.nodes c.requires.valid.nodes (p - 1) lt)))
+    (below-more (p - 1) (length c.loop-p.live) (node_at flat.nodes (p - 1)) le
+    (reads-below flat.inputs (p - 1) (node_at flat.nodes (p - 1)) (are-valid flat.inputs flat.nodes c.requires.valid.nodes (p - 1) lt)))
 
 pub loop-p-preserved-then-live-p : goal.loop-p-preserved-then-live-p
 loop-p-preserved-then-live-p c =

@@ -17,13 +17,15 @@ compacted-requires-clause-size c = ap length c.deref.ensures.value ∙ c.in_ok-l
 
 pub moved_checks-requires : goal.moved_checks-requires
 moved_checks-requires c =
-    let size : length c.deref-2.result.now ≡ length c.args.flat.nodes = ap length c.deref-2.ensures.value ∙ c.in_ok-kept.ensures.size ∙ ap length c.into_vec.ensures in
+    let size : length c.deref-2.result.now ≡ length c.args.flat.nodes = ap length c.deref-2.ensures.value ∙ c.in_ok-kept.ensures.size
+    ∙ ap length c.into_vec.ensures in
     subst (AllByRecursion (IsCheck (length c.deref-2.result.now))) (sym c.as_slice.ensures)
     (subst (λ n. AllByRecursion (IsCheck n) c.args.flat.checks) (sym size) c.requires.valid.checks)
 
 pub moved_outputs-requires : goal.moved_outputs-requires
 moved_outputs-requires c =
-    let size : length c.deref-3.result.now ≡ length c.args.flat.nodes = ap length c.deref-3.ensures.value ∙ c.in_ok-kept.ensures.size ∙ ap length c.into_vec.ensures in
+    let size : length c.deref-3.result.now ≡ length c.args.flat.nodes = ap length c.deref-3.ensures.value ∙ c.in_ok-kept.ensures.size
+    ∙ ap length c.into_vec.ensures in
     subst (AllByRecursion (λ output. output < length c.deref-3.result.now)) (sym c.as_slice-2.ensures)
     (subst (λ n. AllByRecursion (λ output. output < n) c.args.flat.outputs) (sym size) c.requires.valid.outputs)
 
@@ -38,9 +40,12 @@ returns-clause-becomes c =
     subst (λ ns. Kept ns (is_live live) (length ns) new numbers) c.into_vec.ensures
     (subst (λ xs. Kept c.into_vec.result.items (is_live xs) (length c.into_vec.result.items) new numbers) c.deref.ensures.value c.in_ok-kept.ensures) in
     let is : flat-of flat.inputs c.from_vec.result c.from_vec-2.result c.from_vec-3.result ≡ with_nodes flat new m =
-    same-flat flat.inputs flat.inputs c.from_vec.result new c.from_vec-2.result (map (moved m) flat.checks) c.from_vec-3.result (map m flat.outputs) refl (c.from_vec.ensures ∙ c.shrink_to_fit.ensures.items)
-    (c.from_vec-2.ensures ∙ c.in_ok-checks.ensures ∙ ap (map (moved (look c.deref-2.result.now))) c.as_slice.ensures ∙ ap (λ xs. map (moved (look xs)) flat.checks) c.deref-2.ensures.value)
-    (c.from_vec-3.ensures ∙ c.in_ok-outputs.ensures ∙ ap (map (look c.deref-3.result.now)) c.as_slice-2.ensures ∙ ap (λ xs. map (look xs) flat.outputs) c.deref-3.ensures.value) in
+    same-flat flat.inputs flat.inputs c.from_vec.result new c.from_vec-2.result (map (moved m) flat.checks) c.from_vec-3.result (map m flat.outputs) refl
+    (c.from_vec.ensures ∙ c.shrink_to_fit.ensures.items)
+    (c.from_vec-2.ensures ∙ c.in_ok-checks.ensures ∙ ap (map (moved (look c.deref-2.result.now))) c.as_slice.ensures
+    ∙ ap (λ xs. map (moved (look xs)) flat.checks) c.deref-2.ensures.value)
+    (c.from_vec-3.ensures ∙ c.in_ok-outputs.ensures ∙ ap (map (look c.deref-3.result.now)) c.as_slice-2.ensures
+    ∙ ap (λ xs. map (look xs) flat.outputs) c.deref-3.ensures.value) in
     subst (Becomes flat) (sym is) (becomes-kept flat (is_live live) new numbers c.requires.valid c.in_ok-live.ensures.live kept)
 
 pub returns-clause-pruned : goal.returns-clause-pruned
@@ -54,7 +59,10 @@ returns-clause-pruned c =
     subst (λ ns. Kept ns (is_live live) (length ns) new numbers) c.into_vec.ensures
     (subst (λ xs. Kept c.into_vec.result.items (is_live xs) (length c.into_vec.result.items) new numbers) c.deref.ensures.value c.in_ok-kept.ensures) in
     let is : flat-of flat.inputs c.from_vec.result c.from_vec-2.result c.from_vec-3.result ≡ with_nodes flat new m =
-    same-flat flat.inputs flat.inputs c.from_vec.result new c.from_vec-2.result (map (moved m) flat.checks) c.from_vec-3.result (map m flat.outputs) refl (c.from_vec.ensures ∙ c.shrink_to_fit.ensures.items)
-    (c.from_vec-2.ensures ∙ c.in_ok-checks.ensures ∙ ap (map (moved (look c.deref-2.result.now))) c.as_slice.ensures ∙ ap (λ xs. map (moved (look xs)) flat.checks) c.deref-2.ensures.value)
-    (c.from_vec-3.ensures ∙ c.in_ok-outputs.ensures ∙ ap (map (look c.deref-3.result.now)) c.as_slice-2.ensures ∙ ap (λ xs. map (look xs) flat.outputs) c.deref-3.ensures.value) in
+    same-flat flat.inputs flat.inputs c.from_vec.result new c.from_vec-2.result (map (moved m) flat.checks) c.from_vec-3.result (map m flat.outputs) refl
+    (c.from_vec.ensures ∙ c.shrink_to_fit.ensures.items)
+    (c.from_vec-2.ensures ∙ c.in_ok-checks.ensures ∙ ap (map (moved (look c.deref-2.result.now))) c.as_slice.ensures
+    ∙ ap (λ xs. map (moved (look xs)) flat.checks) c.deref-2.ensures.value)
+    (c.from_vec-3.ensures ∙ c.in_ok-outputs.ensures ∙ ap (map (look c.deref-3.result.now)) c.as_slice-2.ensures
+    ∙ ap (λ xs. map (look xs) flat.outputs) c.deref-3.ensures.value) in
     subst IsPruned (sym is) (pruned-kept flat (is_live live) new numbers c.requires.valid c.requires.folded c.in_ok-live.ensures.live kept)

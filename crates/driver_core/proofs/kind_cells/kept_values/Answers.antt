@@ -17,13 +17,15 @@ loop-left-preserved c =
     let values = c.args.values.now in
     let x = c.index-values-left.result in
     let rest = drop c.loop-left.left values in
-    let front : drop (c.loop-left.left - 1) values ≡ x ∷ rest = back-one values c.loop-left.left x (omega (arith, c.loop-left-test.true)) v.within c.index-values-left.is in
+    let front : drop (c.loop-left.left - 1) values ≡ x ∷ rest = back-one values c.loop-left.left x (omega (arith, c.loop-left-test.true)) v.within
+    c.index-values-left.is in
     let done = c.in_ok-count.ensures in
     record {
       within = omega (arith, v.within);
       seen = λ q. done.seen q ∙ ap (λ b. int_eq q x || b) (v.seen q) ∙ ap (has_amount q) (sym front);
       kept = λ cell.
-          kept-turn cell (joined index a c.loop-left.kept.items) (joined index a c.keep_once.new.kept.items) (group_at index a x) (groups_at index a rest) (contains int_cmp c.loop-left.seen x) (has_amount x rest)
+          kept-turn cell (joined index a c.loop-left.kept.items) (joined index a c.keep_once.new.kept.items) (group_at index a x) (groups_at index a rest)
+          (contains int_cmp c.loop-left.seen x) (has_amount x rest)
           done.kept (v.seen x) (v.kept cell)
           ∙ ap (λ l. times cell (groups_at index a l)) (sym front);
       count = done.count;

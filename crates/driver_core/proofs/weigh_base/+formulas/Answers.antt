@@ -9,11 +9,29 @@ use Rattle.driver_core.proofs.weigh_base.+formulas.Goals as goal
 
 pub weigh_formula-weigh_formulas-requires : goal.weigh_formula-weigh_formulas-requires
 weigh_formula-weigh_formulas-requires t c =
-    rw c.deref.ensures.value (omega (arith, terms-fall c.in-Apply.arguments.items, ap formula_nodes c.term.view_is, ap (λ n. formula_nodes (formula_of n)) c.in-Apply.is), tt)
+    rw c.deref.ensures.value (
+      omega (
+        arith,
+        terms-fall c.in-Apply.arguments.items,
+        ap formula_nodes c.term.view_is,
+        ap (λ n. formula_nodes (formula_of n))
+            c.in-Apply.is,
+      ),
+      tt,
+    )
 
 pub weigh_formula-weigh_further-requires : goal.weigh_formula-weigh_further-requires
 weigh_formula-weigh_further-requires t c =
-    rw c.deref-in-Chain-2.ensures.value (omega (arith, sizes-fall c.in-Chain.steps.items, ap formula_nodes c.term.view_is, ap (λ n. formula_nodes (formula_of n)) c.in-Chain.is), tt)
+    rw c.deref-in-Chain-2.ensures.value (
+      omega (
+        arith,
+        sizes-fall c.in-Chain.steps.items,
+        ap formula_nodes c.term.view_is,
+        ap
+            (λ n. formula_nodes (formula_of n)) c.in-Chain.is,
+      ),
+      tt,
+    )
 
 pub weigh_formulas-loop-argument-preserved : goal.weigh_formulas-loop-argument-preserved
 weigh_formulas-loop-argument-preserved t c =
@@ -23,7 +41,8 @@ weigh_formulas-loop-argument-preserved t c =
     let w : List Formula → ℕ = λ l. formulas_weight (formulas_of l) in
     let next : drop i all ≡ a ∷ drop (i + 1) all = drop-next all i a c.loop-argument-test.true c.argument-item.is in
     record {
-      sum = sum-next c.loop-argument.total (formula_weight a) (w (drop (i + 1) all)) (w all) _ _ c.saturating_add-total.ensures (c.weigh_formula.ensures) (ap (λ n. capped (c.loop-argument.total + n)) (sym (ap w next)) ∙ c.loop-argument.invariant.sum);
+      sum = sum-next c.loop-argument.total (formula_weight a) (w (drop (i + 1) all)) (w all) _ _ c.saturating_add-total.ensures (c.weigh_formula.ensures)
+          (ap (λ n. capped (c.loop-argument.total + n)) (sym (ap w next)) ∙ c.loop-argument.invariant.sum);
       fits = omega (arith, c.saturating_add-total.ensures);
     }
 
@@ -35,6 +54,8 @@ weigh_further-loop-step-preserved t c =
     let w : List CStep → ℕ = λ l. steps_weight (steps_of l) in
     let next : drop i all ≡ a ∷ drop (i + 1) all = drop-next all i a c.loop-step-test.true c.step-item.is in
     record {
-      sum = sum-next c.loop-step.total (formula_weight a.term + 1) (w (drop (i + 1) all)) (w all) _ _ c.saturating_add-total.ensures (omega (arith, c.saturating_add.ensures, c.weigh_formula.ensures)) (ap (λ n. capped (c.loop-step.total + n)) (sym (ap w next)) ∙ c.loop-step.invariant.sum);
+      sum = sum-next c.loop-step.total (formula_weight a.term + 1) (w (drop (i + 1) all)) (w all) _ _ c.saturating_add-total.ensures
+          (omega (arith, c.saturating_add.ensures, c.weigh_formula.ensures)) (ap (λ n. capped (c.loop-step.total + n)) (sym (ap w next))
+          ∙ c.loop-step.invariant.sum);
       fits = omega (arith, c.saturating_add-total.ensures);
     }

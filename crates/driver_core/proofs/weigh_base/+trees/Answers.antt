@@ -10,11 +10,17 @@ use Rattle.driver_core.proofs.weigh_base.+trees.Goals as goal
 
 pub weigh_tree-weigh_trees-requires : goal.weigh_tree-weigh_trees-requires
 weigh_tree-weigh_trees-requires t c =
-    rw c.deref-in-Apply.ensures.value (omega (arith, terms_fall c.in-Apply.arguments.items, ap nodes c.term.view_is, ap (λ n. nodes (tree_of n)) c.in-Apply.is), tt)
+    rw c.deref-in-Apply.ensures.value (
+      omega (arith, terms_fall c.in-Apply.arguments.items, ap nodes c.term.view_is, ap (λ n. nodes (tree_of n)) c.in-Apply.is),
+      tt,
+    )
 
 pub weigh_tree-weigh_steps-requires : goal.weigh_tree-weigh_steps-requires
 weigh_tree-weigh_steps-requires t c =
-    rw c.deref-in-Chain-2.ensures.value (omega (arith, sizes_fall c.in-Chain.steps.items, ap nodes c.term.view_is, ap (λ n. nodes (tree_of n)) c.in-Chain.is), tt)
+    rw c.deref-in-Chain-2.ensures.value (
+      omega (arith, sizes_fall c.in-Chain.steps.items, ap nodes c.term.view_is, ap (λ n. nodes (tree_of n)) c.in-Chain.is),
+      tt,
+    )
 
 pub weigh_trees-loop-argument-preserved : goal.weigh_trees-loop-argument-preserved
 weigh_trees-loop-argument-preserved t c =
@@ -24,7 +30,8 @@ weigh_trees-loop-argument-preserved t c =
     let w : List Tree → ℕ = λ l. trees_weight (trees_of l) in
     let next : drop i all ≡ a ∷ drop (i + 1) all = drop-next all i a c.loop-argument-test.true c.argument-item.is in
     record {
-      sum = sum-next c.loop-argument.total (tree_weight a) (w (drop (i + 1) all)) (w all) _ _ c.saturating_add-total.ensures (c.weigh_tree.ensures) (ap (λ n. capped (c.loop-argument.total + n)) (sym (ap w next)) ∙ c.loop-argument.invariant.sum);
+      sum = sum-next c.loop-argument.total (tree_weight a) (w (drop (i + 1) all)) (w all) _ _ c.saturating_add-total.ensures (c.weigh_tree.ensures)
+          (ap (λ n. capped (c.loop-argument.total + n)) (sym (ap w next)) ∙ c.loop-argument.invariant.sum);
       fits = omega (arith, c.saturating_add-total.ensures);
     }
 
@@ -36,6 +43,8 @@ weigh_steps-loop-step-preserved t c =
     let w : List Step → ℕ = λ l. tree_steps_weight (steps_of l) in
     let next : drop i all ≡ a ∷ drop (i + 1) all = drop-next all i a c.loop-step-test.true c.step-item.is in
     record {
-      sum = sum-next c.loop-step.total (tree_weight a.term + 1) (w (drop (i + 1) all)) (w all) _ _ c.saturating_add-total.ensures (omega (arith, c.saturating_add.ensures, c.weigh_tree.ensures)) (ap (λ n. capped (c.loop-step.total + n)) (sym (ap w next)) ∙ c.loop-step.invariant.sum);
+      sum = sum-next c.loop-step.total (tree_weight a.term + 1) (w (drop (i + 1) all)) (w all) _ _ c.saturating_add-total.ensures
+          (omega (arith, c.saturating_add.ensures, c.weigh_tree.ensures)) (ap (λ n. capped (c.loop-step.total + n)) (sym (ap w next))
+          ∙ c.loop-step.invariant.sum);
       fits = omega (arith, c.saturating_add-total.ensures);
     }

@@ -7,7 +7,14 @@ use Rattle.driver_core.proofs.SumLemmas.{block-part, drop-next, sum-next}
 use Rattle.driver_core.proofs.weigh_blocks.+weigh.Goals as goal
 
 pub weigh_block-weigh_command-requires : goal.weigh_block-weigh_command-requires
-weigh_block-weigh_command-requires t c = (omega (arith, block-part c.args.block.now c.loop-command.command-index c.command-item.result c.loop-command-test.true c.command-item.is), tt)
+weigh_block-weigh_command-requires t c = (
+  omega (
+    arith,
+    block-part c.args.block.now c.loop-command.command-index c.command-item.result c.loop-command-test.true
+        c.command-item.is,
+  ),
+  tt,
+)
 
 pub weigh_block-loop-command-preserved : goal.weigh_block-loop-command-preserved
 weigh_block-loop-command-preserved t c =
@@ -17,7 +24,8 @@ weigh_block-loop-command-preserved t c =
     let w : List Action → ℕ = λ l. block_weight c.args.rules c.args.cells (λ f. get_or c.args.table.now f 0) (block_of l) in
     let next : drop i all ≡ a ∷ drop (i + 1) all = drop-next all i a c.loop-command-test.true c.command-item.is in
     record {
-      sum = sum-next c.loop-command.total (action_weight c.args.rules c.args.cells (λ f. get_or c.args.table.now f 0) a) (w (drop (i + 1) all)) (w all) _ _ c.saturating_add-total.ensures (c.weigh_command.ensures) (ap (λ n. capped (c.loop-command.total + n)) (sym (ap w next)) ∙ c.loop-command.invariant.sum);
+      sum = sum-next c.loop-command.total (action_weight c.args.rules c.args.cells (λ f. get_or c.args.table.now f 0) a) (w (drop (i + 1) all)) (w all) _ _
+          c.saturating_add-total.ensures (c.weigh_command.ensures) (ap (λ n. capped (c.loop-command.total + n)) (sym (ap w next)) ∙ c.loop-command.invariant.sum);
       fits = omega (arith, c.saturating_add-total.ensures);
     }
 
@@ -28,7 +36,23 @@ weigh_command-returns-in-If t c =
     let first = c.in-If.first.items in
     let second = c.in-If.second.items in
     let sum : c.saturating_add-in-If-3.result ≡ capped (formula_weight c.in-If.condition + w first + w second + n first + n second) =
-    omega (arith, c.weigh_formula-in-If.ensures, c.weigh_block.ensures, c.saturating_add.ensures, c.weigh_block-in-If.ensures, c.saturating_add-in-If.ensures, c.names_in.ensures, c.saturating_add-in-If-2.ensures, c.names_in-in-If.ensures, c.saturating_add-in-If-3.ensures, ap w c.deref.ensures.value, ap w c.deref-in-If.ensures.value, ap n c.deref-in-If-2.ensures.value, ap n c.deref-in-If-3.ensures.value) in
+    omega (
+      arith,
+      c.weigh_formula-in-If.ensures,
+      c.weigh_block.ensures,
+      c.saturating_add.ensures,
+      c.weigh_block-in-If.ensures,
+      c.saturating_add-in-If.ensures,
+      c.names_in.ensures,
+      c.saturating_add-in-If-2.ensures,
+      c.names_in-in-If.ensures,
+      c.saturating_add-in-If-3.ensures,
+      ap w c.deref.ensures.value,
+      ap w
+          c.deref-in-If.ensures.value,
+      ap n c.deref-in-If-2.ensures.value,
+      ap n c.deref-in-If-3.ensures.value,
+    ) in
     sum ∙ ap (λ a. capped (action_weight c.args.rules c.args.cells (λ f. get_or c.args.table.now f 0) a)) (sym (ap action_of c.in-If.is) ∙ c.command.view_is)
 
 pub weigh_command-returns-in-Partition : goal.weigh_command-returns-in-Partition
@@ -36,4 +60,5 @@ weigh_command-returns-in-Partition t c =
     let w : List Action → ℕ = λ l. block_weight c.args.rules c.args.cells (λ f. get_or c.args.table.now f 0) (block_of l) in
     let sum : c.saturating_add-in-Partition.result ≡ capped (w c.in-Partition.block.items + c.args.cells) =
     omega (arith, c.weigh_block-in-Partition.ensures, c.saturating_add-in-Partition.ensures, ap w c.deref-in-Partition.ensures.value) in
-    sum ∙ ap (λ a. capped (action_weight c.args.rules c.args.cells (λ f. get_or c.args.table.now f 0) a)) (sym (ap action_of c.in-Partition.is) ∙ c.command.view_is)
+    sum ∙ ap (λ a. capped (action_weight c.args.rules c.args.cells (λ f. get_or c.args.table.now f 0) a)) (sym (ap action_of c.in-Partition.is)
+    ∙ c.command.view_is)

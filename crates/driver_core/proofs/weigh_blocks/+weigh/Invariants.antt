@@ -13,6 +13,7 @@ decreases-weigh_command l = 2 * action_nodes l.command.now
 
 abbrev pub invariant-weigh_block-loop-command : goal.invariant-weigh_block-loop-command
 invariant-weigh_block-loop-command l = record {
-  sum : capped (l.total + block_weight l.rules l.cells (λ f. get_or l.table f 0) (block_of (drop l.command-index l.block))) ≡ capped (block_weight l.rules l.cells (λ f. get_or l.table f 0) (block_of l.block));
+  sum : capped (l.total + block_weight l.rules l.cells (λ f. get_or l.table f 0) (block_of (drop l.command-index l.block))) ≡ capped
+      (block_weight l.rules l.cells (λ f. get_or l.table f 0) (block_of l.block));
   fits : l.total < 2 ^ 64;
 }

@@ -6,4 +6,5 @@ use Rattle.driver_core.specs.inner.Capped.{capped}
 use Rattle.driver_core.proofs.weigh_levels.next_level.Given as goal
 
 abbrev pub invariant-loop-body : goal.invariant-loop-body
-invariant-loop-body l = l.next.items ≡ map (λ commands. capped (block_weight l.rules l.cells (λ f. slice_index_or l.weights f 0) (block_of commands))) (take l.body-index l.bodies)
+invariant-loop-body l = l.next.items ≡ map (λ commands. capped (block_weight l.rules l.cells (λ f. slice_index_or l.weights f 0) (block_of commands)))
+    (take l.body-index l.bodies)

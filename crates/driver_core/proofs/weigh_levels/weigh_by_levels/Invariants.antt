@@ -9,7 +9,8 @@ use Rattle.driver_core.proofs.weigh_levels.weigh_by_levels.Given as goal
 abbrev pub invariant-loop-level : goal.invariant-loop-level
 invariant-loop-level l = record {
   within : l.level ≤ length l.core.bodies;
-  weighed : (base : Base) → l.rules ≡ capped (base_weight base) → l.cells ≡ base.cells → (f : ℕ) → slice_index_or l.weights.items f 0 ≡ capped (weight_in l.core base l.level f);
+  weighed : (base : Base) → l.rules ≡ capped (base_weight base) → l.cells ≡ base.cells → (f : ℕ)
+      → slice_index_or l.weights.items f 0 ≡ capped (weight_in l.core base l.level f);
 }
 
 abbrev pub decreases-loop-level : goal.decreases-loop-level

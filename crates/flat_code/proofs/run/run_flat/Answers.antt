@@ -18,7 +18,8 @@ returns-in-Some c =
 pub outputs_of-requires : goal.outputs_of-requires
 outputs_of-requires c =
     let count : length c.deref-in-None.result.now ≡ length c.args.flat.now.nodes =
-    ap length (c.deref-in-None.ensures.value ∙ c.in_ok-values.ensures) ∙ length-node_values c.args.inputs.now c.as_slice.result.now ∙ ap length c.as_slice.ensures in
+    ap length (c.deref-in-None.ensures.value ∙ c.in_ok-values.ensures) ∙ length-node_values c.args.inputs.now c.as_slice.result.now
+    ∙ ap length c.as_slice.ensures in
     rw (count, c.as_slice-in-None.ensures) c.requires.valid.outputs
 
 pub returns : goal.returns

@@ -11,4 +11,5 @@ value_of-value-requires c =
     let so_many : length c.deref.result.now ≡ c.loop-node.node-index = ap length c.deref.ensures.value ∙ c.loop-node.invariant.1 in
     let place : 0 + c.loop-node.node-index ≡ length c.deref.result.now = omega (arith, so_many) in
     subst (λ k. IsNode (length c.args.inputs.now) k c.node-item.result) place
-    (node_at (length c.args.inputs.now) 0 nodes i c.node-item.result c.requires (slice_get_read nodes (length nodes) i c.node-item.result refl c.loop-node-test.true c.node-item.is))
+    (node_at (length c.args.inputs.now) 0 nodes i c.node-item.result c.requires
+    (slice_get_read nodes (length nodes) i c.node-item.result refl c.loop-node-test.true c.node-item.is))

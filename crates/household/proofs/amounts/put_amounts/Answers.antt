@@ -5,7 +5,8 @@ use Rattle.household.specs.Household.{inputs_of, values_of}
 use Rattle.household.proofs.ValueLemmas.{values_of-next}
 use Rattle.household.proofs.amounts.put_amounts.Goals as goal
 
-in_range : (n : ℕ) {pairs own : List (ℕ × ℤ)} → pairs ≡ own → AllByRecursion (λ input. input < n) (inputs_of own) → AllByRecursion (λ input. input < n) (inputs_of pairs)
+in_range : (n : ℕ) {pairs own : List (ℕ × ℤ)} → pairs ≡ own → AllByRecursion (λ input. input < n) (inputs_of own)
+    → AllByRecursion (λ input. input < n) (inputs_of pairs)
 in_range n e h = subst (λ (pairs : List (ℕ × ℤ)). AllByRecursion (λ input. input < n) (inputs_of pairs)) (sym e) h
 
 pub loop-left-init : goal.loop-left-init
@@ -13,7 +14,8 @@ loop-left-init c =
     record {
       within = omega arith;
       counted = refl;
-      filled = c.requires.empty ∙ ap (λ ps. values_of ps (length c.args.values.now)) (sym (drop_all (length c.as_slice-pairs.result.now) c.as_slice-pairs.result.now (omega arith)));
+      filled = c.requires.empty ∙ ap (λ ps. values_of ps (length c.args.values.now))
+          (sym (drop_all (length c.as_slice-pairs.result.now) c.as_slice-pairs.result.now (omega arith)));
     }
 
 pub bounds-values-input : goal.bounds-values-input

@@ -10,7 +10,10 @@ pub loop-next-smaller : goal.loop-next-smaller
 loop-next-smaller c = fewer BETWEEN _ _ (omega arith) (c.in-Some.ensures.1, c.in-Some.ensures.2)
 
 pub loop-next-preserved : goal.loop-next-preserved
-loop-next-preserved c = record { so_far = cuts_more _ _ _ _ _ _ c.loop-next.invariant.so_far c.in_ok-push-2.ensures.items c.in-Some.ensures.0 c.in-Some.ensures.1 }
+loop-next-preserved c = record {
+  so_far = cuts_more _ _ _ _ _ _ c.loop-next.invariant.so_far c.in_ok-push-2.ensures.items c.in-Some.ensures.0
+      c.in-Some.ensures.1;
+}
 
 pub returns : goal.returns
 returns c = cuts_end _ _ _ _ c.loop-next.invariant.so_far c.in_default.ensures

@@ -17,6 +17,7 @@ returns g c =
     let cuts = subst (AreCuts bytes records) (sym c.as_slice.ensures.value) c.in_ok-cuts.ensures in
     let many = c.part_size-many.result in
     let all = c.in_ok-join_parts.ensures in
-    let stated = parsed_rows c.args.codes.now c.args.columns.now records many c.as_slice.result.now all.parts (λ n d h. (all.made.each n d h).2) all.made.inside all.made.reach
+    let stated = parsed_rows c.args.codes.now c.args.columns.now records many c.as_slice.result.now all.parts (λ n d h. (all.made.each n d h).2) all.made.inside
+    all.made.reach
     (let far = cuts.far in omega (arith, far)) in
     rw (← c.first_cut-first.ensures.left) (by_rows _ c.in_ok-join_parts.field-0 (rw (sym all.all_is) at stated))

@@ -5,7 +5,11 @@ use Rattle.household_session.proofs.GoingLemmas.{goes_broken, goes_line, goes_no
 use Rattle.household_session.proofs.lines.do_ended.Goals as goal
 
 pub loop-end-init : goal.loop-end-init
-loop-end-init g c = record { runs = run_from_front c.args.bytes.now c.args.held c.line_end-end.result c.requires.within c.requires.unended c.line_end-end.ensures; goes = goes_none _ _ _ _ _ }
+loop-end-init g c = record {
+  runs = run_from_front c.args.bytes.now c.args.held c.line_end-end.result c.requires.within c.requires.unended
+      c.line_end-end.ensures;
+  goes = goes_none _ _ _ _ _;
+}
 
 pub returns-in_err-reply-clause-prefix : goal.returns-in_err-reply-clause-prefix
 returns-in_err-reply-clause-prefix g c =

@@ -30,4 +30,5 @@ pub returns : goal.returns
 returns g c =
     let sheet = c.args.sheet.now in
     let past : length c.args.sheet.now.flat.outputs ≤ c.loop-k.k = omega (arith, c.loop-k-test.false, ap length c.as_slice-count.ensures, c.requires.named) in
-    all_given _ _ _ _ _ _ tt refl (rw (outputs_end c.args.face.now (node_values sheet.now sheet.flat.nodes) sheet.flat.outputs c.loop-k.k past) at c.loop-k.invariant)
+    all_given _ _ _ _ _ _ tt refl (rw (outputs_end c.args.face.now (node_values sheet.now sheet.flat.nodes) sheet.flat.outputs c.loop-k.k past) at
+    c.loop-k.invariant)

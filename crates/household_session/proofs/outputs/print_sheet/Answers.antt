@@ -8,10 +8,12 @@ use Rattle.household_session.proofs.outputs.print_sheet.Goals as goal
 pub print_stop-requires : goal.print_stop-requires
 print_stop-requires g c =
     let sheet = c.args.sheet.now in
-    stop_label (node_values sheet.now sheet.flat.nodes) (length c.args.face.now.labels) sheet.flat.checks c.in-Some.stop c.requires.face.labels (sym c.in-Some.ensures)
+    stop_label (node_values sheet.now sheet.flat.nodes) (length c.args.face.now.labels) sheet.flat.checks c.in-Some.stop c.requires.face.labels
+    (sym c.in-Some.ensures)
 
 pub returns-in-None : goal.returns-in-None
 returns-in-None g c =
     let sheet = c.args.sheet.now in
     rw (sym c.in-None.ensures)
-    (rw (outputs_reported c.args.face.now.labels c.args.face.now.outputs (map (value_at (node_values sheet.now sheet.flat.nodes)) sheet.flat.outputs) c.args.face.now.notes) at c.print_outputs.ensures)
+    (rw (outputs_reported c.args.face.now.labels c.args.face.now.outputs (map (value_at (node_values sheet.now sheet.flat.nodes)) sheet.flat.outputs)
+    c.args.face.now.notes) at c.print_outputs.ensures)

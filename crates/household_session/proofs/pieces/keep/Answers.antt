@@ -4,7 +4,8 @@ use Rattle.household_session.proofs.pieces.keep.Goals as goal
 
 pub returns-clause-front : goal.returns-clause-front
 returns-clause-front c =
-    kept_front c.args.room.now c.copy_within.new.self c.args.from c.args.filled c.min-count.result c.requires.order c.requires.within c.min-count.ensures c.copy_within.ensures.after
+    kept_front c.args.room.now c.copy_within.new.self c.args.from c.args.filled c.min-count.result c.requires.order c.requires.within c.min-count.ensures
+    c.copy_within.ensures.after
 
 pub returns-then-from-eq0-clause-front : goal.returns-then-from-eq0-clause-front
 returns-then-from-eq0-clause-front c =

@@ -8,7 +8,8 @@ use Rattle.household_session.specs.Seats.{noted_pairs}
 use Rattle.household_session.proofs.SeatLemmas.{noted_next}
 use Rattle.household_session.proofs.seat.put_all.Goals as goal
 
-in_range : (n : ℕ) {pairs own : List (ℕ × ℤ)} → pairs ≡ own → AllByRecursion (λ input. input < n) (inputs_of own) → AllByRecursion (λ input. input < n) (inputs_of pairs)
+in_range : (n : ℕ) {pairs own : List (ℕ × ℤ)} → pairs ≡ own → AllByRecursion (λ input. input < n) (inputs_of own)
+    → AllByRecursion (λ input. input < n) (inputs_of pairs)
 in_range n e h = subst (λ (pairs : List (ℕ × ℤ)). AllByRecursion (λ input. input < n) (inputs_of pairs)) (sym e) h
 
 pub put-requires : goal.put-requires

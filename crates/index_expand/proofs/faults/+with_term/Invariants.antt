@@ -20,10 +20,13 @@ abbrev pub decreases-with_members : goal.decreases-with_members
 decreases-with_members l = members_load (members_of l.members.now)
 
 abbrev pub invariant-with_terms-loop-term : goal.invariant-with_terms-loop-term
-invariant-with_terms-loop-term l = spec.least l.first (spec.terms_faults l.scope (terms_of (drop l.term-index l.terms))) ≡ spec.least l.initial.first (spec.terms_faults l.scope (terms_of l.terms))
+invariant-with_terms-loop-term l = spec.least l.first (spec.terms_faults l.scope (terms_of (drop l.term-index l.terms))) ≡ spec.least l.initial.first
+    (spec.terms_faults l.scope (terms_of l.terms))
 
 abbrev pub invariant-with_links-loop-link : goal.invariant-with_links-loop-link
-invariant-with_links-loop-link l = spec.least l.first (spec.links_faults l.scope (links_of (drop l.link-index l.links))) ≡ spec.least l.initial.first (spec.links_faults l.scope (links_of l.links))
+invariant-with_links-loop-link l = spec.least l.first (spec.links_faults l.scope (links_of (drop l.link-index l.links))) ≡ spec.least l.initial.first
+    (spec.links_faults l.scope (links_of l.links))
 
 abbrev pub invariant-with_members-loop-member : goal.invariant-with_members-loop-member
-invariant-with_members-loop-member l = spec.least l.first (spec.members_faults l.scope (members_of (drop l.member-index l.members))) ≡ spec.least l.initial.first (spec.members_faults l.scope (members_of l.members))
+invariant-with_members-loop-member l = spec.least l.first (spec.members_faults l.scope (members_of (drop l.member-index l.members))) ≡ spec.least
+    l.initial.first (spec.members_faults l.scope (members_of l.members))

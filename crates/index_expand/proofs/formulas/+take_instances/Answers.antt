@@ -24,11 +24,13 @@ take_index-loop-value-preserved t c =
     let g = λ (value : List ℕ). instances c.args.indexes.now (bind c.args.letters.now c.args.index.now.letter value) in
     let P : Letters → Type 0 = λ ls.
     let these = flat_map d (instances c.args.indexes.now (bind ls c.args.index.now.letter c.value-item.result)) in
-    IsTaken c.loop-value.definitions.items c.take_bound.new.definitions.items these (weighed these c.args.template.now.weight) c.loop-value.count c.in_ok-count.count in
+    IsTaken c.loop-value.definitions.items c.take_bound.new.definitions.items these (weighed these c.args.template.now.weight) c.loop-value.count
+    c.in_ok-count.count in
     record {
       letters = c.in_ok-count.ensures.letters ∙ c.loop-value.invariant.letters;
       taken =
-          taken_next d g c.deref-value-items.result.now c.loop-value.value-index c.value-item.result c.args.template.now.weight c.args.total c.loop-value.count c.in_ok-count.count
+          taken_next d g c.deref-value-items.result.now c.loop-value.value-index c.value-item.result c.args.template.now.weight c.args.total c.loop-value.count
+          c.in_ok-count.count
           c.args.definitions.now.items c.loop-value.definitions.items _ c.loop-value-test.true c.value-item.is c.loop-value.invariant.taken
           (subst P c.loop-value.invariant.letters c.in_ok-count.ensures.outcome);
     }
@@ -38,13 +40,15 @@ take_index-returns-in_err-count-clause-outcome t c =
     let d = definitions_at c.args.template.now.symbols.now c.args.template.now.formula.now c.args.template.now.formula.now.slot in
     let g = λ (value : List ℕ). instances c.args.indexes.now (bind c.args.letters.now c.args.index.now.letter value) in
     let P : Letters → Type 0 = λ ls.
-    IsTooMuch (weighed (flat_map d (instances c.args.indexes.now (bind ls c.args.index.now.letter c.value-item.result))) c.args.template.now.weight) c.loop-value.count c.args.template.now.rule c.in_err-count.field-0.0 in
+    IsTooMuch (weighed (flat_map d (instances c.args.indexes.now (bind ls c.args.index.now.letter c.value-item.result))) c.args.template.now.weight)
+    c.loop-value.count c.args.template.now.rule c.in_err-count.field-0.0 in
     let Q : List (List ℕ) → Type 0 = λ values.
     IsTooMuch (weighed (flat_map d (flat_map g values)) c.args.template.now.weight) c.args.total c.args.template.now.rule c.in_err-count.field-0.0 in
     let p = err_from_is_err_and c.from_residual-in_err-count.result c.from_residual-in_err-count.ensures.1 in
     rw (p.1, p.2) (λ n.
     subst Q (c.deref-value-items.ensures.value ∙ c.in_ok-values.ensures)
-    (too_much_next d g c.deref-value-items.result.now c.loop-value.value-index c.value-item.result c.args.template.now.weight c.args.total c.loop-value.count c.args.template.now.rule c.in_err-count.field-0.0
+    (too_much_next d g c.deref-value-items.result.now c.loop-value.value-index c.value-item.result c.args.template.now.weight c.args.total c.loop-value.count
+    c.args.template.now.rule c.in_err-count.field-0.0
     c.args.definitions.now.items c.loop-value.definitions.items c.loop-value-test.true c.value-item.is c.loop-value.invariant.taken
     (subst P c.loop-value.invariant.letters (c.in_err-count.ensures.outcome n))))
 

@@ -21,6 +21,7 @@ decreases-take_bound l = 3 * length l.indexes.now + 2
 abbrev pub invariant-take_index-loop-value : goal.invariant-take_index-loop-value
 invariant-take_index-loop-value l = record {
   letters : l.letters ≡ l.initial.letters;
-  taken : let these = flat_map (definitions_at l.template.symbols.now l.template.formula.now l.template.formula.now.slot) (flat_map (λ value. instances l.indexes (bind l.initial.letters l.index.letter value)) (take l.value-index l.value-items)) in
+  taken : let these = flat_map (definitions_at l.template.symbols.now l.template.formula.now l.template.formula.now.slot)
+      (flat_map (λ value. instances l.indexes (bind l.initial.letters l.index.letter value)) (take l.value-index l.value-items)) in
       IsTaken l.initial.definitions.items l.definitions.items these (weighed these l.template.weight) l.total l.count;
 }

@@ -8,4 +8,5 @@ use Rattle.index_expand.proofs.items.expanded_joined.Goals as goal
 pub returns-clause-term : goal.returns-clause-term
 returns-clause-term c =
     let P : Syntax → Type 0 = λ s. IfOk c.expanded.result (λ t. t ≡ s) in
-    subst P ((λ i. expanded None (c.requires i) c.deref.result.now) ∙ ap (expanded None no_letters) c.deref.ensures ∙ ap (λ m. m None no_letters) c.in_ok-whole.ensures) c.expanded.ensures.term
+    subst P ((λ i. expanded None (c.requires i) c.deref.result.now) ∙ ap (expanded None no_letters) c.deref.ensures
+    ∙ ap (λ m. m None no_letters) c.in_ok-whole.ensures) c.expanded.ensures.term

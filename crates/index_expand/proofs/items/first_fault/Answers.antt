@@ -12,7 +12,8 @@ loop-item-preserved c =
     let p = counts_in c.args.application.now in
     elim c.if-counts_in.branch [
       | then-counts_in w ↦
-          counted_yes p item_faults c.args.items.now c.loop-item.item-index c.item-item.result c.loop-item.first c.if-counts_in.first _ c.loop-item-test.true c.item-item.is
+          counted_yes p item_faults c.args.items.now c.loop-item.item-index c.item-item.result c.loop-item.first c.if-counts_in.first _ c.loop-item-test.true
+          c.item-item.is
           (sym c.counts_in.ensures ∙ w.if-counts_in.true) c.loop-item.invariant (w.first-is ∙ w.with_item-first.ensures)
       | else-counts_in w ↦
           ap (λ first. least first (flat_map item_faults (filter p (drop (c.loop-item.item-index + 1) c.args.items.now)))) w.first-is

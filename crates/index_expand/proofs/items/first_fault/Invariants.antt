@@ -6,4 +6,5 @@ use Rattle.index_expand.specs.LoopFaults.{least, item_faults}
 use Rattle.index_expand.proofs.items.first_fault.Given as goal
 
 abbrev pub invariant-loop-item : goal.invariant-loop-item
-invariant-loop-item l = least l.first (flat_map item_faults (filter (counts_in l.application) (drop l.item-index l.items))) ≡ least None (flat_map item_faults (filter (counts_in l.application) l.items))
+invariant-loop-item l = least l.first (flat_map item_faults (filter (counts_in l.application) (drop l.item-index l.items))) ≡ least None
+    (flat_map item_faults (filter (counts_in l.application) l.items))

@@ -8,5 +8,6 @@ use Rattle.index_expand.proofs.items.take_checks.Given as goal
 abbrev pub invariant-loop-check : goal.invariant-loop-check
 invariant-loop-check l = record {
   letters : l.letters ≡ l.initial.letters;
-  taken : IsTaken l.initial.conditions.items l.conditions.items (map (condition_of l.verif) (take l.check-index l.check-items)) (sum_by check_parts (take l.check-index l.check-items)) l.total l.count;
+  taken : IsTaken l.initial.conditions.items l.conditions.items (map (condition_of l.verif) (take l.check-index l.check-items))
+      (sum_by check_parts (take l.check-index l.check-items)) l.total l.count;
 }

@@ -14,5 +14,6 @@ invariant-loop-item l = record {
       ≡ l.initial.definitions.items ++ flat_map (item_definitions l.symbols) (filter (counts_in l.application) l.items);
   conditions : l.conditions.items ++ flat_map item_conditions (filter (counts_in l.application) (drop l.item-index l.items))
       ≡ l.initial.conditions.items ++ flat_map item_conditions (filter (counts_in l.application) l.items);
-  left : too_many l.symbols l.count (filter (counts_in l.application) (drop l.item-index l.items)) ≡ too_many l.symbols 0 (filter (counts_in l.application) l.items);
+  left : too_many l.symbols l.count (filter (counts_in l.application) (drop l.item-index l.items)) ≡ too_many l.symbols 0
+      (filter (counts_in l.application) l.items);
 }

@@ -6,6 +6,7 @@ use Rattle.index_expand.proofs.items.with_checks.Goals as goal
 
 pub loop-check-preserved : goal.loop-check-preserved
 loop-check-preserved c =
-    least_next c.loop-check.first _ (check_faults c.check-item.result) (flat_map check_faults (drop (c.loop-check.check-index + 1) c.args.checks.now)) _ _ c.loop-check.invariant
+    least_next c.loop-check.first _ (check_faults c.check-item.result) (flat_map check_faults (drop (c.loop-check.check-index + 1) c.args.checks.now)) _ _
+    c.loop-check.invariant
     (ap (flat_map check_faults) (drop_next c.args.checks.now c.loop-check.check-index c.check-item.result c.loop-check-test.true c.check-item.is))
     c.with_check-first.ensures

@@ -37,7 +37,8 @@ joined-returns-in-Loop t c =
 pub joined_cell-returns-in-Ok : goal.joined_cell-returns-in-Ok
 joined_cell-returns-in-Ok t c =
     let P : (Option ℕ → Letters → Syntax) → Type 0 = λ m. IfOk c.in_box.result (λ made. meaning made.value ≡ m) in
-    subst P (ap (λ w. meaning (cell w c.in_ok-index.index.value c.args.place)) c.in-Ok.ensures ∙ cell_same c.args.word.now c.args.place c.in_ok-index.index.value c.args.index.now c.in_ok-index.ensures) c.in_box.ensures
+    subst P (ap (λ w. meaning (cell w c.in_ok-index.index.value c.args.place)) c.in-Ok.ensures
+    ∙ cell_same c.args.word.now c.args.place c.in_ok-index.index.value c.args.index.now c.in_ok-index.ensures) c.in_box.ensures
 
 pub joined_apply-returns : goal.joined_apply-returns
 joined_apply-returns t c =
@@ -52,7 +53,8 @@ joined_chain-returns-in-Ok t c =
 pub joined_among-returns-in-Ok : goal.joined_among-returns-in-Ok
 joined_among-returns-in-Ok t c =
     let P : (Option ℕ → Letters → Syntax) → Type 0 = λ m. IfOk c.in_box.result (λ made. meaning made.value ≡ m) in
-    subst P (among_same c.args.negated c.in_ok-first.first.value c.args.first.now c.in-Ok.members.items c.args.members.now c.in_ok-first.ensures c.in-Ok.ensures) c.in_box.ensures
+    subst P (among_same c.args.negated c.in_ok-first.first.value c.args.first.now c.in-Ok.members.items c.args.members.now c.in_ok-first.ensures
+    c.in-Ok.ensures) c.in_box.ensures
 
 pub joined_loop-returns : goal.joined_loop-returns
 joined_loop-returns t c =
@@ -61,32 +63,50 @@ joined_loop-returns t c =
     subst P (loop_same c.args.header.now (syntax_of c.body.inside.node) c.args.body.now whole) c.loop_over.ensures
 
 pub joined_terms-joined-requires : goal.joined_terms-joined-requires
-joined_terms-joined-requires t c = (omega (arith, term_below c.args.terms.now c.loop-term.term-index c.term-item.result c.loop-term-test.true c.term-item.is), tt)
+joined_terms-joined-requires t c = (
+  omega (arith, term_below c.args.terms.now c.loop-term.term-index c.term-item.result c.loop-term-test.true c.term-item.is),
+  tt,
+)
 
 pub joined_links-joined-requires : goal.joined_links-joined-requires
-joined_links-joined-requires t c = (omega (arith, link_below c.args.links.now c.loop-link.link-index c.link-item.result c.loop-link-test.true c.link-item.is), tt)
+joined_links-joined-requires t c = (
+  omega (arith, link_below c.args.links.now c.loop-link.link-index c.link-item.result c.loop-link-test.true c.link-item.is),
+  tt,
+)
 
 pub joined_members-joined-requires : goal.joined_members-joined-requires
-joined_members-joined-requires t c = (omega (arith, low_below c.args.members.now c.loop-member.member-index c.member-item.result c.loop-member-test.true c.member-item.is), tt)
+joined_members-joined-requires t c = (
+  omega (
+    arith,
+    low_below c.args.members.now c.loop-member.member-index c.member-item.result c.loop-member-test.true
+        c.member-item.is,
+  ),
+  tt,
+)
 
 pub joined_members-joined-requires-in-loop-member : goal.joined_members-joined-requires-in-loop-member
-joined_members-joined-requires-in-loop-member t c = (omega (arith, high_below c.args.members.now c.loop-member.member-index c.member-item.result c.loop-member-test.true c.member-item.is), tt)
+joined_members-joined-requires-in-loop-member t
+    c = (omega (arith, high_below c.args.members.now c.loop-member.member-index c.member-item.result c.loop-member-test.true c.member-item.is), tt)
 
 pub joined_terms-loop-term-preserved : goal.joined_terms-loop-term-preserved
 joined_terms-loop-term-preserved t c =
-    same_more meaning c.loop-term.copies.items c.push.new.self.items c.args.terms.now c.loop-term.term-index c.term-item.result c.into_inner.result c.loop-term-test.true c.term-item.is c.loop-term.invariant
+    same_more meaning c.loop-term.copies.items c.push.new.self.items c.args.terms.now c.loop-term.term-index c.term-item.result c.into_inner.result
+    c.loop-term-test.true c.term-item.is c.loop-term.invariant
     (ap meaning c.into_inner.ensures ∙ c.in_ok-copy.ensures) c.in_ok-push.ensures.items
 
 pub joined_links-loop-link-preserved : goal.joined_links-loop-link-preserved
 joined_links-loop-link-preserved t c =
     let x = c.link-item.result in
     let y : Link = record { op = x.op; term = c.into_inner.result } in
-    same_more link_meaning c.loop-link.copies.items c.push.new.self.items c.args.links.now c.loop-link.link-index x y c.loop-link-test.true c.link-item.is c.loop-link.invariant
+    same_more link_meaning c.loop-link.copies.items c.push.new.self.items c.args.links.now c.loop-link.link-index x y c.loop-link-test.true c.link-item.is
+    c.loop-link.invariant
     (link_same y x refl (ap meaning c.into_inner.ensures ∙ c.in_ok-term.ensures)) c.in_ok-push.ensures.items
 
 pub joined_members-loop-member-preserved : goal.joined_members-loop-member-preserved
 joined_members-loop-member-preserved t c =
     let x = c.member-item.result in
     let y : Member = record { low = c.into_inner.result; high = c.into_inner-in-loop-member.result } in
-    same_more member_meaning c.loop-member.copies.items c.push.new.self.items c.args.members.now c.loop-member.member-index x y c.loop-member-test.true c.member-item.is c.loop-member.invariant
-    (member_same y x (ap meaning c.into_inner.ensures ∙ c.in_ok-low.ensures) (ap meaning c.into_inner-in-loop-member.ensures ∙ c.in_ok-high.ensures)) c.in_ok-push.ensures.items
+    same_more member_meaning c.loop-member.copies.items c.push.new.self.items c.args.members.now c.loop-member.member-index x y c.loop-member-test.true
+    c.member-item.is c.loop-member.invariant
+    (member_same y x (ap meaning c.into_inner.ensures ∙ c.in_ok-low.ensures) (ap meaning c.into_inner-in-loop-member.ensures ∙ c.in_ok-high.ensures))
+    c.in_ok-push.ensures.items

@@ -26,7 +26,8 @@ expand_singles-returns-in-Ok-clause-links t c =
     let whole = take_all (length indexes - singles) rest (omega (arith, length-drop singles indexes)) in
     c.in-Ok.ensures.links
     ∙ ap (λ all. c.args.links.now.items ++ map (instance_link c.args.cell c.args.body.now) all)
-    (ap (λ xs. instances xs c.bind_singles.new.letters) whole ∙ sym (c.in_ok-outer.ensures.instances rest) ∙ ap (λ xs. instances xs c.args.letters.now) (take-append-drop singles indexes))
+    (ap (λ xs. instances xs c.bind_singles.new.letters) whole ∙ sym (c.in_ok-outer.ensures.instances rest)
+    ∙ ap (λ xs. instances xs c.args.letters.now) (take-append-drop singles indexes))
 
 pub expand_singles-returns-in-Ok-clause-letters : goal.expand_singles-returns-in-Ok-clause-letters
 expand_singles-returns-in-Ok-clause-letters t c =
@@ -36,10 +37,12 @@ pub expand_index-loop-value-preserved : goal.expand_index-loop-value-preserved
 expand_index-loop-value-preserved t c = record {
   letters = c.in_ok-expand_bound.ensures.letters ∙ c.loop-value.invariant.letters;
   links =
-      instances_next (instance_link c.args.cell c.args.body.now) (λ value. instances c.args.indexes.now (bind c.args.letters.now c.args.index.now.letter value)) c.deref-value-items.result.now c.loop-value.value-index c.value-item.result
+      instances_next (instance_link c.args.cell c.args.body.now) (λ value. instances c.args.indexes.now (bind c.args.letters.now c.args.index.now.letter value))
+      c.deref-value-items.result.now c.loop-value.value-index c.value-item.result
       c.loop-value.links.items _ _ c.loop-value-test.true c.value-item.is c.loop-value.invariant.links
       (c.in_ok-expand_bound.ensures.links
-      ∙ ap (λ ls. c.loop-value.links.items ++ map (instance_link c.args.cell c.args.body.now) (instances c.args.indexes.now (bind ls c.args.index.now.letter c.value-item.result))) c.loop-value.invariant.letters);
+      ∙ ap (λ ls. c.loop-value.links.items ++ map (instance_link c.args.cell c.args.body.now)
+      (instances c.args.indexes.now (bind ls c.args.index.now.letter c.value-item.result))) c.loop-value.invariant.letters);
 }
 
 pub expanded_box-returns-in-Apply-clause-term : goal.expanded_box-returns-in-Apply-clause-term
@@ -58,7 +61,8 @@ pub expanded_box-returns-in-Among-clause-term : goal.expanded_box-returns-in-Amo
 expanded_box-returns-in-Among-clause-term t c =
     let whole = sym (ap syntax_of c.in-Among.is) ∙ c.term.view_is in
     let P : Syntax → Type 0 = λ s. IfOk c.expanded_among.result (λ made. made.value ≡ expanded c.args.cell c.args.letters.now s) in
-    subst P ((λ k. among c.in-Among.negated (c.deref-in-Among.ensures k) (members_of (c.deref-in-Among-2.ensures.value k))) ∙ whole) c.expanded_among.ensures.term
+    subst P ((λ k. among c.in-Among.negated (c.deref-in-Among.ensures k) (members_of (c.deref-in-Among-2.ensures.value k))) ∙ whole)
+    c.expanded_among.ensures.term
 
 pub expanded_box-returns-in-Loop-clause-term : goal.expanded_box-returns-in-Loop-clause-term
 expanded_box-returns-in-Loop-clause-term t c =
@@ -71,7 +75,8 @@ expanded_apply-returns-clause-term t c =
     let cell = c.args.cell in
     let letters = c.args.letters.now in
     let P : Syntax → Type 0 = λ s. IfOk c.boxed.result (λ made. made.value ≡ s) in
-    subst P (ap (λ xs. apply c.args.op (terms_of xs)) c.in_ok-arguments.ensures.terms ∙ ap (apply c.args.op) (terms_map cell letters c.args.arguments.now)) c.boxed.ensures
+    subst P (ap (λ xs. apply c.args.op (terms_of xs)) c.in_ok-arguments.ensures.terms ∙ ap (apply c.args.op) (terms_map cell letters c.args.arguments.now))
+    c.boxed.ensures
 
 pub expanded_chain-returns-in-Ok-clause-term : goal.expanded_chain-returns-in-Ok-clause-term
 expanded_chain-returns-in-Ok-clause-term t c =

@@ -62,12 +62,15 @@ invariant-expanded_links-loop-link l = record {
 abbrev pub invariant-expanded_members-loop-member : goal.invariant-expanded_members-loop-member
 invariant-expanded_members-loop-member l = record {
   letters : l.letters ≡ l.initial.letters;
-  copies : l.copies.items ++ map (member_expanded l.cell l.initial.letters) (drop l.member-index l.members) ≡ map (member_expanded l.cell l.initial.letters) l.members;
+  copies : l.copies.items ++ map (member_expanded l.cell l.initial.letters) (drop l.member-index l.members) ≡ map (member_expanded l.cell l.initial.letters)
+      l.members;
 }
 
 abbrev pub invariant-expand_index-loop-value : goal.invariant-expand_index-loop-value
 invariant-expand_index-loop-value l = record {
   letters : l.letters ≡ l.initial.letters;
-  links : l.links.items ++ map (instance_link l.cell l.body) (flat_map (λ value. instances l.indexes (bind l.initial.letters l.index.letter value)) (drop l.value-index l.value-items))
-      ≡ l.initial.links.items ++ map (instance_link l.cell l.body) (flat_map (λ value. instances l.indexes (bind l.initial.letters l.index.letter value)) l.value-items);
+  links : l.links.items ++ map (instance_link l.cell l.body) (flat_map (λ value. instances l.indexes (bind l.initial.letters l.index.letter value))
+      (drop l.value-index l.value-items))
+      ≡ l.initial.links.items ++ map (instance_link l.cell l.body) (flat_map (λ value. instances l.indexes (bind l.initial.letters l.index.letter value))
+      l.value-items);
 }

@@ -9,7 +9,8 @@ pub loop-left-init : goal.loop-left-init
 loop-left-init c =
     record {
       within = omega arith;
-      filled = c.requires.types ∙ sym (no_ranges c.args.inputs.now) ∙ ap (λ rs. facts_within rs c.args.inputs.now) (sym (drop_all (length c.args.ranges.now) c.args.ranges.now (omega arith)));
+      filled = c.requires.types ∙ sym (no_ranges c.args.inputs.now)
+          ∙ ap (λ rs. facts_within rs c.args.inputs.now) (sym (drop_all (length c.args.ranges.now) c.args.ranges.now (omega arith)));
     }
 
 pub bounds-facts-input : goal.bounds-facts-input
@@ -17,7 +18,8 @@ bounds-facts-input c =
     let i = c.loop-left.invariant in
     let d = c.index-ranges-left.result in
     let range = get_or c.args.ranges.now (c.loop-left.left - 1) d in
-    let next = next_put c.args.inputs.now c.args.ranges.now c.loop-left.facts c.loop-left.left range d c.requires.known (omega arith) (omega arith) refl i.filled in
+    let next = next_put c.args.inputs.now c.args.ranges.now c.loop-left.facts c.loop-left.left range d c.requires.known (omega arith) (omega arith) refl
+    i.filled in
     omega (arith, next.0, ap length i.filled, length_within (drop c.loop-left.left c.args.ranges.now) c.args.inputs.now)
 
 pub loop-left-preserved : goal.loop-left-preserved
@@ -25,6 +27,7 @@ loop-left-preserved c =
     let i = c.loop-left.invariant in
     let d = c.index-ranges-left.result in
     let range = get_or c.args.ranges.now (c.loop-left.left - 1) d in
-    let next = next_put c.args.inputs.now c.args.ranges.now c.loop-left.facts c.loop-left.left range d c.requires.known (omega arith) (omega arith) refl i.filled in
+    let next = next_put c.args.inputs.now c.args.ranges.now c.loop-left.facts c.loop-left.left range d c.requires.known (omega arith) (omega arith) refl
+    i.filled in
     let same = same_read c.args.ranges.now (c.loop-left.left - 1) c.index-ranges-left-in-loop-left.result d (omega arith) in
     record { within = omega arith; filled = ap (λ (r : InputRange). set c.loop-left.facts range.input r.fact) same ∙ next.1 }

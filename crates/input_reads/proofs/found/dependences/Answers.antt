@@ -10,6 +10,7 @@ loop-from-preserved c =
     let within : from + count ≤ length c.args.wanted.now = omega (arith, c.group_of.ensures.within, c.loop-from-test.true) in
     let step : from + (from + count - from) ≡ from + count = omega arith in (
       within,
-      group-more (depends_on c.args.known.now c.args.nodes.now c.args.inputs) c.loop-from.found.items c.add_group.new.found.items c.args.wanted.now from (from + count - from) (from + count)
+      group-more (depends_on c.args.known.now c.args.nodes.now c.args.inputs) c.loop-from.found.items c.add_group.new.found.items c.args.wanted.now from
+          (from + count - from) (from + count)
           step c.loop-from.invariant.1 c.in_ok-add_group.ensures,
     )

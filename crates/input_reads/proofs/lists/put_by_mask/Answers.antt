@@ -20,5 +20,6 @@ loop-rest-preserved c =
     let fits : rest < 2 ^ 64 = omega (arith, c.loop-rest.auto.rest-fits) in
     let low = lowest-has rest some fits in
     let few : length (lists_in c.args.lists.now) ≤ 64 = omega (arith, c.requires, length-map c.args.lists.now (λ v. v.items)) in
-    put-more c.args.mask rest c.args.n (trailing_zeros w64 rest) (lists_in c.args.lists.now) (lists_in c.loop-rest.lists) (lists_in c.put.new.lists) few low.0 low.1
+    put-more c.args.mask rest c.args.n (trailing_zeros w64 rest) (lists_in c.args.lists.now) (lists_in c.loop-rest.lists) (lists_in c.put.new.lists) few low.0
+    low.1
     c.in_ok-put.ensures c.loop-rest.invariant

@@ -15,4 +15,5 @@ add_node-requires-clause-node c =
     let inputs = length c.args.found.now in
     let node : c.index-nodes-p.result ≡ node_at nodes p = get_or_read nodes p c.index-nodes-p.result c.requires.within c.index-nodes-p.is (Lit Undef) in
     subst (IsNode inputs (length c.args.masks.now)) (sym node)
-    (node-within inputs p (length c.args.masks.now) (node_at nodes p) (omega (arith, c.requires.within, c.requires.masks)) (are-valid inputs nodes c.requires.nodes p c.requires.within))
+    (node-within inputs p (length c.args.masks.now) (node_at nodes p) (omega (arith, c.requires.within, c.requires.masks))
+    (are-valid inputs nodes c.requires.nodes p c.requires.within))

@@ -9,4 +9,5 @@ returns-clause-found c =
     let wanted = c.args.wanted.now in
     spread-end c.args.known.now nodes (length c.args.found.now) wanted c.spread_back.new.masks c.spread_back.new.found c.requires.nodes
     (c.spread_back.ensures.spread wanted
-    (spread-start c.args.known.now nodes wanted c.mark_requested.new.masks c.args.found.now (λ k l. all-from (λ p. p < length nodes) wanted c.requires.within k 0 l) c.requires.none_found c.mark_requested.ensures.marked))
+    (spread-start c.args.known.now nodes wanted c.mark_requested.new.masks c.args.found.now
+    (λ k l. all-from (λ p. p < length nodes) wanted c.requires.within k 0 l) c.requires.none_found c.mark_requested.ensures.marked))

@@ -12,6 +12,7 @@ loop-p-preserved c =
       masks = c.add_from.ensures.masks.size ∙ c.loop-p.invariant.masks;
       found = c.add_from.ensures.found.size ∙ c.loop-p.invariant.found;
       spread = λ wanted start.
-          spread-step c.args.known.now c.args.nodes.now (length c.args.found.now) wanted p (p - 1) c.loop-p.masks c.loop-p.found c.add_from.new.masks c.add_from.new.found
+          spread-step c.args.known.now c.args.nodes.now (length c.args.found.now) wanted p (p - 1) c.loop-p.masks c.loop-p.found c.add_from.new.masks
+          c.add_from.new.found
           c.requires.nodes next c.add_from.ensures.masks c.add_from.ensures.found (c.loop-p.invariant.spread wanted start);
     }

@@ -7,7 +7,8 @@ invariant-loop-p l = record {
   within : l.p ≤ length l.nodes;
   masks : length l.masks ≡ length l.nodes;
   found : length l.found ≡ length l.initial.found;
-  spread : (wanted : List ℕ) → IsSpread l.known l.nodes wanted (length l.nodes) l.initial.masks l.initial.found → IsSpread l.known l.nodes wanted l.p l.masks l.found;
+  spread : (wanted : List ℕ) → IsSpread l.known l.nodes wanted (length l.nodes) l.initial.masks l.initial.found
+      → IsSpread l.known l.nodes wanted l.p l.masks l.found;
 }
 
 abbrev pub decreases-loop-p : goal.decreases-loop-p

@@ -8,8 +8,10 @@ loop-index-init c = marked_none
 
 pub loop-index-preserved : goal.loop-index-preserved
 loop-index-preserved c =
-    mark_more c.loop-index.once c.loop-index.twice c.args.indexes.now c.loop-index.index-index c.index-item.result c.either.result c.loop-index-test.true c.index-item.is c.loop-index.invariant c.either.ensures
+    mark_more c.loop-index.once c.loop-index.twice c.args.indexes.now c.loop-index.index-index c.index-item.result c.either.result c.loop-index-test.true
+    c.index-item.is c.loop-index.invariant c.either.ensures
 
 pub returns : goal.returns
 returns c = λ letter h.
-    c.loop-index.invariant.second letter h ∙ ap (λ seen. ltb 1 (uses letter seen)) (take_all c.loop-index.index-index c.args.indexes.now c.loop-index-test.false)
+    c.loop-index.invariant.second letter h ∙ ap (λ seen. ltb 1 (uses letter seen))
+    (take_all c.loop-index.index-index c.args.indexes.now c.loop-index-test.false)

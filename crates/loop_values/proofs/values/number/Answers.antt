@@ -7,7 +7,12 @@ overflow_mul-number c = omega (arith, number_fits c.loop-byte.byte-index c.loop-
 
 pub overflow_add-number : goal.overflow_add-number
 overflow_add-number c =
-    omega (arith, number_fits c.loop-byte.byte-index c.loop-byte.number (omega arith) c.loop-byte.invariant.1, digit_below c.args.word.now c.loop-byte.byte-index c.requires.digits c.loop-byte-test.true)
+    omega (
+      arith,
+      number_fits c.loop-byte.byte-index c.loop-byte.number (omega arith) c.loop-byte.invariant.1,
+      digit_below c.args.word.now
+          c.loop-byte.byte-index c.requires.digits c.loop-byte-test.true,
+    )
 
 pub loop-byte-preserved : goal.loop-byte-preserved
 loop-byte-preserved c = (

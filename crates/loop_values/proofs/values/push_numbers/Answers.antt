@@ -5,4 +5,5 @@ use Rattle.loop_values.proofs.values.push_numbers.Goals as goal
 
 pub loop-n-preserved : goal.loop-n-preserved
 loop-n-preserved c =
-    range_push (number_word (length c.args.from.now)) c.loop-n.values.items _ _ c.loop-n.n (c.number-behind.result + 1) _ c.loop-n-test.true c.loop-n.invariant c.in_ok-number_word.ensures c.in_ok-push.ensures.items
+    range_push (number_word (length c.args.from.now)) c.loop-n.values.items _ _ c.loop-n.n (c.number-behind.result + 1) _ c.loop-n-test.true c.loop-n.invariant
+    c.in_ok-number_word.ensures c.in_ok-push.ensures.items

@@ -9,6 +9,7 @@ pub returns : goal.returns
 returns g c =
     let all = c.in_ok-join_parts.ensures in
     let stated = mapped (row_answer c.args.code.now) c.part_size-size.result c.args.rows.now all.parts
-    (λ n d h. let gave = all.made.each n d h in subst (λ (rows : List Row). IfOk (get_or all.parts n d) (λ v. v.items ≡ answers_of c.args.code.now rows)) gave.1 gave.2)
+    (λ n d h. let gave = all.made.each n d h in subst (λ (rows : List Row). IfOk (get_or all.parts n d) (λ v. v.items ≡ answers_of c.args.code.now rows)) gave.1
+    gave.2)
     all.made.inside all.made.reach in
     c.from_vec.ensures ∙ (rw c.in_ok-answers.was at (rw (sym all.all_is) at stated))

@@ -6,6 +6,7 @@ use Rattle.m_batch.proofs.check.check_columns.Given as goal
 
 abbrev pub invariant-loop-r : goal.invariant-loop-r
 invariant-loop-r l = record {
-  done : (k : ℕ) → k < l.r → slice_index_or l.stops k None ≡ kept (slice_index_or l.initial.stops k None) (check_stop (at l.guard k) (at l.condition k) l.over_only l.label);
+  done : (k : ℕ) → k < l.r → slice_index_or l.stops k None ≡ kept (slice_index_or l.initial.stops k None)
+      (check_stop (at l.guard k) (at l.condition k) l.over_only l.label);
   left : (k : ℕ) → l.r ≤ k → slice_index_or l.stops k None ≡ slice_index_or l.initial.stops k None;
 }

@@ -5,4 +5,5 @@ use Rattle.m_batch.proofs.one.answer_to.Goals as goal
 
 pub outputs_of-requires-clause-all : goal.outputs_of-requires-clause-all
 outputs_of-requires-clause-all c =
-    outputs-long c.args.machine.now.code c.args.inputs.now c.run.new.self.outputs (rw c.in-None.is at c.run.ensures.answer) ∙ ap (λ (code : Listing). code.counts.outputs) c.requires.same
+    outputs-long c.args.machine.now.code c.args.inputs.now c.run.new.self.outputs (rw c.in-None.is at c.run.ensures.answer)
+    ∙ ap (λ (code : Listing). code.counts.outputs) c.requires.same

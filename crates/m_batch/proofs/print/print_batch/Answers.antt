@@ -20,7 +20,8 @@ print_window-requires-clause-may g c = λ κs held.
     let from = c.loop-from.from in
     let end = c.window_end-end.result in
     let next = window_next rows from end c.window_end-end.ensures.some c.window_end-end.ensures.within in
-    (may_next (g.P.RowPrinter.may_print c.args.printer.now) c.args.code.now from (drop from rows) (take (end - from) (drop from rows)) (drop end rows) end next.0 next.1 c.loop-from.invariant.may).0
+    (may_next (g.P.RowPrinter.may_print c.args.printer.now) c.args.code.now from (drop from rows) (take (end - from) (drop from rows)) (drop end rows) end
+    next.0 next.1 c.loop-from.invariant.may).0
 
 pub returns-in_err-some-clause-text : goal.returns-in_err-some-clause-text
 returns-in_err-some-clause-text g c =
@@ -30,7 +31,8 @@ returns-in_err-some-clause-text g c =
     let end = c.window_end-end.result in
     let next = window_next rows from end c.window_end-end.ensures.some c.window_end-end.ensures.within in
     part_stopped _ _ _ _ _ _ _ _ _ _ _ _ p.1 p.2
-    (text_next (g.P.RowPrinter.text c.args.printer.now) c.args.code.now from (drop from rows) (take (end - from) (drop from rows)) (drop end rows) end next.0 next.1)
+    (text_next (g.P.RowPrinter.text c.args.printer.now) c.args.code.now from (drop from rows) (take (end - from) (drop from rows)) (drop end rows) end next.0
+    next.1)
     c.loop-from.invariant.given c.in_err-some.ensures.text.prefix c.in_err-some.ensures.text.counted
 
 pub loop-from-preserved : goal.loop-from-preserved
@@ -43,7 +45,8 @@ loop-from-preserved g c =
     let next = window_next rows from end c.window_end-end.ensures.some c.window_end-end.ensures.within in
     record {
       within = c.window_end-end.ensures.within;
-      may = (may_next (g.P.RowPrinter.may_print c.args.printer.now) code from (drop from rows) part (drop end rows) end next.0 next.1 c.loop-from.invariant.may).1;
+      may = (may_next (g.P.RowPrinter.may_print c.args.printer.now) code from (drop from rows) part (drop end rows) end next.0 next.1
+          c.loop-from.invariant.may).1;
       given = piece_given _ _ _ _ _ _ _ _ _
           (text_next (g.P.RowPrinter.text c.args.printer.now) code from (drop from rows) part (drop end rows) end next.0 next.1)
           c.loop-from.invariant.given c.in_ok-some.ensures.text.all c.in_ok-some.ensures.text.counted;

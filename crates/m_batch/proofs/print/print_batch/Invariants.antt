@@ -10,7 +10,8 @@ invariant-loop-from g l = record {
   may : MayFrom (g.P.RowPrinter.may_print l.printer) l.code l.from (drop l.from l.rows);
   given : Given g.K.Sink.written g.K.Sink.faults l.initial.out l.out (text_from (g.P.RowPrinter.text l.printer) l.code 0 l.rows)
       (text_from (g.P.RowPrinter.text l.printer) l.code l.from (drop l.from l.rows));
-  counted : IsCounting l.count (count_from (g.P.RowPrinter.count l.printer) l.code l.from (drop l.from l.rows)) (count_from (g.P.RowPrinter.count l.printer) l.code 0 l.rows);
+  counted : IsCounting l.count (count_from (g.P.RowPrinter.count l.printer) l.code l.from (drop l.from l.rows))
+      (count_from (g.P.RowPrinter.count l.printer) l.code 0 l.rows);
 }
 
 abbrev pub decreases-loop-from : goal.decreases-loop-from

@@ -14,7 +14,8 @@ map_parts-requires-clause-accepts g c κs within = λ at lent part.
     let size = c.part_size-size.result in
     let rows = c.args.rows.now in
     let inside : at ≤ length rows = omega (arith, part.within) in (
-      subst (AllByRecursion (HasInputsBelow c.args.code.now.counts.inputs)) (sym part.value) (each_part (HasInputsBelow c.args.code.now.counts.inputs) at size rows c.requires.inputs),
+      subst (AllByRecursion (HasInputsBelow c.args.code.now.counts.inputs)) (sym part.value)
+          (each_part (HasInputsBelow c.args.code.now.counts.inputs) at size rows c.requires.inputs),
       subst (MayFrom (g.P.RowPrinter.may_print c.args.printer.now) c.args.code.now (c.args.from + at)) (sym part.value)
           (may_part (g.P.RowPrinter.may_print c.args.printer.now) c.args.code.now c.args.from at size rows inside c.requires.may),
       omega (arith, part.within, c.requires.within),
@@ -30,7 +31,9 @@ give_parts-requires-clause-texts g c =
     let count = g.P.RowPrinter.count c.args.printer.now in
     let made = c.in_ok-texts.ensures in
     rw c.as_slice.ensures.value
-    (of_parts (λ at part made. MayBeTextOf text count c.args.code.now (c.args.from + at) part made) c.part_size-size.result c.args.rows.now c.in_ok-texts.texts.items
+    (of_parts (λ at part made. MayBeTextOf text count c.args.code.now (c.args.from + at) part made) c.part_size-size.result c.args.rows.now
+    c.in_ok-texts.texts.items
     (λ n d h. let gave = made.each n d h in
-    subst (λ (rows : List Row). MayBeTextOf text count c.args.code.now (c.args.from + n * c.part_size-size.result) rows (get_or c.in_ok-texts.texts.items n d)) gave.1 gave.2)
+    subst (λ (rows : List Row). MayBeTextOf text count c.args.code.now (c.args.from + n * c.part_size-size.result) rows (get_or c.in_ok-texts.texts.items n d))
+    gave.1 gave.2)
     made.inside made.reach)

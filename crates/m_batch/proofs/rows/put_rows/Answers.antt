@@ -20,6 +20,7 @@ loop-r-preserved c =
       many = length-set c.loop-r.block _ _ ∙ c.loop-r.invariant.many;
       width = All-set (λ (v : Vec Value Global). length v.items ≡ width) c.loop-r.block c.loop-r.r new
           (ap length is ∙ same ∙ c.loop-r.invariant.width c.loop-r.r c.index-block-r.result within) c.loop-r.invariant.width;
-      values = values_next c.args.places.now.of.items c.args.rows.now c.loop-r.block c.loop-r.r c.index-rows-r.result new within c.loop-r-test.true c.index-rows-r.is
+      values = values_next c.args.places.now.of.items c.args.rows.now c.loop-r.block c.loop-r.r c.index-rows-r.result new within c.loop-r-test.true
+          c.index-rows-r.is
           (ap (row_inputs c.args.places.now.of.items) is ∙ c.put_row.ensures.values) c.loop-r.invariant.values;
     }

@@ -9,5 +9,6 @@ abbrev pub invariant-loop-r : goal.invariant-loop-r
 invariant-loop-r l = record {
   many : length l.block ≡ length l.fn.block;
   width : AreRows (length l.places.inputs.items) l.block;
-  values : (k : ℕ) (d : Row) → k < l.r → row_inputs l.places.of.items (row_at l.block k) ≡ values_of (get_or l.rows k d).household.pairs (length l.places.of.items);
+  values : (k : ℕ) (d : Row) → k < l.r → row_inputs l.places.of.items (row_at l.block k) ≡ values_of (get_or l.rows k d).household.pairs
+      (length l.places.of.items);
 }

@@ -22,14 +22,17 @@ loop-k-preserved g c =
     let answer = c.index-answers-k.result in
     let answered : c.loop-k.k < length c.args.answers.now = omega (arith, c.loop-k-test.true, c.requires.many) in
     record {
-      may = (may_at (g.P.RowPrinter.may_print c.args.printer.now) c.args.place c.args.rows.now c.args.answers.now c.loop-k.k row row answer answer c.loop-k-test.true answered
+      may = (may_at (g.P.RowPrinter.may_print c.args.printer.now) c.args.place c.args.rows.now c.args.answers.now c.loop-k.k row row answer answer
+          c.loop-k-test.true answered
           c.index-rows-k.is c.index-answers-k.is c.loop-k.invariant.may).1;
       given = piece_given _ _ _ _ _ _ _ _ _
-          (text_at (g.P.RowPrinter.text c.args.printer.now) c.args.place c.args.rows.now c.args.answers.now c.loop-k.k row row answer answer c.loop-k-test.true answered
+          (text_at (g.P.RowPrinter.text c.args.printer.now) c.args.place c.args.rows.now c.args.answers.now c.loop-k.k row row answer answer c.loop-k-test.true
+          answered
           c.index-rows-k.is c.index-answers-k.is)
           c.loop-k.invariant.given gave.all gave.faultless;
       counted = counting_one c.loop-k.count c.in_ok-some.some c.saturating_add-count.result _ _ _ _
-          (count_at (g.P.RowPrinter.count c.args.printer.now) c.args.place c.args.rows.now c.args.answers.now c.loop-k.k row row answer answer c.loop-k-test.true answered
+          (count_at (g.P.RowPrinter.count c.args.printer.now) c.args.place c.args.rows.now c.args.answers.now c.loop-k.k row row answer answer
+          c.loop-k-test.true answered
           c.index-rows-k.is c.index-answers-k.is)
           c.loop-k.invariant.counted c.in_ok-some.ensures.count c.saturating_add-count.ensures;
     }

@@ -25,9 +25,11 @@ loop-alloc-init g c =
       code = ap (λ (left : Left). left.code) c.in_ok-blocks.ensures;
       place = ap (λ (left : List Row). place + length left) same;
       may = subst (MayFrom (g.P.RowPrinter.may_print c.args.printer.now) code place) (sym same) c.requires.may;
-      given = subst (λ (left : List Row). Given g.K.Sink.written g.K.Sink.faults c.args.out.now c.args.out.now (text_from text code place rows) (text_from text code place left)) (sym same)
+      given = subst (λ (left : List Row). Given g.K.Sink.written g.K.Sink.faults c.args.out.now c.args.out.now (text_from text code place rows)
+          (text_from text code place left)) (sym same)
           (none_given g.K.Sink.written g.K.Sink.faults c.args.out.now (text_from text code place rows));
-      counted = subst (λ (left : List Row). IsCounting 0 (count_from count code place left) (count_from count code place rows)) (sym same) (counting_first (count_from count code place rows));
+      counted = subst (λ (left : List Row). IsCounting 0 (count_from count code place left) (count_from count code place rows)) (sym same)
+          (counting_first (count_from count code place rows));
     }
 
 pub print_block-requires-clause-may : goal.print_block-requires-clause-may
@@ -36,7 +38,8 @@ print_block-requires-clause-may g c =
     let answers : c.as_slice.result.now ≡ answers_of c.args.code.now part =
     c.as_slice.ensures.value ∙ c.in_ok-part.ensures.answers ∙ ap (λ code. answers_of code part) c.loop-alloc.invariant.code in
     subst (MayPrintEach (g.P.RowPrinter.may_print c.args.printer.now) c.loop-alloc.at part) (sym answers)
-    (may_next (g.P.RowPrinter.may_print c.args.printer.now) c.args.code.now c.loop-alloc.at c.loop-alloc.blocks.rows part c.next.new.self.rows (c.loop-alloc.at + length part)
+    (may_next (g.P.RowPrinter.may_print c.args.printer.now) c.args.code.now c.loop-alloc.at c.loop-alloc.blocks.rows part c.next.new.self.rows
+    (c.loop-alloc.at + length part)
     c.in_ok-part.ensures.rows (inl refl) c.loop-alloc.invariant.may).0
 
 pub returns-in_err-some-clause-text : goal.returns-in_err-some-clause-text
@@ -47,9 +50,11 @@ returns-in_err-some-clause-text g c =
     let answers : c.as_slice.result.now ≡ answers_of c.args.code.now part =
     c.as_slice.ensures.value ∙ c.in_ok-part.ensures.answers ∙ ap (λ code. answers_of code part) c.loop-alloc.invariant.code in
     part_stopped _ _ _ _ _ _ _ _ _ _ _ _ p.1 p.2
-    (text_next text c.args.code.now c.loop-alloc.at c.loop-alloc.blocks.rows part c.next.new.self.rows (c.loop-alloc.at + length part) c.in_ok-part.ensures.rows (inl refl))
+    (text_next text c.args.code.now c.loop-alloc.at c.loop-alloc.blocks.rows part c.next.new.self.rows (c.loop-alloc.at + length part) c.in_ok-part.ensures.rows
+    (inl refl))
     c.loop-alloc.invariant.given
-    (subst (λ (given : List Answer). AppendsPrefix (g.K.Sink.written c.loop-alloc.out) (g.K.Sink.written c.print_block.new.out) (printed_text text c.loop-alloc.at part given)) answers
+    (subst (λ (given : List Answer). AppendsPrefix (g.K.Sink.written c.loop-alloc.out) (g.K.Sink.written c.print_block.new.out)
+    (printed_text text c.loop-alloc.at part given)) answers
     c.in_err-some.ensures.text.prefix)
     c.in_err-some.ensures.text.failed
 
@@ -67,11 +72,13 @@ loop-alloc-preserved g c =
     record {
       code = c.in_ok-part.ensures.code ∙ c.loop-alloc.invariant.code;
       place = omega (arith, c.loop-alloc.invariant.place, ap length c.in_ok-part.ensures.rows, length-append part rest);
-      may = (may_next (g.P.RowPrinter.may_print c.args.printer.now) code at left part rest (at + length part) c.in_ok-part.ensures.rows (inl refl) c.loop-alloc.invariant.may).1;
+      may = (may_next (g.P.RowPrinter.may_print c.args.printer.now) code at left part rest (at + length part) c.in_ok-part.ensures.rows (inl refl)
+          c.loop-alloc.invariant.may).1;
       given = piece_given _ _ _ _ _ _ _ _ _
           (text_next text code at left part rest (at + length part) c.in_ok-part.ensures.rows (inl refl))
           c.loop-alloc.invariant.given
-          (c.in_ok-some.ensures.text.all ∙ ap (λ (given : List Answer). append_known (g.K.Sink.written c.loop-alloc.out) (printed_text text at part given)) answers)
+          (c.in_ok-some.ensures.text.all ∙ ap (λ (given : List Answer). append_known (g.K.Sink.written c.loop-alloc.out) (printed_text text at part given))
+          answers)
           c.in_ok-some.ensures.text.faultless;
       counted = counting_more c.loop-alloc.count c.in_ok-some.some c.saturating_add-count.result _ _ _ _
           (count_next count code at left part rest (at + length part) c.in_ok-part.ensures.rows (inl refl))

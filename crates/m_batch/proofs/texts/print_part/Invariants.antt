@@ -11,7 +11,8 @@ invariant-loop-alloc g l = record {
   may : MayFrom (g.P.RowPrinter.may_print l.printer) l.code l.at l.blocks.rows;
   given : Given g.K.Sink.written g.K.Sink.faults l.initial.out l.out (text_from (g.P.RowPrinter.text l.printer) l.code l.place l.rows)
       (text_from (g.P.RowPrinter.text l.printer) l.code l.at l.blocks.rows);
-  counted : IsCounting l.count (count_from (g.P.RowPrinter.count l.printer) l.code l.at l.blocks.rows) (count_from (g.P.RowPrinter.count l.printer) l.code l.place l.rows);
+  counted : IsCounting l.count (count_from (g.P.RowPrinter.count l.printer) l.code l.at l.blocks.rows)
+      (count_from (g.P.RowPrinter.count l.printer) l.code l.place l.rows);
 }
 
 abbrev pub decreases-loop-alloc : goal.decreases-loop-alloc

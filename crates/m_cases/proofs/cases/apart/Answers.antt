@@ -5,7 +5,12 @@ use Rattle.m_cases.proofs.Numbered.{AreSmall, map_last}
 use Rattle.m_cases.proofs.cases.apart.Goals as goal
 
 pub loop-case-init : goal.loop-case-init
-loop-case-init c = record { rows = c.new-rows.ensures.items; expected = c.new-expected.ensures.items; small = subst (AreSmall c.args.notes) (sym c.into_iter-case-iterator.ensures.into_iter_gives.0) c.requires }
+loop-case-init c = record {
+  rows = c.new-rows.ensures.items;
+  expected = c.new-expected.ensures.items;
+  small = subst (AreSmall c.args.notes)
+      (sym c.into_iter-case-iterator.ensures.into_iter_gives.0) c.requires;
+}
 
 pub numbered-requires : goal.numbered-requires
 numbered-requires c = (subst (AreSmall c.args.notes) c.in-Some.ensures.steps.0 c.loop-case.invariant.small).0

@@ -11,7 +11,8 @@ loop-i-preserved c =
     let i = c.loop-i.i in
     let read = c.index.result.now in
     let size : length all ≡ length es = c.loop-i.invariant.size in
-    let lt : i < length es = let long : length c.into_vec-all.result.items ≡ length es = ap length c.into_vec-all.ensures in omega (arith, c.loop-i-test.true, c.len-i-end.ensures, c.into_vec-all.result.ok.0, long) in
+    let lt : i < length es = let long : length c.into_vec-all.result.items ≡ length es = ap length c.into_vec-all.ensures in omega
+    (arith, c.loop-i-test.true, c.len-i-end.ensures, c.into_vec-all.result.ok.0, long) in
     let same = c.index.ensures ∙ next_is notes es all i read c.loop-i.invariant.done lt in
     record {
       done = next_numbered notes es all i read (notes + read.0, read.1) c.loop-i.invariant.done lt (ap (λ (e : _). (notes + e.0, e.1)) same);

@@ -7,7 +7,8 @@ use Rattle.m_cases.proofs.cases.read_amounts.Goals as goal
 pub returns-in_err-add_amount : goal.returns-in_err-add_amount
 returns-in_err-add_amount c =
     reported _ _ _ _ _ c.from_residual.ensures.1
-    (λ n. amounts_stop c.args.line c.loop-place.pairs.items c.args.columns.now (fields_of c.args.row.now) c.loop-place.place _ _ c.field_at.result.now _ _ c.requires
+    (λ n. amounts_stop c.args.line c.loop-place.pairs.items c.args.columns.now (fields_of c.args.row.now) c.loop-place.place _ _ c.field_at.result.now _ _
+    c.requires
     c.loop-place-test.true refl c.field_at.ensures (c.in_err-add_amount.ensures n) c.loop-place.invariant)
 
 pub loop-place-preserved : goal.loop-place-preserved

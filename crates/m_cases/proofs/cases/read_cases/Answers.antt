@@ -23,13 +23,15 @@ all_numbers outputs notes n = let all = counted outputs in omega (arith, n, all)
 pub returns-clause-inputs : goal.returns-clause-inputs
 returns-clause-inputs c =
     rw c.in_ok-apart.ensures (rows_known c.args.codes.now _ c.in_ok-cases.cases.items
-    (cases_good c.args.codes.now (names_of c.args.face.now.outputs) (drop 1 (fields_of c.next_record.new.row)) c.in_ok-columns.columns.items (left_of c.next_record.new.records) c.in_ok-cases.cases.items
+    (cases_good c.args.codes.now (names_of c.args.face.now.outputs) (drop 1 (fields_of c.next_record.new.row)) c.in_ok-columns.columns.items
+    (left_of c.next_record.new.records) c.in_ok-cases.cases.items
     (few_names c.args.face.now.outputs c.requires) c.in_ok-columns.ensures (rw c.deref.ensures.value at c.in_ok-cases.ensures)))
 
 pub returns-clause-amounts : goal.returns-clause-amounts
 returns-clause-amounts c =
     rw c.in_ok-apart.ensures (rows_types c.args.codes.now _ c.in_ok-cases.cases.items
-    (cases_good c.args.codes.now (names_of c.args.face.now.outputs) (drop 1 (fields_of c.next_record.new.row)) c.in_ok-columns.columns.items (left_of c.next_record.new.records) c.in_ok-cases.cases.items
+    (cases_good c.args.codes.now (names_of c.args.face.now.outputs) (drop 1 (fields_of c.next_record.new.row)) c.in_ok-columns.columns.items
+    (left_of c.next_record.new.records) c.in_ok-cases.cases.items
     (few_names c.args.face.now.outputs c.requires) c.in_ok-columns.ensures (rw c.deref.ensures.value at c.in_ok-cases.ensures)))
 
 pub returns-clause-many : goal.returns-clause-many
@@ -43,21 +45,26 @@ apart-requires c =
     let outputs = c.args.face.now.outputs in
     let each : known outputs c.in_ok-cases.cases.items =
     each_expected c.args.codes.now _ c.in_ok-cases.cases.items
-    (cases_good c.args.codes.now (names_of outputs) (drop 1 (fields_of c.next_record.new.row)) c.in_ok-columns.columns.items (left_of c.next_record.new.records) c.in_ok-cases.cases.items
+    (cases_good c.args.codes.now (names_of outputs) (drop 1 (fields_of c.next_record.new.row)) c.in_ok-columns.columns.items (left_of c.next_record.new.records)
+    c.in_ok-cases.cases.items
     (few_names outputs c.requires) c.in_ok-columns.ensures (rw c.deref.ensures.value at c.in_ok-cases.ensures)) in
-    small_cases c.count_notes-notes.result (length (names_of outputs)) c.in_ok-cases.cases.items (few_numbers outputs c.count_notes-notes.result (rw c.as_slice.ensures at c.count_notes-notes.ensures) c.requires) each
+    small_cases c.count_notes-notes.result (length (names_of outputs)) c.in_ok-cases.cases.items
+    (few_numbers outputs c.count_notes-notes.result (rw c.as_slice.ensures at c.count_notes-notes.ensures) c.requires) each
 
 pub returns-clause-expected : goal.returns-clause-expected
 returns-clause-expected c =
     let outputs = c.args.face.now.outputs in
     let each : known outputs c.in_ok-cases.cases.items =
     each_expected c.args.codes.now _ c.in_ok-cases.cases.items
-    (cases_good c.args.codes.now (names_of outputs) (drop 1 (fields_of c.next_record.new.row)) c.in_ok-columns.columns.items (left_of c.next_record.new.records) c.in_ok-cases.cases.items
+    (cases_good c.args.codes.now (names_of outputs) (drop 1 (fields_of c.next_record.new.row)) c.in_ok-columns.columns.items (left_of c.next_record.new.records)
+    c.in_ok-cases.cases.items
     (few_names outputs c.requires) c.in_ok-columns.ensures (rw c.deref.ensures.value at c.in_ok-cases.ensures)) in
     rw c.in_ok-apart.ensures
-    (each_numbered c.count_notes-notes.result (length (names_of outputs)) (length outputs) (cases_made c.in_ok-cases.cases.items).expected (all_numbers outputs c.count_notes-notes.result (rw c.as_slice.ensures at c.count_notes-notes.ensures)) each)
+    (each_numbered c.count_notes-notes.result (length (names_of outputs)) (length outputs) (cases_made c.in_ok-cases.cases.items).expected
+    (all_numbers outputs c.count_notes-notes.result (rw c.as_slice.ensures at c.count_notes-notes.ensures)) each)
 
 pub returns-clause-few : goal.returns-clause-few
 returns-clause-few c =
     rw c.in_ok-apart.ensures
-    (few_rows c.args.codes.now c.in_ok-columns.columns.items (left_of c.next_record.new.records) c.in_ok-cases.cases.items (rw c.deref.ensures.value at c.in_ok-cases.ensures))
+    (few_rows c.args.codes.now c.in_ok-columns.columns.items (left_of c.next_record.new.records) c.in_ok-cases.cases.items
+    (rw c.deref.ensures.value at c.in_ok-cases.ensures))

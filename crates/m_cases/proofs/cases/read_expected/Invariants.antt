@@ -5,4 +5,5 @@ use Rattle.m_cases.proofs.cases.read_expected.Given as goal
 
 abbrev pub invariant-loop-place : goal.invariant-loop-place
 invariant-loop-place l =
-    expected_read l.line l.expected.items (drop l.place l.columns) (drop (l.place + 1) (fields_of l.row)) ≡ expected_read l.line [] l.columns (drop 1 (fields_of l.row))
+    expected_read l.line l.expected.items (drop l.place l.columns) (drop (l.place + 1) (fields_of l.row)) ≡ expected_read l.line [] l.columns
+    (drop 1 (fields_of l.row))

@@ -11,5 +11,6 @@ see-requires c =
     let known = c.loop-place.invariant.inputs in
     let room = c.loop-place.invariant.outputs in
     let all = counted outputs in
-    below_more (length c.args.codes.now) (length (names_of outputs)) _ _ c.in_ok-column.column (field_below c.args.codes.now (names_of outputs) c.field_at.result.now c.in_ok-column.column (sym c.in_ok-column.ensures))
+    below_more (length c.args.codes.now) (length (names_of outputs)) _ _ c.in_ok-column.column
+    (field_below c.args.codes.now (names_of outputs) c.field_at.result.now c.in_ok-column.column (sym c.in_ok-column.ensures))
     (omega (arith, known)) (omega (arith, room, all))

@@ -12,7 +12,8 @@ returns-in_err-print_one-clause-text g c =
     let vs = answer_values c.args.answer.now in
     let gave = c.in_err-print_one.ensures.text in
     piece_failed _ _ _ _ _ _ _ _ _ _ _ p.1
-    (lines_at (output_names c.args.face.now.outputs) c.args.label.now vs c.args.expected.now c.loop-one.one-index c.one-item.result c.loop-one-test.true c.one-item.is)
+    (lines_at (output_names c.args.face.now.outputs) c.args.label.now vs c.args.expected.now c.loop-one.one-index c.one-item.result c.loop-one-test.true
+    c.one-item.is)
     c.loop-one.invariant.given gave.failed gave.prefix gave.counted
 
 pub loop-one-preserved : goal.loop-one-preserved
@@ -24,16 +25,19 @@ loop-one-preserved g c =
     let below = c.loop-one.invariant.within in
     record {
       given = piece_given _ _ _ _ _ _ _ _ _
-          (lines_at (output_names c.args.face.now.outputs) c.args.label.now vs c.args.expected.now c.loop-one.one-index c.one-item.result c.loop-one-test.true c.one-item.is)
+          (lines_at (output_names c.args.face.now.outputs) c.args.label.now vs c.args.expected.now c.loop-one.one-index c.one-item.result c.loop-one-test.true
+          c.one-item.is)
           c.loop-one.invariant.given gave.all gave.faultless;
       counted = elim c.if-not-branch.branch [
         | then-not-branch w ↦
             let more = w.count-is in
-            let next = count_unmet vs c.args.expected.now c.loop-one.one-index c.one-item.result c.in_ok-print_one.field-0 c.loop-one-test.true c.one-item.is met w.if-not-branch.true in
+            let next = count_unmet vs c.args.expected.now c.loop-one.one-index c.one-item.result c.in_ok-print_one.field-0 c.loop-one-test.true c.one-item.is
+            met w.if-not-branch.true in
             omega (arith, more, next, so_far)
         | else-not-branch w ↦
             let same = w.count-is in
-            let next = count_met vs c.args.expected.now c.loop-one.one-index c.one-item.result c.in_ok-print_one.field-0 c.loop-one-test.true c.one-item.is met w.if-not-branch.false in
+            let next = count_met vs c.args.expected.now c.loop-one.one-index c.one-item.result c.in_ok-print_one.field-0 c.loop-one-test.true c.one-item.is met
+            w.if-not-branch.false in
             omega (arith, same, next, so_far)
       ];
       within = elim c.if-not-branch.branch [

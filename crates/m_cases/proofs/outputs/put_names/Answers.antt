@@ -18,7 +18,8 @@ loop-output-preserved c =
             (rw w.bytes.ensures at (w.in_ok-put_name-in-Named.ensures (names_of (take i outputs)) so_far c.loop-output.invariant.finds)))
         | in-Noted w ↦
             rw (w.known-is, w.places-is)
-            (subst (λ (ns : List (List ℕ)). Finds ns c.loop-output.known c.loop-output.places.items) (sym (same_noted outputs i c.output-item.result _ c.loop-output-test.true c.output-item.is w.in-Noted.is))
+            (subst (λ (ns : List (List ℕ)). Finds ns c.loop-output.known c.loop-output.places.items)
+            (sym (same_noted outputs i c.output-item.result _ c.loop-output-test.true c.output-item.is w.in-Noted.is))
             c.loop-output.invariant.finds)
       ];
       place = elim c.match-output.branch [
@@ -28,7 +29,8 @@ loop-output-preserved c =
             omega (arith, more, next, so_far)
         | in-Noted w ↦
             let same = w.place-is in
-            let next = ap (λ (ns : List (List ℕ)). length ns) (same_noted outputs i c.output-item.result _ c.loop-output-test.true c.output-item.is w.in-Noted.is) in
+            let next = ap (λ (ns : List (List ℕ)). length ns) (same_noted outputs i c.output-item.result _ c.loop-output-test.true c.output-item.is
+            w.in-Noted.is) in
             omega (arith, same, next, so_far)
       ];
       within = elim c.match-output.branch [

@@ -9,7 +9,8 @@ pub returns-in_err-names-clause-along : goal.returns-in_err-names-clause-along
 returns-in_err-names-clause-along g c = exits_without_memory _ _ _ c.from_residual.ensures.1
 
 pub returns-in_err-source-clause-along : goal.returns-in_err-source-clause-along
-returns-in_err-source-clause-along g c = exits_ended (source_plan (rules_only c.args.list.now)) _ _ _ _ _ (rw c.in_ok-names.ensures at c.in_err-source.ensures.along) c.from_residual-in_err-source.ensures.1
+returns-in_err-source-clause-along g c = exits_ended (source_plan (rules_only c.args.list.now)) _ _ _ _ _
+    (rw c.in_ok-names.ensures at c.in_err-source.ensures.along) c.from_residual-in_err-source.ensures.1
 
 pub returns-in_err-rows-clause-along : goal.returns-in_err-rows-clause-along
 returns-in_err-rows-clause-along g c =

@@ -8,7 +8,8 @@ returns-in_err-written-clause-outcome c = reported _ _ _ _ _ c.from_residual.ens
 
 pub returns-in_err-requests-clause-outcome : goal.returns-in_err-requests-clause-outcome
 returns-in_err-requests-clause-outcome c =
-    reported _ _ _ _ _ c.from_residual-in_err-requests.ensures.1 (requests_reported c.args.source.now c.args.symbols.now _ _ c.in_ok-written.ensures c.in_err-requests.ensures.outcome)
+    reported _ _ _ _ _ c.from_residual-in_err-requests.ensures.1 (requests_reported c.args.source.now c.args.symbols.now _ _ c.in_ok-written.ensures
+    c.in_err-requests.ensures.outcome)
 
 pub returns-clause-outcome : goal.returns-clause-outcome
 returns-clause-outcome c =

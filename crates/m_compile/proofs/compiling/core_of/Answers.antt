@@ -12,7 +12,8 @@ returns-in_err-driver c = reported _ _ _ _ _ c.from_residual.ensures.1 (lines_re
 
 pub returns-in_err-core : goal.returns-in_err-core
 returns-in_err-core c =
-    reported _ _ _ _ _ c.from_residual-in_err-core.ensures.1 (names_reported c.args.symbols.now c.args.bytes.now _ _ c.in_ok-driver.ensures.outcome c.in_err-core.ensures.outcome)
+    reported _ _ _ _ _ c.from_residual-in_err-core.ensures.1 (names_reported c.args.symbols.now c.args.bytes.now _ _ c.in_ok-driver.ensures.outcome
+    c.in_err-core.ensures.outcome)
 
 pub returns : goal.returns
 returns c = by_driver _ c.in_ok-driver.ensures.outcome c.in_ok-core.ensures.outcome

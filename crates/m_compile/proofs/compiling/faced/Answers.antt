@@ -5,11 +5,13 @@ use Rattle.m_compile.proofs.Steps.{weight_reported, program_made}
 use Rattle.m_compile.proofs.compiling.faced.Goals as goal
 
 pub returns-in_err-flat : goal.returns-in_err-flat
-returns-in_err-flat c = reported _ _ _ _ _ c.from_residual.ensures.1 (weight_reported c.args.core.now c.args.made.now.ordered.base _ c.in_err-flat.ensures.outcome)
+returns-in_err-flat c = reported _ _ _ _ _ c.from_residual.ensures.1
+    (weight_reported c.args.core.now c.args.made.now.ordered.base _ c.in_err-flat.ensures.outcome)
 
 pub returns : goal.returns
 returns c =
-    program_made c.args.made.now.symbols c.args.made.now.ordered.base c.args.core.now c.args.requests.now _ _ _ _ _ c.in_ok-flat.ensures.outcome.0 c.in_ok-flat.ensures.outcome.1 c.in_ok-tidy.ensures.becomes c.in_ok-tidy.ensures.tidy
+    program_made c.args.made.now.symbols c.args.made.now.ordered.base c.args.core.now c.args.requests.now _ _ _ _ _ c.in_ok-flat.ensures.outcome.0
+    c.in_ok-flat.ensures.outcome.1 c.in_ok-tidy.ensures.becomes c.in_ok-tidy.ensures.tidy
     c.in_ok-face.ensures.labels c.in_ok-face.ensures.inputs (rw c.as_slice.ensures at c.in_ok-face.ensures.outputs) c.requires.few
 
 pub face_of-requires-clause-noted : goal.face_of-requires-clause-noted

@@ -14,6 +14,15 @@ loop-k-preserved c =
     let output = c.index-outputs-k.result in
     let test = is_first outputs in
     let fresh : c.in_ok-add_name.field-0 ≡ test k =
-    first-is outputs k output c.loop-k.names c.in_ok-add_name.field-0 (slice_get_read outputs (length outputs) k output refl c.loop-k-test.true c.index-outputs-k.is) c.loop-k.invariant.1 c.in_ok-add_name.ensures.fresh in
-    let numbers = numbers-next test c.loop-k.firsts.items c.if-branch.firsts.items k in
-    (elim c.if-branch.branch [ then-branch+in_ok-push w ↦ numbers true c.loop-k.invariant.0 (sym w.if-branch.true ∙ fresh) (ap (λ v. v.items) w.firsts-is ∙ w.in_ok-push.ensures.items) | else-branch w ↦ numbers false c.loop-k.invariant.0 (sym w.if-branch.false ∙ fresh) (ap (λ v. v.items) w.firsts-is ∙ sym (append-nil c.loop-k.firsts.items)) ], λ x. ap (has x) c.in_ok-add_name.ensures.added ∙ names-next outputs k output c.loop-k.names c.loop-k-test.true c.index-outputs-k.is c.loop-k.invariant.1 x)
+    first-is outputs k output c.loop-k.names c.in_ok-add_name.field-0 (slice_get_read outputs (length outputs) k output refl c.loop-k-test.true
+    c.index-outputs-k.is) c.loop-k.invariant.1 c.in_ok-add_name.ensures.fresh in
+    let numbers = numbers-next test c.loop-k.firsts.items c.if-branch.firsts.items k in (
+      elim c.if-branch.branch [
+        | then-branch+in_ok-push w ↦ numbers true c.loop-k.invariant.0 (sym w.if-branch.true ∙ fresh) (ap (λ v. v.items) w.firsts-is
+            ∙ w.in_ok-push.ensures.items)
+        | else-branch w ↦ numbers false c.loop-k.invariant.0 (sym w.if-branch.false ∙ fresh) (ap (λ v. v.items) w.firsts-is
+            ∙ sym (append-nil c.loop-k.firsts.items))
+      ],
+      λ x. ap (has x) c.in_ok-add_name.ensures.added
+          ∙ names-next outputs k output c.loop-k.names c.loop-k-test.true c.index-outputs-k.is c.loop-k.invariant.1 x,
+    )

@@ -10,11 +10,13 @@ returns-then-eq g c =
     let some : c.args.fact.range ≡ Some (c.in-Some.low, c.in-Some.high) = search rules in
     let equal : int_eq c.in-Some.low c.in-Some.high ≡ true = search rules in
     let words : c.words_after-words.result.now ≡ words_after c.args.fact.undef c.args.fact.over = search rules in
-    gives-text _ _ _ _ _ _ _ (number-line c.args.name.now c.words_after-words.result.now c.args.fact (c.in-Some.low, c.in-Some.high) some equal words) c.print_number.ensures
+    gives-text _ _ _ _ _ _ _ (number-line c.args.name.now c.words_after-words.result.now c.args.fact (c.in-Some.low, c.in-Some.high) some equal words)
+    c.print_number.ensures
 
 pub returns-else-eq : goal.returns-else-eq
 returns-else-eq g c =
     let some : c.args.fact.range ≡ Some (c.in-Some.low, c.in-Some.high) = search rules in
     let apart : int_eq c.in-Some.low c.in-Some.high ≡ false = search rules in
     let words : c.words_after-words.result.now ≡ words_after c.args.fact.undef c.args.fact.over = search rules in
-    gives-text _ _ _ _ _ _ _ (interval-line c.args.name.now c.words_after-words.result.now c.args.fact (c.in-Some.low, c.in-Some.high) some apart words) c.print_interval.ensures
+    gives-text _ _ _ _ _ _ _ (interval-line c.args.name.now c.words_after-words.result.now c.args.fact (c.in-Some.low, c.in-Some.high) some apart words)
+    c.print_interval.ensures

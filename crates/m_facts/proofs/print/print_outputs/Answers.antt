@@ -10,7 +10,8 @@ returns-in_err-print_output g c =
     let gave = c.in_err-print_output.ensures in
     let low = within-both c.loop-k.k (length c.args.outputs.now) (length c.args.possible.now) (omega (arith, c.loop-k-test.true, c.least-k-end.ensures)) in
     piece_failed _ _ _ _ _ _ _ _ _ _ _ p.1
-    (outputs-at c.args.outputs.now c.args.possible.now c.loop-k.k c.index-outputs-k.result c.index-outputs-k.result c.index-possible-k.result c.index-possible-k.result low.0 low.1 c.index-outputs-k.is c.index-possible-k.is)
+    (outputs-at c.args.outputs.now c.args.possible.now c.loop-k.k c.index-outputs-k.result c.index-outputs-k.result c.index-possible-k.result
+    c.index-possible-k.result low.0 low.1 c.index-outputs-k.is c.index-possible-k.is)
     c.loop-k.invariant gave.failed gave.prefix gave.counted
 
 pub loop-k-preserved : goal.loop-k-preserved
@@ -18,7 +19,8 @@ loop-k-preserved g c =
     let gave = c.in_ok-print_output.ensures in
     let low = within-both c.loop-k.k (length c.args.outputs.now) (length c.args.possible.now) (omega (arith, c.loop-k-test.true, c.least-k-end.ensures)) in
     piece_given _ _ _ _ _ _ _ _ _
-    (outputs-at c.args.outputs.now c.args.possible.now c.loop-k.k c.index-outputs-k.result c.index-outputs-k.result c.index-possible-k.result c.index-possible-k.result low.0 low.1 c.index-outputs-k.is c.index-possible-k.is)
+    (outputs-at c.args.outputs.now c.args.possible.now c.loop-k.k c.index-outputs-k.result c.index-outputs-k.result c.index-possible-k.result
+    c.index-possible-k.result low.0 low.1 c.index-outputs-k.is c.index-possible-k.is)
     c.loop-k.invariant gave.all gave.faultless
 
 pub returns : goal.returns

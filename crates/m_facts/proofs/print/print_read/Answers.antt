@@ -8,7 +8,8 @@ pub returns-in_err-give_pieces : goal.returns-in_err-give_pieces
 returns-in_err-give_pieces g c =
     let p = err_from_is_err_and c.from_residual.result c.from_residual.ensures.1 in
     let gave = c.in_err-give_pieces.ensures in
-    piece_failed _ _ _ _ _ _ _ _ _ _ _ p.1 (read-first c.args.inputs.now c.args.name.now c.args.reads.now) (none_given _ _ _ _) gave.failed gave.prefix gave.counted
+    piece_failed _ _ _ _ _ _ _ _ _ _ _ p.1 (read-first c.args.inputs.now c.args.name.now c.args.reads.now) (none_given _ _ _ _) gave.failed gave.prefix
+    gave.counted
 
 pub returns-in_err-print_codes : goal.returns-in_err-print_codes
 returns-in_err-print_codes g c =

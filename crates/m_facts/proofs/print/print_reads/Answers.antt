@@ -13,7 +13,8 @@ returns-in_err-print_read g c =
     let named : c.printed_name-name.result.now ≡ printed_name c.args.face.now.outputs (get_or c.args.firsts.now c.loop-j.j 0) =
     c.printed_name-name.ensures ∙ ap (λ outputs. printed_name outputs (get_or c.args.firsts.now c.loop-j.j 0)) c.as_slice.ensures in
     piece_failed _ _ _ _ _ _ _ _ _ _ _ p.1
-    (reads-at c.args.face.now c.args.firsts.now c.args.reads.now c.loop-j.j (get_or c.args.firsts.now c.loop-j.j 0) 0 c.printed_name-name.result.now c.index-reads-j.result c.index-reads-j.result low.0 low.1 refl c.index-reads-j.is named)
+    (reads-at c.args.face.now c.args.firsts.now c.args.reads.now c.loop-j.j (get_or c.args.firsts.now c.loop-j.j 0) 0 c.printed_name-name.result.now
+    c.index-reads-j.result c.index-reads-j.result low.0 low.1 refl c.index-reads-j.is named)
     c.loop-j.invariant gave.failed gave.prefix gave.counted
 
 pub loop-j-preserved : goal.loop-j-preserved
@@ -23,7 +24,8 @@ loop-j-preserved g c =
     let named : c.printed_name-name.result.now ≡ printed_name c.args.face.now.outputs (get_or c.args.firsts.now c.loop-j.j 0) =
     c.printed_name-name.ensures ∙ ap (λ outputs. printed_name outputs (get_or c.args.firsts.now c.loop-j.j 0)) c.as_slice.ensures in
     piece_given _ _ _ _ _ _ _ _ _
-    (reads-at c.args.face.now c.args.firsts.now c.args.reads.now c.loop-j.j (get_or c.args.firsts.now c.loop-j.j 0) 0 c.printed_name-name.result.now c.index-reads-j.result c.index-reads-j.result low.0 low.1 refl c.index-reads-j.is named)
+    (reads-at c.args.face.now c.args.firsts.now c.args.reads.now c.loop-j.j (get_or c.args.firsts.now c.loop-j.j 0) 0 c.printed_name-name.result.now
+    c.index-reads-j.result c.index-reads-j.result low.0 low.1 refl c.index-reads-j.is named)
     c.loop-j.invariant gave.all gave.faultless
 
 pub returns : goal.returns

@@ -5,4 +5,5 @@ pub returns-clause-value : goal.returns-clause-value
 returns-clause-value c = product_is c.args.x c.args.y c.ranges.x c.ranges.y c.requires.x_in c.requires.y_in
 
 pub returns-clause-bound : goal.returns-clause-bound
-returns-clause-bound c = rw (product_is c.args.x c.args.y c.ranges.x c.ranges.y c.requires.x_in c.requires.y_in) (size_of_product c.args.x c.args.y c.requires.x_in c.requires.y_in)
+returns-clause-bound c = rw (product_is c.args.x c.args.y c.ranges.x c.ranges.y c.requires.x_in c.requires.y_in)
+    (size_of_product c.args.x c.args.y c.requires.x_in c.requires.y_in)

@@ -8,4 +8,5 @@ returns-in_err-size c =
     rw (p.1, p.2) (err_is_read c.args.text.now _ _ _ c.split_sign-negative.ensures.sign c.split_sign-negative.ensures.number c.in_err-size.ensures.value)
 
 pub returns : goal.returns
-returns c = ok_is_read c.args.text.now _ _ _ _ c.split_sign-negative.ensures.sign c.split_sign-negative.ensures.number c.in_ok-size.ensures.value c.of_size.ensures
+returns c = ok_is_read c.args.text.now _ _ _ _ c.split_sign-negative.ensures.sign c.split_sign-negative.ensures.number c.in_ok-size.ensures.value
+    c.of_size.ensures

@@ -5,10 +5,13 @@ pub returns-then-not-is_digits-clause-value : goal.returns-then-not-is_digits-cl
 returns-then-not-is_digits-clause-value c = no_whole c.args.text.now _ c.split_at_point.ensures.before c.if-not-is_digits.ensures
 
 pub returns-in-None-clause-value : goal.returns-in-None-clause-value
-returns-in-None-clause-value c = whole_alone c.args.text.now _ _ c.split_at_point.ensures.before (rw c.in-None.is at c.split_at_point.ensures.behind) c.if-not-is_digits.ensures c.size.ensures.value
+returns-in-None-clause-value c = whole_alone c.args.text.now _ _ c.split_at_point.ensures.before (rw c.in-None.is at c.split_at_point.ensures.behind)
+    c.if-not-is_digits.ensures c.size.ensures.value
 
 pub returns-then-not-is_digits-2-clause-value : goal.returns-then-not-is_digits-2-clause-value
-returns-then-not-is_digits-2-clause-value c = no_decimals c.args.text.now _ _ c.split_at_point.ensures.before (rw c.in-Some.is at c.split_at_point.ensures.behind) c.if-not-is_digits.ensures c.if-not-is_digits-2.ensures
+returns-then-not-is_digits-2-clause-value c = no_decimals c.args.text.now _ _ c.split_at_point.ensures.before
+    (rw c.in-Some.is at c.split_at_point.ensures.behind) c.if-not-is_digits.ensures c.if-not-is_digits-2.ensures
 
 pub returns-else-not-is_digits-2-clause-value : goal.returns-else-not-is_digits-2-clause-value
-returns-else-not-is_digits-2-clause-value c = whole_and_decimals c.args.text.now _ _ _ c.split_at_point.ensures.before (rw c.in-Some.is at c.split_at_point.ensures.behind) c.if-not-is_digits.ensures c.if-not-is_digits-2.ensures c.size-in-Some.ensures.value
+returns-else-not-is_digits-2-clause-value c = whole_and_decimals c.args.text.now _ _ _ c.split_at_point.ensures.before
+    (rw c.in-Some.is at c.split_at_point.ensures.behind) c.if-not-is_digits.ensures c.if-not-is_digits-2.ensures c.size-in-Some.ensures.value

@@ -22,5 +22,9 @@ write_decimals-requires t c =
 pub returns : goal.returns
 returns t c =
     let left = places_left c.args.places c.args.fraction c.if-fraction-eq0.false c.requires.fraction_in in
-    rw (decimals_from c.args.places c.args.fraction c.if-fraction-eq0.false c.requires.fraction_in, ← parts_step c.args.places c.args.parts c.requires.parts_in left)
+    rw (
+      decimals_from c.args.places c.args.fraction c.if-fraction-eq0.false c.requires.fraction_in,
+      ← parts_step c.args.places c.args.parts c.requires.parts_in
+          left,
+    )
     (writes_before c.args.room.now _ c.args.at _ _ _ (omega arith) c.write_decimals.ensures)

@@ -7,7 +7,8 @@ pub bounds-room-at : goal.bounds-room-at
 bounds-room-at t c = omega (arith, decimal_one c.args.n c.if-n-lt10.true)
 
 pub returns-then-n-lt10 : goal.returns-then-n-lt10
-returns-then-n-lt10 t c = rw (decimal_digit c.args.n c.if-n-lt10.true) (writes_before c.args.room.now _ c.args.at _ _ _ (omega (arith, decimal_one c.args.n c.if-n-lt10.true)) (writes_none _ _))
+returns-then-n-lt10 t c = rw (decimal_digit c.args.n c.if-n-lt10.true)
+    (writes_before c.args.room.now _ c.args.at _ _ _ (omega (arith, decimal_one c.args.n c.if-n-lt10.true)) (writes_none _ _))
 
 pub write_whole-end-requires : goal.write_whole-end-requires
 write_whole-end-requires t c =
@@ -22,4 +23,5 @@ bounds-room-end t c =
 pub returns : goal.returns
 returns t c =
     let more = decimal_more c.args.n c.if-n-lt10.false (omega arith) in
-    rw (decimal_step c.args.n c.if-n-lt10.false (omega arith)) (writes_behind c.args.room.now _ c.args.at _ _ _ (omega (arith, c.write_whole-end.ensures.length)) c.write_whole-end.ensures)
+    rw (decimal_step c.args.n c.if-n-lt10.false (omega arith))
+    (writes_behind c.args.room.now _ c.args.at _ _ _ (omega (arith, c.write_whole-end.ensures.length)) c.write_whole-end.ensures)

@@ -15,4 +15,5 @@ returns-clause-text c = writes_both c.args.room.now _ _ c.args.at _ _ _ _ c.writ
 
 pub returns-clause-short : goal.returns-clause-short
 unfolding size_text
-returns-clause-short c = ends_soon c.args.room.now _ c.args.at c.args.size _ c.requires.size_in (writes_both c.args.room.now _ _ c.args.at _ _ _ _ c.write_whole-at.ensures c.write_fraction.ensures)
+returns-clause-short c = ends_soon c.args.room.now _ c.args.at c.args.size _ c.requires.size_in
+    (writes_both c.args.room.now _ _ c.args.at _ _ _ _ c.write_whole-at.ensures c.write_fraction.ensures)

@@ -13,12 +13,14 @@ parts-init c = record {
 
 pub returns-in_err-part-clause-reads : goal.returns-in_err-part-clause-reads
 returns-in_err-part-clause-reads c =
-    exit _ _ _ _ c.from_residual-in_err-part.ensures.1 (chain_stuck _ _ _ c.parts.invariant.going c.parts-test.ensures.sign c.parts-test.ensures.shorter) c.in_err-part.ensures.reads
+    exit _ _ _ _ c.from_residual-in_err-part.ensures.1 (chain_stuck _ _ _ c.parts.invariant.going c.parts-test.ensures.sign c.parts-test.ensures.shorter)
+    c.in_err-part.ensures.reads
 
 pub parts-preserved : goal.parts-preserved
 parts-preserved c = record {
   shorter = omega (arith, c.in_ok-part.ensures.shorter, c.parts-test.ensures.shorter, c.parts.invariant.shorter);
-  going = rw c.in_ok-push-2.ensures.items (chain_turn _ _ _ c.parts.invariant.going c.parts-test.ensures.sign c.in_ok-part.ensures.reads (omega (arith, c.in_ok-part.ensures.shorter, c.parts-test.ensures.shorter)));
+  going = rw c.in_ok-push-2.ensures.items (chain_turn _ _ _ c.parts.invariant.going c.parts-test.ensures.sign c.in_ok-part.ensures.reads
+      (omega (arith, c.in_ok-part.ensures.shorter, c.parts-test.ensures.shorter)));
 }
 
 pub returns-clause-reads : goal.returns-clause-reads

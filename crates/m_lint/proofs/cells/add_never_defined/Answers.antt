@@ -11,7 +11,9 @@ returns c =
     let declared = c.args.symbols.now in
     let base = c.args.base.now in
     let so_many : length c.deref.result.now ≡ base.cells = ap length c.deref.ensures.value ∙ c.in_ok-marks.ensures.count in
-    found-same c.add_marked.result NeverDefined c.args.findings.now.items _ (λ k. get_or c.deref.result.now k false && not (is_given declared k)) (is_never_defined declared base)
+    found-same c.add_marked.result NeverDefined c.args.findings.now.items _ (λ k. get_or c.deref.result.now k false && not (is_given declared k))
+    (is_never_defined declared base)
     (length c.deref.result.now) base.cells so_many
-    (λ k low. never-defined declared base k (get_or c.deref.result.now k false) (ap (λ marks. get_or marks k false) c.deref.ensures.value ∙ c.in_ok-marks.ensures.marks k (rw so_many at low)))
+    (λ k low. never-defined declared base k (get_or c.deref.result.now k false) (ap (λ marks. get_or marks k false) c.deref.ensures.value
+    ∙ c.in_ok-marks.ensures.marks k (rw so_many at low)))
     c.add_marked.ensures

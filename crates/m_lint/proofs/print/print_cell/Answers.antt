@@ -10,7 +10,9 @@ returns-in-Computed-None g c =
     gives-text _ _ _ _ _ _ _ (ap cell_line (c.bytes-name.ensures ∙ plain-cell c.args.cell c.args.variable.now none)) c.give_pieces.ensures
 
 pub returns-in-Input : goal.returns-in-Input
-returns-in-Input g c = gives-text _ _ _ _ _ _ _ (ap cell_line (c.bytes-name.ensures ∙ plain-cell c.args.cell c.args.variable.now (ap size_in c.in-Input.is))) c.give_pieces-in-Input.ensures
+returns-in-Input g c = gives-text _ _ _ _ _ _ _ (ap cell_line (c.bytes-name.ensures ∙ plain-cell c.args.cell c.args.variable.now (ap size_in c.in-Input.is)))
+    c.give_pieces-in-Input.ensures
 
 pub returns-in-Constant : goal.returns-in-Constant
-returns-in-Constant g c = gives-text _ _ _ _ _ _ _ (ap cell_line (c.bytes-name.ensures ∙ plain-cell c.args.cell c.args.variable.now (ap size_in c.in-Constant.is))) c.give_pieces-in-Constant.ensures
+returns-in-Constant g c = gives-text _ _ _ _ _ _ _
+    (ap cell_line (c.bytes-name.ensures ∙ plain-cell c.args.cell c.args.variable.now (ap size_in c.in-Constant.is))) c.give_pieces-in-Constant.ensures

@@ -15,16 +15,19 @@ returns-in_err-print_finding g c =
     let p = err_from_is_err_and c.from_residual.result c.from_residual.ensures.1 in
     let gave = c.in_err-print_finding.ensures in
     piece_failed _ _ _ _ _ _ _ _ _ _ _ p.1
-    (text-at c.args.symbols.now c.args.base.now c.args.findings.now c.loop-finding.finding-index (get_or c.args.findings.now c.loop-finding.finding-index (NeverDefined 0)) (NeverDefined 0) c.loop-finding-test.true refl)
+    (text-at c.args.symbols.now c.args.base.now c.args.findings.now c.loop-finding.finding-index
+    (get_or c.args.findings.now c.loop-finding.finding-index (NeverDefined 0)) (NeverDefined 0) c.loop-finding-test.true refl)
     c.loop-finding.invariant gave.failed gave.prefix gave.counted
 
 pub loop-finding-preserved : goal.loop-finding-preserved
 loop-finding-preserved g c =
     let gave = c.in_ok-print_finding.ensures in
     piece_given _ _ _ _ _ _ _ _ _
-    (text-at c.args.symbols.now c.args.base.now c.args.findings.now c.loop-finding.finding-index (get_or c.args.findings.now c.loop-finding.finding-index (NeverDefined 0)) (NeverDefined 0) c.loop-finding-test.true refl)
+    (text-at c.args.symbols.now c.args.base.now c.args.findings.now c.loop-finding.finding-index
+    (get_or c.args.findings.now c.loop-finding.finding-index (NeverDefined 0)) (NeverDefined 0) c.loop-finding-test.true refl)
     c.loop-finding.invariant gave.all gave.faultless
 
 pub returns : goal.returns
 returns g c =
-    all_given _ _ _ _ _ _ tt refl (rw (ap (findings_text c.args.symbols.now c.args.base.now) (drop_all c.loop-finding.finding-index c.args.findings.now (omega (arith, c.loop-finding-test.false)))) at c.loop-finding.invariant)
+    all_given _ _ _ _ _ _ tt refl (rw (ap (findings_text c.args.symbols.now c.args.base.now)
+    (drop_all c.loop-finding.finding-index c.args.findings.now (omega (arith, c.loop-finding-test.false)))) at c.loop-finding.invariant)

@@ -6,8 +6,14 @@ use Rattle.m_lint.proofs.reads.+reads.Goals as goal
 
 pub read_term-read_all-requires : goal.read_term-read_all-requires
 read_term-read_all-requires t c =
-    rw c.deref-in-Apply.ensures.value (omega (arith, terms_fall c.in-Apply.arguments.items, ap nodes c.term.view_is, ap (λ n. nodes (tree_of n)) c.in-Apply.is), tt)
+    rw c.deref-in-Apply.ensures.value (
+      omega (arith, terms_fall c.in-Apply.arguments.items, ap nodes c.term.view_is, ap (λ n. nodes (tree_of n)) c.in-Apply.is),
+      tt,
+    )
 
 pub read_term-read_along-requires : goal.read_term-read_along-requires
 read_term-read_along-requires t c =
-    rw c.deref-in-Chain-2.ensures.value (omega (arith, sizes_fall c.in-Chain.steps.items, ap nodes c.term.view_is, ap (λ n. nodes (tree_of n)) c.in-Chain.is), tt)
+    rw c.deref-in-Chain-2.ensures.value (
+      omega (arith, sizes_fall c.in-Chain.steps.items, ap nodes c.term.view_is, ap (λ n. nodes (tree_of n)) c.in-Chain.is),
+      tt,
+    )

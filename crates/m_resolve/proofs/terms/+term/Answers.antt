@@ -9,12 +9,14 @@ use Rattle.m_resolve.proofs.terms.+term.Goals as goal
 pub terms-returns-in_err-tree : goal.terms-returns-in_err-tree
 terms-returns-in_err-tree t c =
     reported _ _ _ _ _ c.from_residual-in_err-tree.ensures.1
-    (λ n. terms_fault c.args.symbols.now _ c.args.all.now c.loop-one.one-index _ _ _ c.loop-one-test.true c.one-item.is c.loop-one.invariant (c.in_err-tree.ensures n))
+    (λ n. terms_fault c.args.symbols.now _ c.args.all.now c.loop-one.one-index _ _ _ c.loop-one-test.true c.one-item.is c.loop-one.invariant
+    (c.in_err-tree.ensures n))
 
 pub chained-returns-in_err-tree : goal.chained-returns-in_err-tree
 chained-returns-in_err-tree t c =
     reported _ _ _ _ _ c.from_residual-in_err-tree.ensures.1
-    (λ n. chain_fault c.args.symbols.now c.args.first.now _ c.args.links.now c.loop-link.link-index _ _ _ c.in_ok-first.ensures c.loop-link-test.true c.link-item.is c.loop-link.invariant (c.in_err-tree.ensures n))
+    (λ n. chain_fault c.args.symbols.now c.args.first.now _ c.args.links.now c.loop-link.link-index _ _ _ c.in_ok-first.ensures c.loop-link-test.true
+    c.link-item.is c.loop-link.invariant (c.in_err-tree.ensures n))
 
 pub term-table_read-requires : goal.term-table_read-requires
 term-table_read-requires t c = (omega (arith, ap nodes c.deref.ensures, ap nodes c.term.view_is, ap (λ n. nodes (syntax_of n)) c.in-Cell.is), tt)

@@ -12,4 +12,6 @@ pub returns-then-at-text-clause-known : goal.returns-then-at-text-clause-known
 returns-then-at-text-clause-known c = known_by c.args.symbols.now _ _ None _ c.requires c.variable-variable.ensures c.cell_without_index.ensures
 
 pub returns-else-at-text-clause-known : goal.returns-else-at-text-clause-known
-returns-else-at-text-clause-known c = known_by c.args.symbols.now _ _ (Some (take (length c.args.text.now - (c.first_of-at.result + 1)) (drop (c.first_of-at.result + 1) c.args.text.now))) _ c.requires c.variable-variable.ensures c.cell_at_index.ensures
+returns-else-at-text-clause-known c = known_by c.args.symbols.now _ _
+    (Some (take (length c.args.text.now - (c.first_of-at.result + 1)) (drop (c.first_of-at.result + 1) c.args.text.now))) _ c.requires
+    c.variable-variable.ensures c.cell_at_index.ensures

@@ -11,13 +11,15 @@ returns-clause-indexed c =
     let t = c.args.tables.now in
     let x = c.requires.indexed in
     let e = c.args.error.now in
-    let pushed : c.push.new.self.items ≡ t.errors.items ++ e ∷ [] = c.in_ok-push.ensures.items ∙ ap (λ (y : ErrorItem). t.errors.items ++ y ∷ []) c.in_ok-copy.ensures in
+    let pushed : c.push.new.self.items ≡ t.errors.items ++ e ∷ [] = c.in_ok-push.ensures.items
+    ∙ ap (λ (y : ErrorItem). t.errors.items ++ y ∷ []) c.in_ok-copy.ensures in
     record {
       names = x.names;
       codes = x.codes;
       owners = x.owners;
       inputs = x.inputs;
-      error_names = name_added error_name_of t.error_names c.add.new.self c.in_ok-add.field-0 t.errors.items e x.error_names (new_error (declared_in t) e c.requires.good) (rw c.bytes.ensures at c.in_ok-add.ensures.fresh) (rw c.bytes.ensures at c.in_ok-add.ensures.added)
+      error_names = name_added error_name_of t.error_names c.add.new.self c.in_ok-add.field-0 t.errors.items e x.error_names
+          (new_error (declared_in t) e c.requires.good) (rw c.bytes.ensures at c.in_ok-add.ensures.fresh) (rw c.bytes.ensures at c.in_ok-add.ensures.added)
           ∙ ap error_names_of (sym pushed);
       few = x.few;
       few_variables = x.few_variables;

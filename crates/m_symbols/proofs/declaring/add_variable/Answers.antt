@@ -27,13 +27,18 @@ returns-clause-indexed c =
     let number : c.len-number.result ≡ length vs = c.len-number.ensures ∙ ap length x.names ∙ length-names vs in
     let counted : vec_len t.owners ≡ length t.owners.items = omega (arith, c.len-first_cell.ensures) in
     let all : c.len-first_cell.result + c.cells_of-cells.result ≡ length t.owners.items + c.cells_of-cells.result = omega (arith, c.len-first_cell.ensures) in
-    let filled = c.in_ok-resize.ensures.items ∙ ap (λ n. take (c.len-first_cell.result + c.cells_of-cells.result) t.owners.items ++ replicate ((c.len-first_cell.result + c.cells_of-cells.result) - n) c.len-number.result) counted in
-    let cells = cells_added t.owners.items c.resize.new.self.items vs placed c.len-number.result (c.len-first_cell.result + c.cells_of-cells.result) x.owners number all filled in
+    let filled = c.in_ok-resize.ensures.items
+    ∙ ap (λ n. take (c.len-first_cell.result + c.cells_of-cells.result) t.owners.items ++ replicate ((c.len-first_cell.result + c.cells_of-cells.result) - n)
+    c.len-number.result) counted in
+    let cells = cells_added t.owners.items c.resize.new.self.items vs placed c.len-number.result (c.len-first_cell.result + c.cells_of-cells.result) x.owners
+    number all filled in
     record {
-      names = name_added name_of t.names c.add.new.self c.in_ok-add.field-0 vs placed x.names (new_name (declared_in t) v good) (rw c.bytes.ensures at c.in_ok-add.ensures.fresh) (rw c.bytes.ensures at c.in_ok-add.ensures.added) ∙ ap names_of (sym pushed);
+      names = name_added name_of t.names c.add.new.self c.in_ok-add.field-0 vs placed x.names (new_name (declared_in t) v good)
+          (rw c.bytes.ensures at c.in_ok-add.ensures.fresh) (rw c.bytes.ensures at c.in_ok-add.ensures.added) ∙ ap names_of (sym pushed);
       codes = c.in_ok-add_code.ensures.codes ∙ ap (λ l. l ++ cons_option (code_in v.role) []) x.codes ∙ sym (codes-push vs placed) ∙ ap codes_of (sym pushed);
       owners = cells.0 ∙ ap (owners_from 0) (sym pushed);
-      inputs = c.in_ok-add_code.ensures.inputs ∙ ap (λ l. l ++ cond (is_input v.role) (c.len-number.result ∷ []) []) x.inputs ∙ sym (inputs-push 0 vs placed c.len-number.result (omega arith)) ∙ ap (inputs_from 0) (sym pushed);
+      inputs = c.in_ok-add_code.ensures.inputs ∙ ap (λ l. l ++ cond (is_input v.role) (c.len-number.result ∷ []) []) x.inputs
+          ∙ sym (inputs-push 0 vs placed c.len-number.result (omega arith)) ∙ ap (inputs_from 0) (sym pushed);
       error_names = x.error_names;
       few = omega (arith, cells.1, c.cells_of-cells.ensures, few_cells (declared_in t) c.args.variable.now c.requires.good, ap length x.owners);
       few_variables = omega (arith, c.requires.room.0, ap length pushed, length-append vs (placed ∷ []));

@@ -13,12 +13,17 @@ pub index-variable-requires : goal.index-variable-requires
 index-variable-requires c = omega (arith, c.in_ok-number.ensures.within, ap length c.requires.inputs, as_many c.args.tables.now c.requires)
 
 pub index-requires : goal.index-requires
-index-requires c = omega (arith, (input_at c.args.tables.now c.requires c.in_ok-number.number c.index-variable.result.now c.in_ok-number.ensures.within c.index-variable.ensures).1)
+index-requires c = omega (
+  arith,
+  (input_at c.args.tables.now c.requires c.in_ok-number.number c.index-variable.result.now c.in_ok-number.ensures.within
+      c.index-variable.ensures).1,
+)
 
 pub returns : goal.returns
 returns c =
     let there = rw c.requires.codes at (sym c.in_ok-number.ensures.number) in
     let vs = c.args.tables.now.variables.items in
-    let variable = (input_at c.args.tables.now c.requires c.in_ok-number.number c.index-variable.result.now c.in_ok-number.ensures.within c.index-variable.ensures).0 in
+    let variable = (input_at c.args.tables.now c.requires c.in_ok-number.number c.index-variable.result.now c.in_ok-number.ensures.within
+    c.index-variable.ensures).0 in
     ap (λ (v : Variable). Some v.item.place) (c.index.ensures ∙ ap (λ m. get_or vs m c.index.result.now) variable)
     ∙ sym (code-some c.args.code.now vs c.in_ok-number.number c.index.result.now there)

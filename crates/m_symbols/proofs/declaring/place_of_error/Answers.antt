@@ -12,4 +12,5 @@ pub returns : goal.returns
 returns c =
     let there = rw c.requires.error_names at (sym c.in_ok-number.ensures.number) in
     let place = λ (v : ErrorItem). v.place in
-    ap (λ v. Some (place v)) c.index.ensures ∙ sym (beside-some (λ (v : ErrorItem). v.name) place c.args.name.now c.args.tables.now.errors.items c.in_ok-number.number c.index.result.now there)
+    ap (λ v. Some (place v)) c.index.ensures
+    ∙ sym (beside-some (λ (v : ErrorItem). v.name) place c.args.name.now c.args.tables.now.errors.items c.in_ok-number.number c.index.result.now there)

@@ -17,7 +17,8 @@ read_links-returns-in-Err-clause-reads t c =
 pub read_links-links-preserved : goal.read_links-links-preserved
 read_links-links-preserved t c = record {
   shorter = omega (arith, c.in-Ok.ensures.shorter, c.in-Some.ensures.shorter);
-  going = rw c.in-Ok-add_link.ensures (chain_turn _ _ _ c.links.invariant.going c.in-Some.ensures.op c.in-Ok.ensures.reads (omega (arith, c.in-Ok.ensures.shorter, c.in-Some.ensures.shorter)));
+  going = rw c.in-Ok-add_link.ensures (chain_turn _ _ _ c.links.invariant.going c.in-Some.ensures.op c.in-Ok.ensures.reads
+      (omega (arith, c.in-Ok.ensures.shorter, c.in-Some.ensures.shorter)));
 }
 
 pub read_links-returns-clause-reads : goal.read_links-returns-clause-reads

@@ -53,7 +53,8 @@ decreases-read_level l = 32 * l.depth + floor l.level + 2
 abbrev pub invariant-read_links-links : goal.invariant-read_links-links
 invariant-read_links-links l = record {
   shorter : length l.cursor ≤ length l.fn.cursor;
-  going : Going (operator_at l.level) link (operand_at (inner_at l.depth) l.level) (links_at (operator_at l.level) (operand_at (inner_at l.depth) l.level) l.fn.cursor) l.links.items l.cursor;
+  going : Going (operator_at l.level) link (operand_at (inner_at l.depth) l.level) (links_at (operator_at l.level) (operand_at (inner_at l.depth) l.level)
+      l.fn.cursor) l.links.items l.cursor;
 }
 
 abbrev pub decreases-read_links-links : goal.decreases-read_links-links

@@ -13,12 +13,14 @@ indexes-init c = record {
 
 pub returns-in_err-index-clause-reads : goal.returns-in_err-index-clause-reads
 returns-in_err-index-clause-reads c =
-    exit _ _ _ _ c.from_residual-in_err-index.ensures.1 (chain_stuck _ _ _ c.indexes.invariant.going c.indexes-test.ensures.mark c.indexes-test.ensures.shorter) c.in_err-index.ensures.reads
+    exit _ _ _ _ c.from_residual-in_err-index.ensures.1 (chain_stuck _ _ _ c.indexes.invariant.going c.indexes-test.ensures.mark c.indexes-test.ensures.shorter)
+    c.in_err-index.ensures.reads
 
 pub indexes-preserved : goal.indexes-preserved
 indexes-preserved c = record {
   shorter = omega (arith, c.in_ok-index.ensures.shorter, c.indexes-test.ensures.shorter, c.indexes.invariant.shorter);
-  going = rw c.in_ok-push-2.ensures.items (chain_turn _ _ _ c.indexes.invariant.going c.indexes-test.ensures.mark c.in_ok-index.ensures.reads (omega (arith, c.in_ok-index.ensures.shorter, c.indexes-test.ensures.shorter)));
+  going = rw c.in_ok-push-2.ensures.items (chain_turn _ _ _ c.indexes.invariant.going c.indexes-test.ensures.mark c.in_ok-index.ensures.reads
+      (omega (arith, c.in_ok-index.ensures.shorter, c.indexes-test.ensures.shorter)));
 }
 
 pub returns-clause-reads : goal.returns-clause-reads

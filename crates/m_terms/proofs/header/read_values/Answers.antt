@@ -13,12 +13,14 @@ values-init c = record {
 
 pub returns-in_err-value-clause-reads : goal.returns-in_err-value-clause-reads
 returns-in_err-value-clause-reads c =
-    exit _ _ _ _ c.from_residual-in_err-value.ensures.1 (chain_stuck _ _ _ c.values.invariant.going c.values-test.ensures.mark c.values-test.ensures.shorter) c.in_err-value.ensures.reads
+    exit _ _ _ _ c.from_residual-in_err-value.ensures.1 (chain_stuck _ _ _ c.values.invariant.going c.values-test.ensures.mark c.values-test.ensures.shorter)
+    c.in_err-value.ensures.reads
 
 pub values-preserved : goal.values-preserved
 values-preserved c = record {
   shorter = omega (arith, c.in_ok-value.ensures.shorter, c.values-test.ensures.shorter, c.values.invariant.shorter);
-  going = rw c.in_ok-push-2.ensures.items (chain_turn _ _ _ c.values.invariant.going c.values-test.ensures.mark c.in_ok-value.ensures.reads (omega (arith, c.in_ok-value.ensures.shorter, c.values-test.ensures.shorter)));
+  going = rw c.in_ok-push-2.ensures.items (chain_turn _ _ _ c.values.invariant.going c.values-test.ensures.mark c.in_ok-value.ensures.reads
+      (omega (arith, c.in_ok-value.ensures.shorter, c.values-test.ensures.shorter)));
 }
 
 pub returns-clause-reads : goal.returns-clause-reads

@@ -13,12 +13,14 @@ members-init c = record {
 
 pub returns-in_err-member-clause-reads : goal.returns-in_err-member-clause-reads
 returns-in_err-member-clause-reads c =
-    exit _ _ _ _ c.from_residual-in_err-member.ensures.1 (chain_stuck _ _ _ c.members.invariant.going c.members-test.ensures.mark c.members-test.ensures.shorter) c.in_err-member.ensures.reads
+    exit _ _ _ _ c.from_residual-in_err-member.ensures.1 (chain_stuck _ _ _ c.members.invariant.going c.members-test.ensures.mark
+    c.members-test.ensures.shorter) c.in_err-member.ensures.reads
 
 pub members-preserved : goal.members-preserved
 members-preserved c = record {
   shorter = omega (arith, c.in_ok-member.ensures.shorter, c.members-test.ensures.shorter, c.members.invariant.shorter);
-  going = rw c.in_ok-push-2.ensures.items (chain_turn _ _ _ c.members.invariant.going c.members-test.ensures.mark c.in_ok-member.ensures.reads (omega (arith, c.in_ok-member.ensures.shorter, c.members-test.ensures.shorter)));
+  going = rw c.in_ok-push-2.ensures.items (chain_turn _ _ _ c.members.invariant.going c.members-test.ensures.mark c.in_ok-member.ensures.reads
+      (omega (arith, c.in_ok-member.ensures.shorter, c.members-test.ensures.shorter)));
 }
 
 pub returns-clause-reads : goal.returns-clause-reads

@@ -4,8 +4,10 @@ use Rattle.m_text.proofs.lines.first_line.Goals as goal
 
 pub returns-then-end-bytes-clause-first : goal.returns-then-end-bytes-clause-first
 returns-then-end-bytes-clause-first c =
-    lines_of-whole c.args.bytes.now c.line_end-end.result c.if-end-bytes.true (feed_place-from_run c.args.bytes.now c.line_end-end.result c.line_end-end.ensures) (sym c.is_empty.ensures ∙ c.if-is_empty.false)
+    lines_of-whole c.args.bytes.now c.line_end-end.result c.if-end-bytes.true
+    (feed_place-from_run c.args.bytes.now c.line_end-end.result c.line_end-end.ensures) (sym c.is_empty.ensures ∙ c.if-is_empty.false)
 
 pub returns-clause-first : goal.returns-clause-first
 returns-clause-first c =
-    rw c.without_return.ensures (lines_of-cut c.args.bytes.now c.line_end-end.result (feed_place-from_run c.args.bytes.now c.line_end-end.result c.line_end-end.ensures) (omega arith))
+    rw c.without_return.ensures (lines_of-cut c.args.bytes.now c.line_end-end.result
+    (feed_place-from_run c.args.bytes.now c.line_end-end.result c.line_end-end.ensures) (omega arith))

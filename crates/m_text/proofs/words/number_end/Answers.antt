@@ -5,16 +5,19 @@ use Rattle.m_text.proofs.words.number_end.Goals as goal
 use Rattle.m_text.proofs.words.number_end.Goals.{else-whole-bytes-via-then-whole-bytes+else-bytes-whole-eq46, else-whole-bytes-via-else-whole-bytes}
 
 pub returns-then-whole-end-clause-number : goal.returns-then-whole-end-clause-number
-returns-then-whole-end-clause-number c = inr (decimal_between c.args.bytes.now c.args.from c.args.whole _ c.requires.some c.requires.digits c.if-whole-bytes.true c.if-bytes-whole-eq46.true c.if-whole-end.true c.digits_end-end.ensures)
+returns-then-whole-end-clause-number c = inr (decimal_between c.args.bytes.now c.args.from c.args.whole _ c.requires.some c.requires.digits
+    c.if-whole-bytes.true c.if-bytes-whole-eq46.true c.if-whole-end.true c.digits_end-end.ensures)
 
 pub returns-then-whole-end-clause-longest : goal.returns-then-whole-end-clause-longest
-returns-then-whole-end-clause-longest c = decimal_longest c.args.bytes.now c.args.from c.args.whole _ c.requires.some c.requires.digits c.if-whole-bytes.true c.if-bytes-whole-eq46.true c.if-whole-end.true c.digits_end-end.ensures
+returns-then-whole-end-clause-longest c = decimal_longest c.args.bytes.now c.args.from c.args.whole _ c.requires.some c.requires.digits c.if-whole-bytes.true
+    c.if-bytes-whole-eq46.true c.if-whole-end.true c.digits_end-end.ensures
 
 pub returns-else-whole-end-clause-number : goal.returns-else-whole-end-clause-number
 returns-else-whole-end-clause-number c = inl (digits_between c.args.bytes.now c.args.from c.args.whole c.requires.some c.requires.digits)
 
 pub returns-else-whole-end-clause-longest : goal.returns-else-whole-end-clause-longest
-returns-else-whole-end-clause-longest c = whole_longest c.args.bytes.now c.args.from c.args.whole c.requires.some c.requires.digits c.requires.apart (no_digit c.args.bytes.now c.args.whole c.if-whole-bytes.true no_more)
+returns-else-whole-end-clause-longest c = whole_longest c.args.bytes.now c.args.from c.args.whole c.requires.some c.requires.digits c.requires.apart
+    (no_digit c.args.bytes.now c.args.whole c.if-whole-bytes.true no_more)
   where
     at : c.digits_end-end.result ≡ c.args.whole + 1
     at = omega (arith, c.digits_end-end.ensures.onward)
@@ -26,7 +29,8 @@ pub returns-else-whole-bytes-clause-number : goal.returns-else-whole-bytes-claus
 returns-else-whole-bytes-clause-number c = inl (digits_between c.args.bytes.now c.args.from c.args.whole c.requires.some c.requires.digits)
 
 pub returns-else-whole-bytes-clause-longest : goal.returns-else-whole-bytes-clause-longest
-returns-else-whole-bytes-clause-longest c = whole_longest c.args.bytes.now c.args.from c.args.whole c.requires.some c.requires.digits c.requires.apart (no_point c.args.bytes.now c.args.whole (λ h e. elim c.else-whole-bytes.branch [
-  | else-whole-bytes-via-then-whole-bytes+else-bytes-whole-eq46 w ↦ w.if-bytes-whole-eq46.false e
-  | else-whole-bytes-via-else-whole-bytes w ↦ omega (arith, w.if-whole-bytes.false)
-]))
+returns-else-whole-bytes-clause-longest c = whole_longest c.args.bytes.now c.args.from c.args.whole c.requires.some c.requires.digits c.requires.apart
+    (no_point c.args.bytes.now c.args.whole (λ h e. elim c.else-whole-bytes.branch [
+      | else-whole-bytes-via-then-whole-bytes+else-bytes-whole-eq46 w ↦ w.if-bytes-whole-eq46.false e
+      | else-whole-bytes-via-else-whole-bytes w ↦ omega (arith, w.if-whole-bytes.false)
+    ]))

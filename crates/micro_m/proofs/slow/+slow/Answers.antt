@@ -15,7 +15,8 @@ slow_argument-slow_term-requires t c =
 pub slow_argument-returns-in-Some : goal.slow_argument-returns-in-Some
 slow_argument-returns-in-Some t c =
     let found = c.in-Some.ensures.lookup in
-    c.slow_term.ensures ∙ argument_values-at (value_in c.args.base.now (environment c.args.env.now) c.args.turns) c.args.arguments.now c.args.at c.in-Some.argument.now found.3.0 found.1
+    c.slow_term.ensures ∙ argument_values-at (value_in c.args.base.now (environment c.args.env.now) c.args.turns) c.args.arguments.now c.args.at
+    c.in-Some.argument.now found.3.0 found.1
 
 pub slow_argument-returns-in-None : goal.slow_argument-returns-in-None
 slow_argument-returns-in-None t c =

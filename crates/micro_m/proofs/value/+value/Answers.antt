@@ -17,8 +17,14 @@ argument_value-returns-in-None t c =
 
 pub term_value-applied-requires : goal.term_value-applied-requires
 term_value-applied-requires t c =
-    rw c.deref-in-Apply.ensures.value (omega (arith, terms_fall c.in-Apply.arguments.items, ap nodes c.term.view_is, ap (λ n. nodes (tree_of n)) c.in-Apply.is), tt)
+    rw c.deref-in-Apply.ensures.value (
+      omega (arith, terms_fall c.in-Apply.arguments.items, ap nodes c.term.view_is, ap (λ n. nodes (tree_of n)) c.in-Apply.is),
+      tt,
+    )
 
 pub term_value-folded-requires : goal.term_value-folded-requires
 term_value-folded-requires t c =
-    rw c.deref-in-Chain-2.ensures.value (omega (arith, sizes_fall c.in-Chain.steps.items, ap nodes c.term.view_is, ap (λ n. nodes (tree_of n)) c.in-Chain.is), tt)
+    rw c.deref-in-Chain-2.ensures.value (
+      omega (arith, sizes_fall c.in-Chain.steps.items, ap nodes c.term.view_is, ap (λ n. nodes (tree_of n)) c.in-Chain.is),
+      tt,
+    )

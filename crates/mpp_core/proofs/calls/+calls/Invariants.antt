@@ -11,4 +11,5 @@ abbrev pub decreases-add_calls : goal.decreases-add_calls
 decreases-add_calls l = 2 * nodes_of_block (block_of l.commands.now) + 1
 
 abbrev pub invariant-add_calls-loop-command : goal.invariant-add_calls-loop-command
-invariant-add_calls-loop-command l = l.steps.items ++ block_steps (block_of (drop l.command-index l.commands)) ≡ l.initial.steps.items ++ block_steps (block_of l.commands)
+invariant-add_calls-loop-command l = l.steps.items ++ block_steps (block_of (drop l.command-index l.commands)) ≡ l.initial.steps.items
+    ++ block_steps (block_of l.commands)

@@ -17,4 +17,5 @@ abbrev pub decreases-commands : goal.decreases-commands
 decreases-commands l = 3 * nodes_of_acts (acts_of l.all.now) + 1
 
 abbrev pub invariant-commands-loop-one : goal.invariant-commands-loop-one
-invariant-commands-loop-one l = resolved_acts l.scope l.names l.stated.items (acts_of (drop l.one-index l.all)) ≡ resolved_acts l.scope l.names [] (acts_of l.all)
+invariant-commands-loop-one l = resolved_acts l.scope l.names l.stated.items (acts_of (drop l.one-index l.all)) ≡ resolved_acts l.scope l.names []
+    (acts_of l.all)

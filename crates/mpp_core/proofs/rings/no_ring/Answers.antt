@@ -16,7 +16,8 @@ returns c = λ n.
     let shown = rw c.in-Err-Cycle.field-0-is at (c.in-Err-Cycle.ensures.outcome (rw c.in-Err-Cycle.field-0-is (λ e. absurd (cc)))) in
     subst (IsRecursion c.args.core.now) (sym (c.recursion.ensures n)) (record {
       functions = c.in-Err-Cycle.ring;
-      ring = is_ring c.args.core.now c.in-Err-Cycle.ring (subst (λ base. IsCycle base c.in-Err-Cycle.ring) (c.in_ok-base.ensures ∙ ap calls_base c.as_slice.ensures) shown.0);
+      ring = is_ring c.args.core.now c.in-Err-Cycle.ring (subst (λ base. IsCycle base c.in-Err-Cycle.ring) (c.in_ok-base.ensures
+          ∙ ap calls_base c.as_slice.ensures) shown.0);
       first = shown.1;
       shown = rw c.as_slice-in-Err-Cycle.ensures (rw c.as_slice-in-Err-Cycle-2.ensures (cc));
     })

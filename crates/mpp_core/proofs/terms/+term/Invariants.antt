@@ -17,7 +17,9 @@ abbrev pub decreases-chained : goal.decreases-chained
 decreases-chained l = 3 * (term_nodes l.first.now + nodes_of_links (links_of l.links.now)) + 1
 
 abbrev pub invariant-terms-loop-one : goal.invariant-terms-loop-one
-invariant-terms-loop-one l = resolved_terms l.scope l.line l.stated.items (terms_of (drop l.one-index l.all)) ≡ resolved_terms l.scope l.line [] (terms_of l.all)
+invariant-terms-loop-one l = resolved_terms l.scope l.line l.stated.items (terms_of (drop l.one-index l.all)) ≡ resolved_terms l.scope l.line []
+    (terms_of l.all)
 
 abbrev pub invariant-chained-loop-link : goal.invariant-chained-loop-link
-invariant-chained-loop-link l = resolved_links l.scope l.line l.steps.items (links_of (drop l.link-index l.links)) ≡ resolved_links l.scope l.line [] (links_of l.links)
+invariant-chained-loop-link l = resolved_links l.scope l.line l.steps.items (links_of (drop l.link-index l.links)) ≡ resolved_links l.scope l.line []
+    (links_of l.links)

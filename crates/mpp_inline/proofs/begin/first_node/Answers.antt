@@ -17,9 +17,12 @@ returns-in-Input-clause-step c =
     let next = c.args.next in
     let word = c.args.item.now.value_word in
     let is = c.in-Input.is in
-    IfOk-weaker _ (λ k. Sane b → HasInput b.inputs next c.kind_of.result → Gives b d (λ inputs. typed_value c.kind_of.result (slice_index_or inputs next Undef)) k) _
-    (λ k step s. subst (λ r. InputIsThere b.inputs next (type_declared word) r → Gives b d (λ inputs. cond (is_input r) (typed_value (type_declared word) (slice_index_or inputs next Undef)) (first_value inputs next r)) k) (sym is)
-    (λ low. subst (λ kind. Gives b d (λ inputs. typed_value kind (slice_index_or inputs next Undef)) k) c.kind_of.ensures (step s (subst (HasInput b.inputs next) (sym c.kind_of.ensures) low))))
+    IfOk-weaker _ (λ k. Sane b → HasInput b.inputs next c.kind_of.result → Gives b d (λ inputs. typed_value c.kind_of.result (slice_index_or inputs next Undef))
+    k) _
+    (λ k step s. subst (λ r. InputIsThere b.inputs next (type_declared word) r
+    → Gives b d (λ inputs. cond (is_input r) (typed_value (type_declared word) (slice_index_or inputs next Undef)) (first_value inputs next r)) k) (sym is)
+    (λ low. subst (λ kind. Gives b d (λ inputs. typed_value kind (slice_index_or inputs next Undef)) k) c.kind_of.ensures
+    (step s (subst (HasInput b.inputs next) (sym c.kind_of.ensures) low))))
     c.input_node.ensures.step
 
 pub returns-in-Constant-clause-step : goal.returns-in-Constant-clause-step
@@ -29,5 +32,6 @@ returns-in-Constant-clause-step c =
     let next = c.args.next in
     let word = c.args.item.now.value_word in
     IfOk-weaker _ (λ k. Pushed b d (Lit (Num c.in-Constant.amount)) k) _
-    (λ k p s h. subst (λ r. Gives b d (λ inputs. cond (is_input r) (typed_value (type_declared word) (slice_index_or inputs next Undef)) (first_value inputs next r)) k) (sym c.in-Constant.is) (gives-lit (Num c.in-Constant.amount) p s))
+    (λ k p s h. subst (λ r. Gives b d (λ inputs. cond (is_input r) (typed_value (type_declared word) (slice_index_or inputs next Undef))
+    (first_value inputs next r)) k) (sym c.in-Constant.is) (gives-lit (Num c.in-Constant.amount) p s))
     c.push.ensures

@@ -10,12 +10,14 @@ use Rattle.mpp_inline.proofs.begin.input_node.Goals as goal
 
 pub returns-in-Any-clause-step : goal.returns-in-Any-clause-step
 returns-in-Any-clause-step c = λ s low.
-    subst (λ kind. Gives c.args.b.now c.push.new.self (λ inputs. typed_value kind (slice_index_or inputs c.args.next Undef)) c.in_ok-input.input) (sym c.in-Any.is)
+    subst (λ kind. Gives c.args.b.now c.push.new.self (λ inputs. typed_value kind (slice_index_or inputs c.args.next Undef)) c.in_ok-input.input)
+    (sym c.in-Any.is)
     (input-gives c.in_ok-input.ensures low (λ e. any-truth (sym c.in-Any.is ∙ e)) s)
 
 pub returns-in-Whole-clause-step : goal.returns-in-Whole-clause-step
 returns-in-Whole-clause-step c = λ s low.
-    subst (λ kind. Gives c.args.b.now c.push.new.self (λ inputs. typed_value kind (slice_index_or inputs c.args.next Undef)) c.in_ok-input.input) (sym c.in-Whole.is)
+    subst (λ kind. Gives c.args.b.now c.push.new.self (λ inputs. typed_value kind (slice_index_or inputs c.args.next Undef)) c.in_ok-input.input)
+    (sym c.in-Whole.is)
     (input-gives c.in_ok-input.ensures low (λ e. whole-truth (sym c.in-Whole.is ∙ e)) s)
 
 pub returns-in-Truth-clause-step : goal.returns-in-Truth-clause-step

@@ -25,11 +25,14 @@ returns-in_ok-push-in-Some-clause-step c =
     let ws' = c.begin_command.new.left.items in
     let a = c.in-Some.first.now in
     IfOk-weaker c.begin_command.result
-    (λ (k : ℕ). Standing whole b e g c.push.new.self.items → Moves whole b d c.begin_command.new.env k c.push.new.self.items ws' (λ inputs. ahead whole b inputs e g depth a))
+    (λ (k : ℕ). Standing whole b e g c.push.new.self.items
+    → Moves whole b d c.begin_command.new.env k c.push.new.self.items ws' (λ inputs. ahead whole b inputs e g depth a))
     (λ (k : ℕ). Standing whole b e g ws → Moves whole b d c.begin_command.new.env k ws ws' (λ inputs. block_ahead whole b inputs e g depth c.args.block.now))
-    (λ (k : ℕ) (m : Standing whole b e g c.push.new.self.items → Moves whole b d c.begin_command.new.env k c.push.new.self.items ws' (λ inputs. ahead whole b inputs e g depth a)).
+    (λ (k : ℕ) (m : Standing whole b e g c.push.new.self.items
+    → Moves whole b d c.begin_command.new.env k c.push.new.self.items ws' (λ inputs. ahead whole b inputs e g depth a)).
     λ (s : Standing whole b e g ws). first-moves depth a c.args.block.now c.in-Some.rest c.in-Some.ensures.cases.0 s
-    (subst (λ l. Standing whole b e g l → Moves whole b d c.begin_command.new.env k l ws' (λ inputs. ahead whole b inputs e g depth a)) c.in_ok-push-in-Some.ensures.items m))
+    (subst (λ l. Standing whole b e g l → Moves whole b d c.begin_command.new.env k l ws' (λ inputs. ahead whole b inputs e g depth a))
+    c.in_ok-push-in-Some.ensures.items m))
     c.begin_command.ensures.step
 
 pub returns-in-None-clause-step : goal.returns-in-None-clause-step
@@ -52,9 +55,18 @@ returns-in_ok-push-in-Some-clause-size c =
     let ws = c.args.left.now.items in
     let is : c.args.block.now ≡ c.in-Some.first.now ∷ c.in-Some.rest.now = c.in-Some.ensures.cases.0 in
     on_ok_weaker c.begin_command.result
-    (λ (m : load c.begin_command.new.b + 6 * left_weight whole c.begin_command.new.left.items ≤ load c.args.b.now + 6 * (left_weight whole c.push.new.self.items + action_size whole depth c.in-Some.first.now)).
-    let goal' : load c.begin_command.new.b + 6 * left_weight whole c.begin_command.new.left.items ≤ load c.args.b.now + 6 * (left_weight whole ws + block_size whole depth (block_of c.args.block.now)) =
-    omega (arith, m, ap (left_weight whole) c.in_ok-push-in-Some.ensures.items, weight-last whole ws (Run depth c.in-Some.rest), ap (λ l. block_size whole depth (block_of l)) is) in goal')
+    (λ (m : load c.begin_command.new.b + 6 * left_weight whole c.begin_command.new.left.items ≤ load c.args.b.now + 6 *
+    (left_weight whole c.push.new.self.items + action_size whole depth c.in-Some.first.now)).
+    let goal' : load c.begin_command.new.b + 6 * left_weight whole c.begin_command.new.left.items ≤ load c.args.b.now + 6 *
+    (left_weight whole ws + block_size whole depth (block_of c.args.block.now)) =
+    omega (
+      arith,
+      m,
+      ap (left_weight whole) c.in_ok-push-in-Some.ensures.items,
+      weight-last whole ws (Run depth c.in-Some.rest),
+      ap
+          (λ l. block_size whole depth (block_of l)) is,
+    ) in goal')
     c.begin_command.ensures.size
 
 pub returns-in_ok-push-in-Some-clause-turns : goal.returns-in_ok-push-in-Some-clause-turns
@@ -66,8 +78,19 @@ returns-in_ok-push-in-Some-clause-turns c =
     on_ok_weaker c.begin_command.result
     (λ (m : left_turns whole c.begin_command.new.left.items ≤ left_turns whole c.push.new.self.items + action_turns whole depth c.in-Some.first.now).
     let goal' : left_turns whole c.begin_command.new.left.items < left_turns whole ws + block_turns whole depth (block_of c.args.block.now) =
-    omega (arith, m, ap (left_turns whole) c.in_ok-push-in-Some.ensures.items, turns-last whole ws (Run depth c.in-Some.rest), ap (λ l. block_turns whole depth (block_of l)) is) in goal')
+    omega (
+      arith,
+      m,
+      ap (left_turns whole) c.in_ok-push-in-Some.ensures.items,
+      turns-last whole ws (Run depth c.in-Some.rest),
+      ap
+          (λ l. block_turns whole depth (block_of l)) is,
+    ) in goal')
     c.begin_command.ensures.turns
 
 pub returns-in-None-clause-turns : goal.returns-in-None-clause-turns
-returns-in-None-clause-turns c = omega (arith, block-some (whole_of c.args.driver.now.core.now c.args.driver.now.ordered.now) c.args.frame.depth (block_of c.args.block.now))
+returns-in-None-clause-turns c = omega (
+  arith,
+  block-some (whole_of c.args.driver.now.core.now c.args.driver.now.ordered.now) c.args.frame.depth
+      (block_of c.args.block.now),
+)

@@ -15,12 +15,16 @@ returns-clause-step c =
     let ws = c.args.left.now.items in
     let deep = c.saturating_sub.result in
     let last = Run deep c.body_at-body.result in
-    let items : c.push-2.new.self.items ≡ (ws ++ Return c.args.cells c.in_ok-outer.outer ∷ []) ++ last ∷ [] = c.in_ok-push-2.ensures.items ∙ ap (λ l. l ++ last ∷ []) c.in_ok-push.ensures.items in
+    let items : c.push-2.new.self.items ≡ (ws ++ Return c.args.cells c.in_ok-outer.outer ∷ []) ++ last ∷ [] = c.in_ok-push-2.ensures.items
+    ∙ ap (λ l. l ++ last ∷ []) c.in_ok-push.ensures.items in
     λ line names ordered b g s.
     let whole = whole_of core ordered in
-    let body : does whole deep c.body_at-body.result.now ≡ calls core ordered.base ordered.sequence c.args.depth c.args.function = ap (λ n. does whole n c.body_at-body.result.now) c.saturating_sub.ensures ∙ c.body_at-body.ensures.means ordered in
-    subst (λ l. Moves whole b b c.args.env.now g ws l (λ inputs. ahead whole b inputs c.args.env.now g c.args.depth (call line names c.args.cells.now c.args.function))) (sym items)
-    (call-moves c.args.depth line names deep c.args.function c.args.cells c.in_ok-outer.outer c.body_at-body.result (c.in_ok-outer.ensures.items_if_clones_equal (λ x y p. p)) body s)
+    let body : does whole deep c.body_at-body.result.now ≡ calls core ordered.base ordered.sequence c.args.depth c.args.function = ap
+    (λ n. does whole n c.body_at-body.result.now) c.saturating_sub.ensures ∙ c.body_at-body.ensures.means ordered in
+    subst (λ l. Moves whole b b c.args.env.now g ws l
+    (λ inputs. ahead whole b inputs c.args.env.now g c.args.depth (call line names c.args.cells.now c.args.function))) (sym items)
+    (call-moves c.args.depth line names deep c.args.function c.args.cells c.in_ok-outer.outer c.body_at-body.result
+    (c.in_ok-outer.ensures.items_if_clones_equal (λ x y p. p)) body s)
 
 pub returns-clause-size : goal.returns-clause-size
 returns-clause-size c =
@@ -31,7 +35,15 @@ returns-clause-size c =
     let items : c.push-2.new.self.items ≡ (ws ++ w ∷ []) ++ last ∷ [] = c.in_ok-push-2.ensures.items ∙ ap (λ l. l ++ last ∷ []) c.in_ok-push.ensures.items in
     λ ordered.
     let whole = whole_of core ordered in
-    omega (arith, ap (left_weight whole) items, weight-last whole (ws ++ w ∷ []) last, weight-last whole ws w, ap (λ n. block_size whole n (block_of c.body_at-body.result.now)) c.saturating_sub.ensures, c.body_at-body.ensures.weight ordered)
+    omega (
+      arith,
+      ap (left_weight whole) items,
+      weight-last whole (ws ++ w ∷ []) last,
+      weight-last whole ws w,
+      ap
+          (λ n. block_size whole n (block_of c.body_at-body.result.now)) c.saturating_sub.ensures,
+      c.body_at-body.ensures.weight ordered,
+    )
 
 pub returns-clause-turns : goal.returns-clause-turns
 returns-clause-turns c =
@@ -42,4 +54,12 @@ returns-clause-turns c =
     let items : c.push-2.new.self.items ≡ (ws ++ w ∷ []) ++ last ∷ [] = c.in_ok-push-2.ensures.items ∙ ap (λ l. l ++ last ∷ []) c.in_ok-push.ensures.items in
     λ ordered.
     let whole = whole_of core ordered in
-    omega (arith, ap (left_turns whole) items, turns-last whole (ws ++ w ∷ []) last, turns-last whole ws w, ap (λ n. block_turns whole n (block_of c.body_at-body.result.now)) c.saturating_sub.ensures, c.body_at-body.ensures.turns ordered)
+    omega (
+      arith,
+      ap (left_turns whole) items,
+      turns-last whole (ws ++ w ∷ []) last,
+      turns-last whole ws w,
+      ap
+          (λ n. block_turns whole n (block_of c.body_at-body.result.now)) c.saturating_sub.ensures,
+      c.body_at-body.ensures.turns ordered,
+    )

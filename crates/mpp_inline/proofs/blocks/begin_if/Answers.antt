@@ -16,12 +16,16 @@ returns-clause-step c =
     let g = c.args.frame.guard in
     let ws = c.args.left.now.items in
     let r = c.in_ok-branches.branches in
-    let items : c.push-4.new.self.items ≡ (((ws ++ Under g ∷ []) ++ Run c.args.frame.depth c.args.choice.now.second ∷ []) ++ Under r.second ∷ []) ++ Run c.args.frame.depth c.args.choice.now.first ∷ [] =
+    let items : c.push-4.new.self.items ≡ (((ws ++ Under g ∷ []) ++ Run c.args.frame.depth c.args.choice.now.second ∷ []) ++ Under r.second ∷ [])
+    ++ Run c.args.frame.depth c.args.choice.now.first ∷ [] =
     c.in_ok-push-4.ensures.items
     ∙ ap (λ l. l ++ Run c.args.frame.depth c.args.choice.now.first ∷ []) (c.in_ok-push-3.ensures.items
     ∙ ap (λ l. l ++ Under r.second ∷ []) (c.in_ok-push-2.ensures.items
     ∙ ap (λ l. l ++ Run c.args.frame.depth c.args.choice.now.second ∷ []) c.in_ok-push.ensures.items)) in
-    λ whole s. subst (λ l. Moves whole b d e r.first ws l (λ inputs. ahead whole b inputs e g c.args.frame.depth (branch c.args.choice.now.line c.args.choice.now.condition.now (block_of c.args.choice.now.first.now) (block_of c.args.choice.now.second.now)))) (sym items)
+    λ whole s. subst (λ l. Moves whole b d e r.first ws l
+    (λ inputs. ahead whole b inputs e g c.args.frame.depth
+    (branch c.args.choice.now.line c.args.choice.now.condition.now (block_of c.args.choice.now.first.now) (block_of c.args.choice.now.second.now))))
+    (sym items)
     (if-moves c.args.choice.now.condition.now c.args.frame.depth c.args.choice.now.first c.args.choice.now.second c.in_ok-branches.ensures.step s)
 
 pub returns-clause-size : goal.returns-clause-size

@@ -11,5 +11,6 @@ returns-clause-step c =
     let e = c.args.env.now in
     let ws = c.args.left.now.items in
     subst (λ xs. OnOk c.begin_partition.result ((whole : Whole) (b : Builder) (guard : ℕ) → Standing whole b e guard ws
-    → Moves whole b b c.begin_partition.new.env guard ws c.begin_partition.new.left.items (λ inputs. ahead whole b inputs e guard c.args.depth (partition c.args.line xs (block_of c.args.block.now)))))
+    → Moves whole b b c.begin_partition.new.env guard ws c.begin_partition.new.left.items
+    (λ inputs. ahead whole b inputs e guard c.args.depth (partition c.args.line xs (block_of c.args.block.now)))))
     (c.deref.ensures.value ∙ c.in_ok-cells.ensures) c.begin_partition.ensures.step

@@ -15,8 +15,10 @@ returns-clause-step c =
     let w = Restore c.in_ok-before.before in
     let last = Run c.args.depth c.args.block in
     let items : c.push-2.new.self.items ≡ (ws ++ w ∷ []) ++ last ∷ [] = c.in_ok-push-2.ensures.items ∙ ap (λ l. l ++ last ∷ []) c.in_ok-push.ensures.items in
-    λ whole b g s. subst (λ l. Moves whole b b c.blank.new.env g ws l (λ inputs. ahead whole b inputs e g c.args.depth (partition c.args.line c.args.cells.now (block_of c.args.block.now)))) (sym items)
-    (subst (λ x. Moves whole b b x g ws ((ws ++ w ∷ []) ++ last ∷ []) (λ inputs. ahead whole b inputs e g c.args.depth (partition c.args.line c.args.cells.now (block_of c.args.block.now)))) (sym c.blank.ensures)
+    λ whole b g s. subst (λ l. Moves whole b b c.blank.new.env g ws l
+    (λ inputs. ahead whole b inputs e g c.args.depth (partition c.args.line c.args.cells.now (block_of c.args.block.now)))) (sym items)
+    (subst (λ x. Moves whole b b x g ws ((ws ++ w ∷ []) ++ last ∷ [])
+    (λ inputs. ahead whole b inputs e g c.args.depth (partition c.args.line c.args.cells.now (block_of c.args.block.now)))) (sym c.blank.ensures)
     (part-moves c.args.depth c.args.line c.in_ok-before.before c.args.cells.now c.args.block c.in_ok-before.ensures s))
 
 pub returns-clause-size : goal.returns-clause-size

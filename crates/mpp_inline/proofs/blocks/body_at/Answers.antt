@@ -14,7 +14,8 @@ returns-in-Some-clause-means c =
     let core = c.args.core.now in
     let l = c.in-Some.ensures.lookup in
     λ ordered.
-    let found : slice_get core.bodies c.args.function ≡ Some c.in-Some.found.now = found-at core.bodies _ c.args.function c.in-Some.found.now c.as_slice.ensures l.3.0 l.1 in
+    let found : slice_get core.bodies c.args.function ≡ Some c.in-Some.found.now = found-at core.bodies _ c.args.function c.in-Some.found.now c.as_slice.ensures
+    l.3.0 l.1 in
     ap (λ x. means core ordered.base ordered.sequence (c.args.depth - 1) (block_of x)) c.as_slice-in-Some.ensures
     ∙ ap (λ o. means core ordered.base ordered.sequence (c.args.depth - 1) (block_or_none o)) (sym found)
     ∙ called-body core ordered.base ordered.sequence c.args.depth c.args.function c.if-depth-eq0.false
@@ -32,7 +33,8 @@ returns-in-Some-clause-weight c =
     let core = c.args.core.now in
     let l = c.in-Some.ensures.lookup in
     λ ordered.
-    let found : slice_get core.bodies c.args.function ≡ Some c.in-Some.found.now = found-at core.bodies _ c.args.function c.in-Some.found.now c.as_slice.ensures l.3.0 l.1 in
+    let found : slice_get core.bodies c.args.function ≡ Some c.in-Some.found.now = found-at core.bodies _ c.args.function c.in-Some.found.now c.as_slice.ensures
+    l.3.0 l.1 in
     ap (λ x. block_size (whole_of core ordered) (c.args.depth - 1) (block_of x)) c.as_slice-in-Some.ensures
     ∙ ap (λ o. block_size (whole_of core ordered) (c.args.depth - 1) (block_or_none o)) (sym found)
     ∙ body-less (whole_of core ordered) c.args.depth c.args.function c.if-depth-eq0.false
@@ -50,7 +52,8 @@ returns-in-Some-clause-turns c =
     let core = c.args.core.now in
     let l = c.in-Some.ensures.lookup in
     λ ordered.
-    let found : slice_get core.bodies c.args.function ≡ Some c.in-Some.found.now = found-at core.bodies _ c.args.function c.in-Some.found.now c.as_slice.ensures l.3.0 l.1 in
+    let found : slice_get core.bodies c.args.function ≡ Some c.in-Some.found.now = found-at core.bodies _ c.args.function c.in-Some.found.now c.as_slice.ensures
+    l.3.0 l.1 in
     ap (λ x. block_turns (whole_of core ordered) (c.args.depth - 1) (block_of x)) c.as_slice-in-Some.ensures
     ∙ ap (λ o. block_turns (whole_of core ordered) (c.args.depth - 1) (block_or_none o)) (sym found)
     ∙ body-turns (whole_of core ordered) c.args.depth c.args.function c.if-depth-eq0.false

@@ -44,9 +44,17 @@ loop-work-preserved c =
     let next = called (rules_in_turn ordered.base ordered.sequence) core.bodies (length core.bodies + 1) core.main in
     record {
       step = λ r. moves-then c.pop.new.self.items c.in-Some.work
-          (subst (λ l. Moves whole b c.loop-work.b c.loop-work.env.items c.loop-work.guard [] l (main-point b e next)) c.in-Some.ensures.items (c.loop-work.invariant.step r))
+          (subst (λ l. Moves whole b c.loop-work.b c.loop-work.env.items c.loop-work.guard [] l (main-point b e next)) c.in-Some.ensures.items
+          (c.loop-work.invariant.step r))
           c.in_ok-guard.ensures.step;
-      size = omega (arith, c.loop-work.invariant.size, c.in_ok-guard.ensures.size, ap (left_weight whole) c.in-Some.ensures.items, weight-last whole c.pop.new.self.items c.in-Some.work);
+      size = omega (
+        arith,
+        c.loop-work.invariant.size,
+        c.in_ok-guard.ensures.size,
+        ap (left_weight whole) c.in-Some.ensures.items,
+        weight-last whole
+            c.pop.new.self.items c.in-Some.work,
+      );
     }
 
 pub advance-requires : goal.advance-requires
@@ -55,7 +63,14 @@ advance-requires c =
     record {
       valid = c.requires.valid;
       order = c.requires.order;
-      room = omega (arith, c.requires.room, c.loop-work.invariant.size, ap (left_weight whole) c.in-Some.ensures.items, weight-last whole c.pop.new.self.items c.in-Some.work);
+      room = omega (
+        arith,
+        c.requires.room,
+        c.loop-work.invariant.size,
+        ap (left_weight whole) c.in-Some.ensures.items,
+        weight-last whole c.pop.new.self.items
+            c.in-Some.work,
+      );
     }
 
 pub loop-work-smaller : goal.loop-work-smaller

@@ -11,7 +11,8 @@ abbrev pub invariant-loop-work : goal.invariant-loop-work
 invariant-loop-work l = record {
   step : Ready l.ordered.base.labels l.initial.b l.initial.env.items 2
       → Moves (whole_of l.core l.ordered) l.initial.b l.b l.env.items l.guard [] l.left.items
-      (main-point l.initial.b l.initial.env.items (called (rules_in_turn l.ordered.base l.ordered.sequence) l.core.bodies (length l.core.bodies + 1) l.core.main));
+      (main-point l.initial.b l.initial.env.items (called (rules_in_turn l.ordered.base l.ordered.sequence) l.core.bodies (length l.core.bodies + 1)
+      l.core.main));
   size : load l.b + 6 * left_weight (whole_of l.core l.ordered) l.left.items ≤ load l.initial.b + 6 * weight_of l.core l.ordered.base;
 }
 

@@ -6,8 +6,26 @@ use Rattle.mpp_inline.proofs.copies.+copied.Goals as goal
 
 pub copied-copied_terms-requires : goal.copied-copied_terms-requires
 copied-copied_terms-requires t c =
-    rw c.deref.ensures.value (omega (arith, terms-fall c.in-Apply.arguments.items, ap formula_nodes c.term.view_is, ap (λ n. formula_nodes (formula_of n)) c.in-Apply.is), tt)
+    rw c.deref.ensures.value (
+      omega (
+        arith,
+        terms-fall c.in-Apply.arguments.items,
+        ap formula_nodes c.term.view_is,
+        ap (λ n. formula_nodes (formula_of n))
+            c.in-Apply.is,
+      ),
+      tt,
+    )
 
 pub copied-copied_steps-requires : goal.copied-copied_steps-requires
 copied-copied_steps-requires t c =
-    rw c.deref-in-Chain-2.ensures.value (omega (arith, sizes-fall c.in-Chain.steps.items, ap formula_nodes c.term.view_is, ap (λ n. formula_nodes (formula_of n)) c.in-Chain.is), tt)
+    rw c.deref-in-Chain-2.ensures.value (
+      omega (
+        arith,
+        sizes-fall c.in-Chain.steps.items,
+        ap formula_nodes c.term.view_is,
+        ap
+            (λ n. formula_nodes (formula_of n)) c.in-Chain.is,
+      ),
+      tt,
+    )

@@ -19,7 +19,8 @@ use Rattle.mpp_inline.proofs.formulas.+formulas.Goals as goal
 pub emit_applied-returns-clause-step : goal.emit_applied-returns-clause-step
 emit_applied-returns-clause-step t c =
     IfOk-weaker _ (λ k. Pushed c.emit_argument-3.new.b c.push.new.self _ k) _
-    (λ k p s kn. applied-step c.args.op (λ e. formula_values e (formulas_of c.args.arguments.now)) c.in_ok-first.ensures.step c.in_ok-second.ensures.step c.in_ok-third.ensures.step p s kn)
+    (λ k p s kn. applied-step c.args.op (λ e. formula_values e (formulas_of c.args.arguments.now)) c.in_ok-first.ensures.step c.in_ok-second.ensures.step
+    c.in_ok-third.ensures.step p s kn)
     c.push.ensures
 
 pub emit_argument-returns-in-Some-clause-step : goal.emit_argument-returns-in-Some-clause-step
@@ -28,27 +29,56 @@ emit_argument-returns-in-Some-clause-step t c =
     let b = c.args.b.now in
     let e = c.args.env.now in
     IfOk-weaker _ (λ k. Sane b → Known b e → TermStep b c.emit_formula.new.b e (λ x. formula_value x c.in-Some.argument.now) k) _
-    (λ k f s kn. gives-same (λ inputs. formula_values-at (environment (denoted b inputs e)) c.args.arguments.now c.args.place c.in-Some.argument.now found.3.0 found.1) (f s kn))
+    (λ k f s kn. gives-same (λ inputs. formula_values-at (environment (denoted b inputs e)) c.args.arguments.now c.args.place c.in-Some.argument.now found.3.0
+    found.1) (f s kn))
     c.emit_formula.ensures.step
 
 pub emit_argument-returns-in-None-clause-step : goal.emit_argument-returns-in-None-clause-step
 emit_argument-returns-in-None-clause-step t c =
-    λ s kn. undef-step _ (λ inputs. formula_values-past (environment (denoted c.args.b.now inputs c.args.env.now)) c.args.arguments.now c.args.place c.in-None.ensures.lookup.3) s
+    λ s kn. undef-step _ (λ inputs. formula_values-past (environment (denoted c.args.b.now inputs c.args.env.now)) c.args.arguments.now c.args.place
+    c.in-None.ensures.lookup.3) s
 
 pub emit_formula-emit_applied-requires : goal.emit_formula-emit_applied-requires
 emit_formula-emit_applied-requires t c =
-    rw c.deref.ensures.value (omega (arith, terms-fall c.in-Apply.arguments.items, ap formula_nodes c.term.view_is, ap (λ n. formula_nodes (formula_of n)) c.in-Apply.is), omega (arith, c.requires, ap formula_weight c.term.view_is, ap (λ n. formula_weight (formula_of n)) c.in-Apply.is))
+    rw c.deref.ensures.value (
+      omega (
+        arith,
+        terms-fall c.in-Apply.arguments.items,
+        ap formula_nodes c.term.view_is,
+        ap (λ n. formula_nodes (formula_of n))
+            c.in-Apply.is,
+      ),
+      omega (arith, c.requires, ap formula_weight c.term.view_is, ap (λ n. formula_weight (formula_of n)) c.in-Apply.is),
+    )
 
 pub emit_formula-emit_steps-requires : goal.emit_formula-emit_steps-requires
 emit_formula-emit_steps-requires t c =
-    rw c.deref-in-Chain-2.ensures.value (omega (arith, sizes-fall c.in-Chain.steps.items, ap formula_nodes c.term.view_is, ap (λ n. formula_nodes (formula_of n)) c.in-Chain.is), omega (arith, c.requires, c.in_ok-so_far-in-Chain.ensures.size, ap formula_weight c.deref-in-Chain.ensures, ap formula_weight c.term.view_is, ap (λ n. formula_weight (formula_of n)) c.in-Chain.is))
+    rw c.deref-in-Chain-2.ensures.value (
+      omega (
+        arith,
+        sizes-fall c.in-Chain.steps.items,
+        ap formula_nodes c.term.view_is,
+        ap
+            (λ n. formula_nodes (formula_of n)) c.in-Chain.is,
+      ),
+      omega (
+        arith,
+        c.requires,
+        c.in_ok-so_far-in-Chain.ensures.size,
+        ap formula_weight
+            c.deref-in-Chain.ensures,
+        ap formula_weight c.term.view_is,
+        ap (λ n. formula_weight (formula_of n)) c.in-Chain.is,
+      ),
+    )
 
 pub emit_formula-returns-in-Lit-clause-step : goal.emit_formula-returns-in-Lit-clause-step
 emit_formula-returns-in-Lit-clause-step t c =
     let b = c.args.b.now in
     let e = c.args.env.now in
     IfOk-weaker _ (λ k. Pushed b c.push.new.self (Lit c.in-Lit.value) k) _
-    (λ k p s kn. subst (λ f. TermStep b c.push.new.self e (λ x. formula_value x f) k) (sym (ap formula_of c.in-Lit.is) ∙ c.term.view_is) (gives-lit c.in-Lit.value p s))
+    (λ k p s kn. subst (λ f. TermStep b c.push.new.self e (λ x. formula_value x f) k) (sym (ap formula_of c.in-Lit.is) ∙ c.term.view_is)
+    (gives-lit c.in-Lit.value p s))
     c.push.ensures
 
 pub emit_formula-returns-in_ok-so_far-in-Chain-clause-step : goal.emit_formula-returns-in_ok-so_far-in-Chain-clause-step
@@ -59,13 +89,18 @@ emit_formula-returns-in_ok-so_far-in-Chain-clause-step t c =
     let x = c.in_ok-so_far-in-Chain.so_far in
     let steps = c.deref-in-Chain-2.result.now in
     let is = (λ i. chain (c.deref-in-Chain.ensures i) (steps_of (c.deref-in-Chain-2.ensures.value i))) ∙ sym (ap formula_of c.in-Chain.is) ∙ c.term.view_is in
-    IfOk-weaker c.emit_steps.result (λ k. Sane d → Known d e → IsUsable d x → Gives d c.emit_steps.new.b (λ inputs. steps_value (environment (denoted d inputs e)) (at d inputs x) (steps_of steps)) k) _
+    IfOk-weaker c.emit_steps.result (λ k. Sane d → Known d e → IsUsable d x
+    → Gives d c.emit_steps.new.b (λ inputs. steps_value (environment (denoted d inputs e)) (at d inputs x) (steps_of steps)) k) _
     (λ k f s kn. subst (λ g. TermStep b c.emit_steps.new.b e (λ y. formula_value y g) k) is
     (chain-step (λ y. formula_value y c.deref-in-Chain.result.now) (λ y v. steps_value y v (steps_of steps)) c.in_ok-so_far-in-Chain.ensures.step f s kn))
     c.emit_steps.ensures.step
 
 pub emit_steps-loop-step-init : goal.emit_steps-loop-step-init
-emit_steps-loop-step-init t c = record { size = omega arith; step = λ s kn h. fold-first (λ inputs v. steps_value (environment (denoted c.args.b.now inputs c.args.env.now)) v (steps_of c.args.steps.now)) c.args.so_far s h }
+emit_steps-loop-step-init t c = record {
+  size = omega arith;
+  step = λ s kn h. fold-first
+      (λ inputs v. steps_value (environment (denoted c.args.b.now inputs c.args.env.now)) v (steps_of c.args.steps.now)) c.args.so_far s h;
+}
 
 pub emit_steps-loop-step-preserved : goal.emit_steps-loop-step-preserved
 emit_steps-loop-step-preserved t c =
@@ -76,9 +111,18 @@ emit_steps-loop-step-preserved t c =
     let d = c.step-item.result in
     let next : drop i all ≡ d ∷ drop (i + 1) all = drop_next all i d c.loop-step-test.true c.step-item.is in
     record {
-      size = omega (arith, c.loop-step.invariant.size, ap (λ l. steps_weight (steps_of l)) next, c.in_ok-operand.ensures.size, pushed-load c.in_ok-number.ensures);
+      size = omega (
+        arith,
+        c.loop-step.invariant.size,
+        ap (λ l. steps_weight (steps_of l)) next,
+        c.in_ok-operand.ensures.size,
+        pushed-load
+            c.in_ok-number.ensures,
+      );
       step = λ s kn h. fold-next (λ y. formula_value y d.term) (λ inputs v. steps_value (environment (denoted b inputs e)) v (steps_of (drop (i + 1) all)))
-          (subst (λ l. Along b c.loop-step.b (λ inputs v. steps_value (environment (denoted b inputs e)) v (steps_of l)) (λ inputs. steps_value (environment (denoted b inputs e)) (at b inputs c.args.so_far) (steps_of all)) c.loop-step.number) next (c.loop-step.invariant.step s kn h))
+          (subst (λ l. Along b c.loop-step.b (λ inputs v. steps_value (environment (denoted b inputs e)) v (steps_of l))
+          (λ inputs. steps_value (environment (denoted b inputs e)) (at b inputs c.args.so_far) (steps_of all)) c.loop-step.number) next
+          (c.loop-step.invariant.step s kn h))
           c.in_ok-operand.ensures.step c.in_ok-number.ensures kn;
     }
 
@@ -89,7 +133,9 @@ emit_steps-returns t c =
     let all = c.args.steps.now in
     record {
       size = omega (arith, c.loop-step.invariant.size);
-      step = λ s kn h. subst (λ l. Along b c.loop-step.b (λ inputs v. steps_value (environment (denoted b inputs e)) v (steps_of l)) (λ inputs. steps_value (environment (denoted b inputs e)) (at b inputs c.args.so_far) (steps_of all)) c.loop-step.number) (drop_all c.loop-step.step-index all c.loop-step-test.false) (c.loop-step.invariant.step s kn h);
+      step = λ s kn h. subst (λ l. Along b c.loop-step.b (λ inputs v. steps_value (environment (denoted b inputs e)) v (steps_of l))
+          (λ inputs. steps_value (environment (denoted b inputs e)) (at b inputs c.args.so_far) (steps_of all)) c.loop-step.number)
+          (drop_all c.loop-step.step-index all c.loop-step-test.false) (c.loop-step.invariant.step s kn h);
     }
 
 pub emit_applied-emit_argument-requires : goal.emit_applied-emit_argument-requires
@@ -99,10 +145,26 @@ pub emit_applied-emit_argument-requires-2 : goal.emit_applied-emit_argument-requ
 emit_applied-emit_argument-requires-2 t c = (omega arith, omega (arith, c.requires, three-formulas c.args.arguments.now, c.in_ok-first.ensures.size))
 
 pub emit_applied-emit_argument-requires-3 : goal.emit_applied-emit_argument-requires-3
-emit_applied-emit_argument-requires-3 t c = (omega arith, omega (arith, c.requires, three-formulas c.args.arguments.now, c.in_ok-first.ensures.size, c.in_ok-second.ensures.size))
+emit_applied-emit_argument-requires-3 t c = (
+  omega arith,
+  omega (
+    arith,
+    c.requires,
+    three-formulas c.args.arguments.now,
+    c.in_ok-first.ensures.size,
+    c.in_ok-second.ensures.size,
+  ),
+)
 
 pub emit_applied-push-requires : goal.emit_applied-push-requires
-emit_applied-push-requires t c = omega (arith, c.requires, three-formulas c.args.arguments.now, c.in_ok-first.ensures.size, c.in_ok-second.ensures.size, c.in_ok-third.ensures.size)
+emit_applied-push-requires t c = omega (
+  arith,
+  c.requires,
+  three-formulas c.args.arguments.now,
+  c.in_ok-first.ensures.size,
+  c.in_ok-second.ensures.size,
+  c.in_ok-third.ensures.size,
+)
 
 pub emit_applied-returns-clause-size : goal.emit_applied-returns-clause-size
 emit_applied-returns-clause-size t c =
@@ -111,5 +173,6 @@ emit_applied-returns-clause-size t c =
     (λ (k : ℕ). load c.push.new.self ≤ load c.args.b.now + formulas_weight (formulas_of c.args.arguments.now) + 1)
     (λ (k : ℕ) p.
     let goal' : load c.push.new.self ≤ load c.args.b.now + formulas_weight (formulas_of c.args.arguments.now) + 1 =
-    omega (arith, pushed-load p, three-formulas c.args.arguments.now, c.in_ok-first.ensures.size, c.in_ok-second.ensures.size, c.in_ok-third.ensures.size) in goal')
+    omega (arith, pushed-load p, three-formulas c.args.arguments.now, c.in_ok-first.ensures.size, c.in_ok-second.ensures.size, c.in_ok-third.ensures.size) in
+    goal')
     c.push.ensures

@@ -15,7 +15,8 @@ returns-in_ok-so_far-in-Some-clause-step c =
     let first = c.in-Some.first.now in
     let rest = c.in-Some.rest.now in
     let is : c.args.cells.now ≡ first ∷ rest = c.in-Some.ensures.cases.0 in
-    IfOk-weaker c.emit_further.result (λ k. Sane d → Known d e → IsUsable d x → Gives d c.emit_further.new.b (λ inputs. present_or (environment (denoted d inputs e)) (at d inputs x) rest) k) _
+    IfOk-weaker c.emit_further.result (λ k. Sane d → Known d e → IsUsable d x
+    → Gives d c.emit_further.new.b (λ inputs. present_or (environment (denoted d inputs e)) (at d inputs x) rest) k) _
     (λ k f s kn. subst (λ l. TermStep b c.emit_further.new.b e (λ y. any_present y l) k) (sym is)
     (chain-step (λ y. present_in y first) (λ y v. present_or y v rest) c.in_ok-so_far-in-Some.ensures.step f s kn))
     c.emit_further.ensures.step

@@ -27,7 +27,15 @@ returns-clause-answers c =
     IfOk-weaker c.outputs_of.result _ _
     (λ outputs given. λ (literal : HasLiterals base.labels b0).
     let begun : Begun b0 b1 (λ inputs. begun_from inputs 0 vars) e = c.in_ok-env.ensures.step literal.sane in
-    let ready : Ready base.labels b1 e 2 = record { placed = record { sane = begun.grows.base.sane; known = begun.known; guard = begun.grows.base.sane.literal 2 (omega arith) }; labelled = faces-on begun.grows.base literal.labelled } in
+    let ready : Ready base.labels b1 e 2 = record {
+      placed = record {
+        sane = begun.grows.base.sane;
+        known = begun.known;
+        guard = begun.grows.base.sane.literal 2
+            (omega arith);
+      };
+      labelled = faces-on begun.grows.base literal.labelled;
+    } in
     let step : Step b1 b2 2 e f next = c.in_ok-emit_all.ensures.step ready in
     let wanted = map (λ x. get_or f x 0) requests in
     record {

@@ -14,7 +14,8 @@ emit_driver-requires c = record {
 
 pub returns : goal.returns
 returns c =
-    c.finished.ensures c.args.core.now c.args.ordered.now.base c.args.symbols.now c.args.requests.now (c.in_ok-outputs.ensures.answers c.in_ok-b.ensures.literals)
+    c.finished.ensures c.args.core.now c.args.ordered.now.base c.args.symbols.now c.args.requests.now
+    (c.in_ok-outputs.ensures.answers c.in_ok-b.ensures.literals)
     (c.in_ok-notes.ensures ∙ ap numbers_of c.deref.ensures.value)
     c.inputs.ensures
     c.requires.few_cells c.requires.light (omega (arith, c.in_ok-b.ensures.size, c.in_ok-outputs.ensures.size))

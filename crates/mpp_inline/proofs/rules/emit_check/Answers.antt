@@ -29,7 +29,8 @@ returns-clause-step c =
     let d0 = c.check_rule-2.new.self in
     let d2 = c.push-2.new.self in
     let last = c.note.new.self in
-    let stops : is_stopping (kind_at labels c.args.label) ≡ false = ap is_stopping (sym c.kind_at.ensures) ∙ sym c.is_stopping.ensures ∙ c.if-is_stopping.false in
+    let stops : is_stopping (kind_at labels c.args.label) ≡ false = ap is_stopping (sym c.kind_at.ensures) ∙ sym c.is_stopping.ensures
+    ∙ c.if-is_stopping.false in
     on_ok_weaker c.note.result
     (λ (p : NotedAt d2 last c.in_ok-node.node c.args.label). λ before env d step same low r.
     noted-stage d no-label (subst (λ n. n < length labels) (sym same) low) (ap (λ n. is_stopping (kind_at labels n)) same ∙ stops) step

@@ -29,9 +29,17 @@ loop-condition-preserved c =
     (c.in_ok-emit_check.ensures.step b1 env d c.in_ok-value.ensures.step (λ j. d.1) (subst (λ ls. d.1 < length ls) (sym c.as_slice.ensures) low)) in
     record {
       step = λ r. stage-next r
-          (subst (λ ds. Stage c.args.b.now c.loop-condition.b c.args.guard env env (checked base.labels ds) (checked base.labels base.checks)) next (c.loop-condition.invariant.step r))
+          (subst (λ ds. Stage c.args.b.now c.loop-condition.b c.args.guard env env (checked base.labels ds) (checked base.labels base.checks)) next
+          (c.loop-condition.invariant.step r))
           tried;
-      size = omega (arith, c.loop-condition.invariant.size, ap (sum_by check_weight) next, sum_by-cons check_weight d (drop (i + 1) items), c.in_ok-value.ensures.size, c.in_ok-emit_check.ensures.size);
+      size = omega (
+        arith,
+        c.loop-condition.invariant.size,
+        ap (sum_by check_weight) next,
+        sum_by-cons check_weight d (drop (i + 1) items),
+        c.in_ok-value.ensures.size,
+        c.in_ok-emit_check.ensures.size,
+      );
     }
 
 pub emit_term-requires : goal.emit_term-requires

@@ -7,6 +7,7 @@ use Rattle.mpp_inline.proofs.rules.emit_checks.Given as goal
 
 abbrev pub invariant-loop-condition : goal.invariant-loop-condition
 invariant-loop-condition l = record {
-  step : Ready l.base.labels l.initial.b l.env l.guard → Stage l.initial.b l.b l.guard l.env l.env (checked l.base.labels (drop l.condition-index l.condition-items)) (checked l.base.labels l.base.checks);
+  step : Ready l.base.labels l.initial.b l.env l.guard
+      → Stage l.initial.b l.b l.guard l.env l.env (checked l.base.labels (drop l.condition-index l.condition-items)) (checked l.base.labels l.base.checks);
   size : load l.b + 4 * sum_by check_weight (drop l.condition-index l.condition-items) ≤ load l.initial.b + 4 * sum_by check_weight l.base.checks;
 }

@@ -22,11 +22,13 @@ loop-position-preserved c =
     let i = c.loop-position.position-index in
     let p = get_or items i 0 in
     let rest = drop (i + 1) items in
-    let found = looked-up base sequence items c.as_slice-definitions.result.now i c.index-definitions-position.result c.requires.order c.as_slice-definitions.ensures c.as_slice-position-items.ensures c.loop-position-test.true c.index-definitions-position.is in
+    let found = looked-up base sequence items c.as_slice-definitions.result.now i c.index-definitions-position.result c.requires.order
+    c.as_slice-definitions.ensures c.as_slice-position-items.ensures c.loop-position-test.true c.index-definitions-position.is in
     let next : drop i items ≡ p ∷ rest = drop_more items i 0 c.loop-position-test.true in
     let k = c.in_ok-number.number in
     let put' = c.put.ensures ∙ ap (λ x. set f x k) found.1 in
-    let term = subst (λ t. Sane c.loop-position.b → Known c.loop-position.b f → TermStep c.loop-position.b c.emit_term.new.b f (λ y. term_value y t) k) found.2 c.in_ok-number.ensures.step in
+    let term = subst (λ t. Sane c.loop-position.b → Known c.loop-position.b f → TermStep c.loop-position.b c.emit_term.new.b f (λ y. term_value y t) k) found.2
+    c.in_ok-number.ensures.step in
     record {
       step = λ s kn. subst (λ env. Computed b c.emit_term.new.b e env (computed base rest) (computed base sequence)) (sym put')
           (computed-next (λ y. term_value y (term_at base p)) (target_at base p)
@@ -43,6 +45,7 @@ emit_term-requires c =
     let base = c.args.ordered.now.base in
     let items = c.as_slice-position-items.result.now in
     let i = c.loop-position.position-index in
-    let found = looked-up base c.args.ordered.now.sequence items c.as_slice-definitions.result.now i c.index-definitions-position.result c.requires.order c.as_slice-definitions.ensures c.as_slice-position-items.ensures c.loop-position-test.true c.index-definitions-position.is in
+    let found = looked-up base c.args.ordered.now.sequence items c.as_slice-definitions.result.now i c.index-definitions-position.result c.requires.order
+    c.as_slice-definitions.ensures c.as_slice-position-items.ensures c.loop-position-test.true c.index-definitions-position.is in
     let next : drop i items ≡ get_or items i 0 ∷ drop (i + 1) items = drop_more items i 0 c.loop-position-test.true in
     omega (arith, c.requires.room, c.loop-position.invariant.size, ap (positions_weight base) next, ap tree_weight found.2)

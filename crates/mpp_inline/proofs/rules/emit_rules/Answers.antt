@@ -22,7 +22,12 @@ emit_definitions-requires c = record {
 pub emit_checks-requires : goal.emit_checks-requires
 emit_checks-requires c = record {
   valid = c.requires.valid;
-  room = omega (arith, c.requires.room, order-weight c.args.ordered.now.base c.args.ordered.now.sequence c.requires.order, c.in_ok-emit_definitions.ensures.size);
+  room = omega (
+    arith,
+    c.requires.room,
+    order-weight c.args.ordered.now.base c.args.ordered.now.sequence c.requires.order,
+    c.in_ok-emit_definitions.ensures.size,
+  );
 }
 
 -- no more cells come back than are defined
@@ -140,10 +145,12 @@ returns c =
     let cells = cells_at base sequence in
     let frame = c.in_ok-emit_definitions.ensures.frame in
     let after : c.deref-3.result.now ≡ picked 0 cells f = c.deref-3.ensures.value ∙ c.in_ok-after.ensures in
-    let back : c.write-2.new.env ≡ e = c.write-2.ensures ∙ ap (λ ps. written ps f) (c.deref-2.ensures.value ∙ c.in_ok-before.ensures) ∙ restored cells e f frame in
+    let back : c.write-2.new.env ≡ e = c.write-2.ensures ∙ ap (λ ps. written ps f) (c.deref-2.ensures.value ∙ c.in_ok-before.ensures)
+    ∙ restored cells e f frame in
     let changed : SameBut cells e m = subst (λ x. SameBut cells x m) back
     (subst (λ ys. SameBut ys c.write-2.new.env m) (ap cells_of after ∙ cells-picked 0 cells f) c.in_ok-write_under.ensures.frame) in
-    let back2 : c.write-3.new.env ≡ e = c.write-3.ensures ∙ ap (λ ps. written ps m) (c.deref-4.ensures.value ∙ c.in_ok-before.ensures) ∙ restored cells e m changed in
+    let back2 : c.write-3.new.env ≡ e = c.write-3.ensures ∙ ap (λ ps. written ps m) (c.deref-4.ensures.value ∙ c.in_ok-before.ensures)
+    ∙ restored cells e m changed in
     let end : c.write-4.new.env ≡ received 0 xs m e = c.write-4.ensures ∙ (λ i. written ((c.deref-5.ensures.value ∙ c.in_ok-given-2.ensures) i) (back2 i)) in
     record {
       step = λ r. subst (λ x. Step b last g e x (rules_in_turn base sequence xs)) (sym end)

@@ -14,7 +14,8 @@ loop-position-preserved c =
     let e = c.args.env.now in
     let rest = drop (i + 1) items in
     let before = c.loop-position.entries.items in
-    let found = looked-up base c.args.ordered.now.sequence items c.as_slice-definitions.result.now i c.index-definitions-position.result c.requires c.as_slice-definitions.ensures c.as_slice-position-items.ensures c.loop-position-test.true c.index-definitions-position.is in
+    let found = looked-up base c.args.ordered.now.sequence items c.as_slice-definitions.result.now i c.index-definitions-position.result c.requires
+    c.as_slice-definitions.ensures c.as_slice-position-items.ensures c.loop-position-test.true c.index-definitions-position.is in
     let next : drop i items ≡ get_or items i 0 ∷ rest = drop_more items i 0 c.loop-position-test.true in
     ap (λ l. l ++ picked 0 (cells_at base rest) e) c.in_ok-push.ensures.items
     ∙ snoc-append before _ (picked 0 (cells_at base rest) e)

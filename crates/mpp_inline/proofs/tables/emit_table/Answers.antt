@@ -18,7 +18,9 @@ loop-left-preserved c =
     let is : c.loop-left.left ≡ suc n = omega (arith, c.loop-left-test.true) in
     record {
       step = λ s kn h. table-next e c.args.index c.args.first n
-          (subst (λ m. Along b c.loop-left.b (λ inputs v. among_cells (environment (denoted b inputs e)) c.args.first (at b inputs c.args.index) m v) (λ inputs. picked_value (environment (denoted b inputs e)) (picked c.args.first c.args.size (at b inputs c.args.index))) c.loop-left.number) is (c.loop-left.invariant.step s kn h))
+          (subst (λ m. Along b c.loop-left.b (λ inputs v. among_cells (environment (denoted b inputs e)) c.args.first (at b inputs c.args.index) m v)
+          (λ inputs. picked_value (environment (denoted b inputs e)) (picked c.args.first c.args.size (at b inputs c.args.index))) c.loop-left.number) is
+          (c.loop-left.invariant.step s kn h))
           c.in_ok-number-2.ensures.step c.look-cell.ensures s kn h;
       size = omega (arith, is, c.loop-left.invariant.size, c.in_ok-number-2.ensures.size);
     }

@@ -22,8 +22,10 @@ loop-cell-preserved c =
     let rest = drop (i + 1) all in
     let next : drop i all ≡ p ∷ rest = drop_more all i (0, 0) c.loop-cell-test.true in
     let within : Placed b e truth → Held b all → IsUsable b p.1 = λ r h. all-get (λ q. IsUsable b q.1) all i (0, 0) (r.sane.literal 0 (omega arith)) h.all in
-    let step : Placed b e truth → Held b all → Merged b c.loop-cell.b truth (p ∷ rest) all e f = λ r h. subst (λ ps. Merged b c.loop-cell.b truth ps all e f) next (c.loop-cell.invariant.step r h) in
-    let frame : SameButSome (p.0 ∷ cells_of rest) (cells_of all) e f = subst (λ ps. SameButSome (cells_of ps) (cells_of all) e f) next c.loop-cell.invariant.frame in
+    let step : Placed b e truth → Held b all → Merged b c.loop-cell.b truth (p ∷ rest) all e f = λ r h. subst (λ ps. Merged b c.loop-cell.b truth ps all e f)
+    next (c.loop-cell.invariant.step r h) in
+    let frame : SameButSome (p.0 ∷ cells_of rest) (cells_of all) e f = subst (λ ps. SameButSome (cells_of ps) (cells_of all) e f) next
+    c.loop-cell.invariant.frame in
     elim c.if-first-second.branch [
       | then-first-second+in_ok-number w ↦ record {
         step = λ r h.
@@ -59,7 +61,8 @@ returns c =
     let all = c.args.given.now in
     let e = c.args.env.now in
     record {
-      step = λ r h. subst (λ ps. Merged b c.loop-cell.b c.args.guard ps all e c.loop-cell.env) (drop_all c.loop-cell.cell-index all c.loop-cell-test.false) (c.loop-cell.invariant.step r h);
+      step = λ r h. subst (λ ps. Merged b c.loop-cell.b c.args.guard ps all e c.loop-cell.env) (drop_all c.loop-cell.cell-index all c.loop-cell-test.false)
+          (c.loop-cell.invariant.step r h);
       size = omega (arith, c.loop-cell.invariant.size);
       frame = some-last _ (cells_of all) e c.loop-cell.env c.loop-cell.invariant.frame;
     }

@@ -13,4 +13,5 @@ returns-then-guard-eq-ONE-clause-step c =
     (subst (λ x. Placed b e 2 → Held b ps → Merged b b 2 [] ps e x) (sym c.write.ensures) (write-one ps))
 
 pub returns-then-guard-eq-ONE-clause-frame : goal.returns-then-guard-eq-ONE-clause-frame
-returns-then-guard-eq-ONE-clause-frame c = subst (SameBut (cells_of c.args.given.now) c.args.env.now) (sym c.write.ensures) (same-written c.args.given.now c.args.env.now)
+returns-then-guard-eq-ONE-clause-frame c = subst (SameBut (cells_of c.args.given.now) c.args.env.now) (sym c.write.ensures)
+    (same-written c.args.given.now c.args.env.now)

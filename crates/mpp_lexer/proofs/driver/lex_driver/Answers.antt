@@ -8,7 +8,10 @@ use Rattle.mpp_lexer.proofs.driver.lex_driver.Goals.{in-Some-line_of+in_ok-push,
 pub returns-in_default-2 : goal.returns-in_default-2
 returns-in_default-2 c =
     let bad = rw c.in_default-2.is at c.in_ok-tokens.ensures in
-    record { outcome = λ _. c.loop-text.invariant.faults c.loop-text.number (subst (λ ls. FirstBadToken c.loop-text.number ls c.loop-text.number) (sym c.in-Some.ensures.first) (here bad)) }
+    record {
+      outcome = λ _. c.loop-text.invariant.faults c.loop-text.number
+          (subst (λ ls. FirstBadToken c.loop-text.number ls c.loop-text.number) (sym c.in-Some.ensures.first) (here bad));
+    }
 
 pub line_of-requires-clause-short : goal.line_of-requires-clause-short
 line_of-requires-clause-short c =
@@ -22,8 +25,11 @@ loop-text-preserved c =
     let tokens = rw c.in-Some-2.is at c.in_ok-tokens.ensures in
     record {
       lists = λ lines d. elim c.match-line_of.branch [
-        | in-Some-line_of+in_ok-push w ↦ rw (w.lines-is, w.in_ok-push.ensures.items, append_assoc) (c.loop-text.invariant.lists _ (subst (λ ls. Lexes n ls (w.in-Some-line_of.line ∷ lines)) (sym c.in-Some.ensures.first) (w.in-Some-line_of.ensures behind lines d)))
-        | in_default-line_of w ↦ rw w.lines-is (c.loop-text.invariant.lists lines (subst (λ ls. Lexes n ls lines) (sym c.in-Some.ensures.first) (rw w.in_default-line_of.is at (c.line_of.ensures behind lines d))))
+        | in-Some-line_of+in_ok-push w ↦ rw (w.lines-is, w.in_ok-push.ensures.items, append_assoc)
+            (c.loop-text.invariant.lists _ (subst (λ ls. Lexes n ls (w.in-Some-line_of.line ∷ lines)) (sym c.in-Some.ensures.first)
+            (w.in-Some-line_of.ensures behind lines d)))
+        | in_default-line_of w ↦ rw w.lines-is (c.loop-text.invariant.lists lines
+            (subst (λ ls. Lexes n ls lines) (sym c.in-Some.ensures.first) (rw w.in_default-line_of.is at (c.line_of.ensures behind lines d))))
       ];
       faults = λ fault d. c.loop-text.invariant.faults fault (subst (λ ls. FirstBadToken n ls fault) (sym c.in-Some.ensures.first) (later tokens d));
       from_one = omega (arith, c.loop-text.invariant.from_one);
@@ -31,4 +37,7 @@ loop-text-preserved c =
     }
 
 pub returns : goal.returns
-returns c = record { outcome = rw append-nil at (c.loop-text.invariant.lists [] (subst (λ bytes. Lexes c.loop-text.number (lines_of bytes) []) (sym c.in_default.ensures.first) end)) }
+returns c = record {
+  outcome = rw append-nil at
+      (c.loop-text.invariant.lists [] (subst (λ bytes. Lexes c.loop-text.number (lines_of bytes) []) (sym c.in_default.ensures.first) end));
+}

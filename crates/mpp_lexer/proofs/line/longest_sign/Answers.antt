@@ -11,7 +11,8 @@ returns-in-Some-clause-sign c = two_goes c.args.line.now c.args.at _ c.if-at-lin
 pub returns-in-Some-one_byte_sign-clause-sign : goal.returns-in-Some-one_byte_sign-clause-sign
 returns-in-Some-one_byte_sign-clause-sign c = one_goes c.args.line.now c.args.at _ c.requires c.in-Some-one_byte_sign.ensures none
   where
-    none : c.args.at + 1 < length c.args.line.now → (s : DriverSign) → sign_spelling s ≢ get_or c.args.line.now c.args.at 0 ∷ get_or c.args.line.now (c.args.at + 1) 0 ∷ []
+    none : c.args.at + 1 < length c.args.line.now → (s : DriverSign) → sign_spelling s ≢ get_or c.args.line.now c.args.at 0 ∷ get_or c.args.line.now
+        (c.args.at + 1) 0 ∷ []
     none h = elim c.if-at-line.branch [
       | then-at-line+in_default w ↦ w.in_default.ensures
       | else-at-line w ↦ absurd (omega (arith, w.if-at-line.false))

@@ -34,7 +34,11 @@ pub read_block-returns-then-first-indent-clause-reads : goal.read_block-returns-
 read_block-returns-then-first-indent-clause-reads t c = block_shallow _ _ c.in-Some.first.now _ c.in-Some.ensures.0 c.in-Some.ensures.1 c.if-first-indent.true
 
 pub read_block-returns-then-is_empty-clause-reads : goal.read_block-returns-then-is_empty-clause-reads
-read_block-returns-then-is_empty-clause-reads t c = block_empty _ _ c.in-Some.first.now _ c.in-Some.ensures.0 _ _ c.if-depth-eq0.false c.in-Some.ensures.1 (omega (arith, c.if-first-indent.false)) c.in_ok-commands.ensures.reads (ap length (sym c.as_slice.ensures.value) ∙ eqb-true _ 0 (sym c.is_empty.ensures ∙ c.if-is_empty.true))
+read_block-returns-then-is_empty-clause-reads t c = block_empty _ _ c.in-Some.first.now _ c.in-Some.ensures.0 _ _ c.if-depth-eq0.false c.in-Some.ensures.1
+    (omega (arith, c.if-first-indent.false)) c.in_ok-commands.ensures.reads (ap length (sym c.as_slice.ensures.value)
+    ∙ eqb-true _ 0 (sym c.is_empty.ensures ∙ c.if-is_empty.true))
 
 pub read_block-returns-clause-reads : goal.read_block-returns-clause-reads
-read_block-returns-clause-reads t c = block_some _ _ c.in-Some.first.now _ c.in-Some.ensures.0 _ _ c.if-depth-eq0.false c.in-Some.ensures.1 (omega (arith, c.if-first-indent.false)) c.in_ok-commands.ensures.reads (λ e. eqb-false _ 0 (sym c.is_empty.ensures ∙ c.if-is_empty.false) (ap length c.as_slice.ensures.value ∙ e))
+read_block-returns-clause-reads t c = block_some _ _ c.in-Some.first.now _ c.in-Some.ensures.0 _ _ c.if-depth-eq0.false c.in-Some.ensures.1
+    (omega (arith, c.if-first-indent.false)) c.in_ok-commands.ensures.reads
+    (λ e. eqb-false _ 0 (sym c.is_empty.ensures ∙ c.if-is_empty.false) (ap length c.as_slice.ensures.value ∙ e))

@@ -14,12 +14,14 @@ read_links-links-init t c = record { shorter = omega arith; going = rw c.new-lin
 
 pub read_links-returns-in_err-term-clause-reads : goal.read_links-returns-in_err-term-clause-reads
 read_links-returns-in_err-term-clause-reads t c =
-    exit _ _ _ _ c.from_residual.ensures.1 (chain_stuck _ _ _ c.links.invariant.going c.in-Some.ensures.operator c.in-Some.ensures.shorter) c.in_err-term.ensures.reads
+    exit _ _ _ _ c.from_residual.ensures.1 (chain_stuck _ _ _ c.links.invariant.going c.in-Some.ensures.operator c.in-Some.ensures.shorter)
+    c.in_err-term.ensures.reads
 
 pub read_links-links-preserved : goal.read_links-links-preserved
 read_links-links-preserved t c = record {
   shorter = omega (arith, c.in_ok-term.ensures.shorter, c.in-Some.ensures.shorter, c.links.invariant.shorter);
-  going = rw (c.in_ok-push.ensures.items, c.into_inner.ensures) (chain_turn _ _ _ c.links.invariant.going c.in-Some.ensures.operator c.in_ok-term.ensures.reads (omega (arith, c.in_ok-term.ensures.shorter, c.in-Some.ensures.shorter)));
+  going = rw (c.in_ok-push.ensures.items, c.into_inner.ensures) (chain_turn _ _ _ c.links.invariant.going c.in-Some.ensures.operator c.in_ok-term.ensures.reads
+      (omega (arith, c.in_ok-term.ensures.shorter, c.in-Some.ensures.shorter)));
 }
 
 pub read_links-returns-clause-reads : goal.read_links-returns-clause-reads

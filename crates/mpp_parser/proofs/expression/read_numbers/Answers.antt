@@ -17,7 +17,8 @@ returns-in_default-read_number-clause-reads c =
 pub numbers-preserved : goal.numbers-preserved
 numbers-preserved c = record {
   shorter = omega (arith, c.in-Some-read_number.ensures.shorter, c.numbers-test.ensures.shorter);
-  going = rw c.in_ok-push-2.ensures.items (chain_turn _ _ _ c.numbers.invariant.going c.numbers-test.ensures.sign c.in-Some-read_number.ensures.number (omega (arith, c.in-Some-read_number.ensures.shorter, c.numbers-test.ensures.shorter)));
+  going = rw c.in_ok-push-2.ensures.items (chain_turn _ _ _ c.numbers.invariant.going c.numbers-test.ensures.sign c.in-Some-read_number.ensures.number
+      (omega (arith, c.in-Some-read_number.ensures.shorter, c.numbers-test.ensures.shorter)));
 }
 
 pub returns-clause-reads : goal.returns-clause-reads

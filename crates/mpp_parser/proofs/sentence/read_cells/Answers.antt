@@ -11,12 +11,14 @@ cells-init c = rw (c.in_ok-push.ensures.items, c.new-cells.ensures.items) (chain
 pub returns-in_err-cell : goal.returns-in_err-cell
 returns-in_err-cell c = record {
   reads =
-      exit _ _ _ _ c.from_residual-in_err-cell.ensures.1 (chain_stuck _ _ _ c.cells.invariant c.cells-test.ensures.sign c.cells-test.ensures.shorter) c.in_err-cell.ensures.reads;
+      exit _ _ _ _ c.from_residual-in_err-cell.ensures.1 (chain_stuck _ _ _ c.cells.invariant c.cells-test.ensures.sign c.cells-test.ensures.shorter)
+      c.in_err-cell.ensures.reads;
 }
 
 pub cells-preserved : goal.cells-preserved
 cells-preserved c =
-    rw c.in_ok-push-2.ensures.items (chain_turn _ _ _ c.cells.invariant c.cells-test.ensures.sign c.in_ok-cell.ensures.reads (omega (arith, c.in_ok-cell.ensures.shorter, c.cells-test.ensures.shorter)))
+    rw c.in_ok-push-2.ensures.items (chain_turn _ _ _ c.cells.invariant c.cells-test.ensures.sign c.in_ok-cell.ensures.reads
+    (omega (arith, c.in_ok-cell.ensures.shorter, c.cells-test.ensures.shorter)))
 
 pub returns : goal.returns
 returns c = record { reads = rw c.cells-test.ensures.sign.0 (chain_stop _ _ _ c.cells.invariant c.cells-test.ensures.sign.1) }

@@ -16,7 +16,8 @@ returns-in-Some c = λ _.
     let is : get_or instrs i instr ≡ instr = search rules in
     let left : drop i instrs ≡ instr ∷ drop (suc i) instrs = drop-cons instrs i instr c.loop-place-test.true ∙ ap (λ x. x ∷ drop (suc i) instrs) is in
     let rest = subst (λ (xs : List Instr). Rest c.loop-place.code whole i xs) left c.loop-place.invariant.rest in
-    rest-wrong c.loop-place.code whole i instr (drop (suc i) instrs) c.in-Some.wrong rest (sym (c.in_ok-wrong.ensures.wrong) ∙ c.in-Some.is) ∙ ap (λ w. Some w) (sym c.placed.ensures)
+    rest-wrong c.loop-place.code whole i instr (drop (suc i) instrs) c.in-Some.wrong rest (sym (c.in_ok-wrong.ensures.wrong) ∙ c.in-Some.is)
+    ∙ ap (λ w. Some w) (sym c.placed.ensures)
 
 pub loop-place-preserved : goal.loop-place-preserved
 loop-place-preserved c =
@@ -30,9 +31,11 @@ loop-place-preserved c =
     let left : drop i instrs ≡ instr ∷ drop (suc i) instrs = drop-cons instrs i instr c.loop-place-test.true ∙ ap (λ x. x ∷ drop (suc i) instrs) is in
     let rest = subst (λ (xs : List Instr). Rest code whole i xs) left c.loop-place.invariant.rest in
     let right : wrong_behind code instr ≡ None = sym (c.in_ok-wrong.ensures.wrong) ∙ c.in-None.is in
-    let added : c.push.new.self ≡ with_instr code instr = subst (λ (o : Option Wrong). MatchOption o (c.push.new.self ≡ with_instr code instr) (λ _. c.push.new.self ≡ code)) c.in-None.is c.in_ok-wrong.ensures.added in
+    let added : c.push.new.self ≡ with_instr code instr = subst (λ (o : Option Wrong). MatchOption o (c.push.new.self ≡ with_instr code instr)
+    (λ _. c.push.new.self ≡ code)) c.in-None.is c.in_ok-wrong.ensures.added in
     record {
-      rest = subst (λ (k : ℕ). Rest c.push.new.self whole k (drop k instrs)) next (subst (λ l. Rest l whole (suc i) (drop (suc i) instrs)) (sym added) (rest-next code whole i instr (drop (suc i) instrs) rest right));
+      rest = subst (λ (k : ℕ). Rest c.push.new.self whole k (drop k instrs)) next
+          (subst (λ l. Rest l whole (suc i) (drop (suc i) instrs)) (sym added) (rest-next code whole i instr (drop (suc i) instrs) rest right));
       is = added ∙ ap (λ l. with_instr l instr) c.loop-place.invariant.is
           ∙ ap (λ (xs : List Instr). code_of c.args.inputs c.args.slots c.args.labels c.args.outputs xs)
           (ap (λ x. take i instrs ++ x ∷ []) (sym is) ∙ sym (take-suc instrs i instr c.loop-place-test.true) ∙ ap (λ k. take k instrs) next);

@@ -10,7 +10,8 @@ loop-at-init c =
     let labels = c.args.labels in
     let counts : List ℕ → Counts = λ os. record { inputs = flat.inputs; slots = 4294967295; labels = labels; outputs = length os } in
     record {
-      sound = rw (c.new-2.ensures, c.new-3.ensures) (sound-start flat labels (counts c.as_slice.result.now) c.requires.valid c.requires.small (ap counts c.as_slice.ensures));
+      sound = rw (c.new-2.ensures, c.new-3.ensures) (sound-start flat labels (counts c.as_slice.result.now) c.requires.valid c.requires.small
+          (ap counts c.as_slice.ensures));
       even = refl;
       settled = λ lt. omega arith;
       labels = ap (λ (code : Listing). code.counts.labels) c.new-2.ensures;
@@ -29,4 +30,5 @@ seal-requires c =
 pub returns : goal.returns
 returns c =
     let all : length c.args.flat.now.nodes ≤ c.loop-at.at.made = search rules in
-    rw (c.seal.ensures, c.count.ensures) (allocation-from c.args.labels c.requires.valid c.loop-at.invariant.sound all c.loop-at.invariant.settled c.loop-at.invariant.labels c.loop-at.invariant.loads)
+    rw (c.seal.ensures, c.count.ensures) (allocation-from c.args.labels c.requires.valid c.loop-at.invariant.sound all c.loop-at.invariant.settled
+    c.loop-at.invariant.labels c.loop-at.invariant.loads)

@@ -7,7 +7,8 @@ answer_lines-requires-clause-cells g c = rw (c.as_slice.ensures, c.requires.cell
 
 pub returns-in-Ok : goal.returns-in-Ok
 returns-in-Ok g c =
-    report_answered c.args.made.now.symbols c.args.made.now.ordered.base _ c.args.report.now c.in-Ok.lines _ _ _ c.in-Ok.ensures.outcome (rw c.as_slice.ensures at c.answer_lines.ensures)
+    report_answered c.args.made.now.symbols c.args.made.now.ordered.base _ c.args.report.now c.in-Ok.lines _ _ _ c.in-Ok.ensures.outcome
+    (rw c.as_slice.ensures at c.answer_lines.ensures)
 
 pub returns-in-Err : goal.returns-in-Err
 returns-in-Err g c =

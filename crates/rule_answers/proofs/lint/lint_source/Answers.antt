@@ -20,7 +20,8 @@ answer_lint-status-requires-clause-inputs g c =
 
 pub returns-in-Ok : goal.returns-in-Ok
 returns-in-Ok g c =
-    lint_answered c.args.source.now c.in-Ok.made.symbols c.in-Ok.made.ordered.base c.in-Ok.compiled _ _ _ c.in-Ok.ensures.rules c.in-Ok.ensures.outcome c.answer_lint-status.ensures
+    lint_answered c.args.source.now c.in-Ok.made.symbols c.in-Ok.made.ordered.base c.in-Ok.compiled _ _ _ c.in-Ok.ensures.rules c.in-Ok.ensures.outcome
+    c.answer_lint-status.ensures
 
 pub returns-in-Err : goal.returns-in-Err
 returns-in-Err g c =

@@ -7,7 +7,8 @@ use Rattle.rule_base.proofs.each_file.read_files.Goals as goal
 pub returns-in_err-items : goal.returns-in_err-items
 returns-in_err-items c =
     reported _ _ _ _ _ c.from_residual.ensures.1
-    (λ n. (goes_at _ c.args.texts.now c.loop-text.text-index _ _ _ c.loop-text-test.true c.text-item.is c.loop-text.invariant.goes).bad _ (here (c.in_err-items.ensures n)))
+    (λ n. (goes_at _ c.args.texts.now c.loop-text.text-index _ _ _ c.loop-text-test.true c.text-item.is c.loop-text.invariant.goes).bad _
+    (here (c.in_err-items.ensures n)))
 
 pub loop-text-preserved : goal.loop-text-preserved
 loop-text-preserved c = record {

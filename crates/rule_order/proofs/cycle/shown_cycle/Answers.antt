@@ -12,9 +12,11 @@ returns-clause-cycle c = λ base distinct next last.
     let path = c.args.path.now in
     let j = c.place_of.result in
     let l = c.place_of_least-least.result in
-    let is = gathered path _ j l c.from_vec.result _ _ _ refl c.from_vec.ensures c.in_ok-add_cells-2.ensures c.in_ok-add_cells.ensures c.new-cells.ensures.items in
+    let is = gathered path _ j l c.from_vec.result _ _ _ refl c.from_vec.ensures c.in_ok-add_cells-2.ensures c.in_ok-add_cells.ensures
+    c.new-cells.ensures.items in
     let cells : length (cells_of path) ≡ length path = length-map path (λ (f : Frame). f.cell) in
-    let ring : length (cells_of (take (length path - j) (drop j path))) ≡ length (take (length path - j) (drop j path)) = length-map (take (length path - j) (drop j path)) (λ (f : Frame). f.cell) in
+    let ring : length (cells_of (take (length path - j) (drop j path))) ≡ length (take (length path - j) (drop j path)) = length-map
+    (take (length path - j) (drop j path)) (λ (f : Frame). f.cell) in
     let same : length (cells_of (take (length path - j) (drop j path))) ≡ length (drop j (cells_of path)) = ap length (ring-cells path j) in
     let low = c.place_of.ensures.within in
     let within = c.place_of_least-least.ensures.within in
@@ -26,8 +28,10 @@ returns-clause-least c =
     let path = c.args.path.now in
     let j = c.place_of.result in
     let l = c.place_of_least-least.result in
-    let is = gathered path _ j l c.from_vec.result _ _ _ refl c.from_vec.ensures c.in_ok-add_cells-2.ensures c.in_ok-add_cells.ensures c.new-cells.ensures.items in
-    let ring : length (cells_of (take (length path - j) (drop j path))) ≡ length (take (length path - j) (drop j path)) = length-map (take (length path - j) (drop j path)) (λ (f : Frame). f.cell) in
+    let is = gathered path _ j l c.from_vec.result _ _ _ refl c.from_vec.ensures c.in_ok-add_cells-2.ensures c.in_ok-add_cells.ensures
+    c.new-cells.ensures.items in
+    let ring : length (cells_of (take (length path - j) (drop j path))) ≡ length (take (length path - j) (drop j path)) = length-map
+    (take (length path - j) (drop j path)) (λ (f : Frame). f.cell) in
     let same : length (cells_of (take (length path - j) (drop j path))) ≡ length (drop j (cells_of path)) = ap length (ring-cells path j) in
     let within = c.place_of_least-least.ensures.within in
     subst (λ (cs : List ℕ). BeginsWithLeast cs) (sym is)

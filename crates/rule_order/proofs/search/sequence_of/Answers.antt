@@ -5,5 +5,7 @@ use Rattle.rule_order.proofs.search.sequence_of.Goals as goal
 
 pub returns : goal.returns
 returns c = record {
-  outcome = ordered c.args.base.now c.loop-position.search.marks.items c.loop-position.search.sequence.items c.loop-position.invariant.0.search (λ p h. c.loop-position.invariant.1 p (let e = ap (λ (ds : List Definition). length ds) c.as_slice-position-end.ensures in let all = c.loop-position-test.false in omega arith));
+  outcome = ordered c.args.base.now c.loop-position.search.marks.items c.loop-position.search.sequence.items c.loop-position.invariant.0.search
+      (λ p h. c.loop-position.invariant.1 p (let e = ap (λ (ds : List Definition). length ds) c.as_slice-position-end.ensures in
+      let all = c.loop-position-test.false in omega arith));
 }

@@ -9,7 +9,8 @@ answer_table-requires-clause-runnable g c = λ κs held. form_runs c.args.code.n
 pub returns-in-Ok : goal.returns-in-Ok
 returns-in-Ok g c =
     let shown = code_shows c.in-Ok.loaded (form_runs c.args.code.now c.in-Ok.loaded c.in-Ok.ensures) in
-    code_answered c.args.code.now c.args.table.now c.in-Ok.loaded (code_scheme c.in-Ok.loaded) _ _ _ c.in-Ok.ensures shown (c.answer_table.ensures (code_scheme c.in-Ok.loaded) shown)
+    code_answered c.args.code.now c.args.table.now c.in-Ok.loaded (code_scheme c.in-Ok.loaded) _ _ _ c.in-Ok.ensures shown
+    (c.answer_table.ensures (code_scheme c.in-Ok.loaded) shown)
 
 pub returns-in-Err : goal.returns-in-Err
 returns-in-Err g c =

@@ -5,4 +5,5 @@ use Rattle.survey_commands.specs.inner.Outputs.{output_empty}
 use Rattle.survey_commands.proofs.columns.give_empties.Given as goal
 
 abbrev pub invariant-loop-output : goal.invariant-loop-output
-invariant-loop-output g l = Given g.K.Sink.written g.K.Sink.faults l.initial.out l.out (flat_map output_empty l.outputs) (flat_map output_empty (drop l.output-index l.outputs))
+invariant-loop-output g l = Given g.K.Sink.written g.K.Sink.faults l.initial.out l.out (flat_map output_empty l.outputs)
+    (flat_map output_empty (drop l.output-index l.outputs))

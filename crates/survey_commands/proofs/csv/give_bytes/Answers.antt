@@ -9,13 +9,15 @@ pub returns-in_err-give_byte : goal.returns-in_err-give_byte
 returns-in_err-give_byte g c =
     let p = err_from_is_err_and c.from_residual.result c.from_residual.ensures.1 in
     let gave = c.in_err-give_byte.ensures in
-    piece_failed _ _ _ _ _ _ _ _ _ _ _ p.1 (each_at quoted_byte c.args.bytes.now c.loop-byte.byte-index (get_or c.args.bytes.now c.loop-byte.byte-index 0) 0 c.loop-byte-test.true refl)
+    piece_failed _ _ _ _ _ _ _ _ _ _ _ p.1 (each_at quoted_byte c.args.bytes.now c.loop-byte.byte-index (get_or c.args.bytes.now c.loop-byte.byte-index 0) 0
+    c.loop-byte-test.true refl)
     c.loop-byte.invariant gave.failed gave.prefix gave.counted
 
 pub loop-byte-preserved : goal.loop-byte-preserved
 loop-byte-preserved g c =
     let gave = c.in_ok-give_byte.ensures in
-    piece_given _ _ _ _ _ _ _ _ _ (each_at quoted_byte c.args.bytes.now c.loop-byte.byte-index (get_or c.args.bytes.now c.loop-byte.byte-index 0) 0 c.loop-byte-test.true refl)
+    piece_given _ _ _ _ _ _ _ _ _ (each_at quoted_byte c.args.bytes.now c.loop-byte.byte-index (get_or c.args.bytes.now c.loop-byte.byte-index 0) 0
+    c.loop-byte-test.true refl)
     c.loop-byte.invariant gave.all gave.faultless
 
 pub returns : goal.returns

@@ -7,7 +7,8 @@ use Rattle.survey_commands.proofs.FactsLemmas.{found_answered, ranges_refused}
 use Rattle.survey_commands.proofs.facts.answer_facts.Goals as goal
 
 pub given_facts-requires-clause-distinct : goal.given_facts-requires-clause-distinct
-given_facts-requires-clause-distinct g c = subst (λ (inputs : List Coded). AreDistinct (codes_of inputs)) (sym c.as_slice-inputs.ensures) c.requires.runnable.distinct
+given_facts-requires-clause-distinct g c = subst (λ (inputs : List Coded). AreDistinct (codes_of inputs)) (sym c.as_slice-inputs.ensures)
+    c.requires.runnable.distinct
 
 pub given_facts-requires-clause-count : goal.given_facts-requires-clause-count
 given_facts-requires-clause-count g c =
@@ -20,4 +21,5 @@ returns-in-Ok g c =
 
 pub returns-in-Err : goal.returns-in-Err
 returns-in-Err g c =
-    ranges_refused c.args.base.now c.args.compiled.now c.args.ranges.now c.in-Err.fault _ _ _ (rw c.as_slice-inputs.ensures at c.in-Err.ensures) c.report_ranges.ensures
+    ranges_refused c.args.base.now c.args.compiled.now c.args.ranges.now c.in-Err.fault _ _ _ (rw c.as_slice-inputs.ensures at c.in-Err.ensures)
+    c.report_ranges.ensures

@@ -13,7 +13,8 @@ answer_facts-status-requires-clause-first_labels g c =
 
 pub returns-in-Ok : goal.returns-in-Ok
 returns-in-Ok g c =
-    facts_answered c.args.source.now c.in-Ok.made.symbols c.in-Ok.made.ordered.base c.in-Ok.compiled c.args.ranges.now _ _ _ c.in-Ok.ensures.rules c.in-Ok.ensures.outcome
+    facts_answered c.args.source.now c.in-Ok.made.symbols c.in-Ok.made.ordered.base c.in-Ok.compiled c.args.ranges.now _ _ _ c.in-Ok.ensures.rules
+    c.in-Ok.ensures.outcome
     c.answer_facts-status.ensures
 
 pub returns-in-Err : goal.returns-in-Err

@@ -11,7 +11,8 @@ returns-in_err-give_note g c =
     let gave = c.in_err-give_note.ensures in
     let inside : c.loop-k.k < length c.args.outputs.now = omega (arith, c.loop-k-test.true, c.requires) in
     piece_failed _ _ _ _ _ _ _ _ _ _ _ p.1
-    (notes_at c.loop-k.some c.args.labels.now c.args.outputs.now c.args.values.now c.loop-k.k c.index-outputs-k.result c.index-outputs-k.result c.index-values-k.result c.index-values-k.result
+    (notes_at c.loop-k.some c.args.labels.now c.args.outputs.now c.args.values.now c.loop-k.k c.index-outputs-k.result c.index-outputs-k.result
+    c.index-values-k.result c.index-values-k.result
     (option_copied c.output_note-note.result) inside c.loop-k-test.true c.index-outputs-k.is c.index-values-k.is c.output_note-note.ensures)
     c.loop-k.invariant gave.failed gave.prefix gave.counted
 
@@ -21,9 +22,11 @@ loop-k-preserved g c =
     let inside : c.loop-k.k < length c.args.outputs.now = omega (arith, c.loop-k-test.true, c.requires) in
     rw c.some_after-some.ensures
     (piece_given _ _ _ _ _ _ _ _ _
-    (notes_at c.loop-k.some c.args.labels.now c.args.outputs.now c.args.values.now c.loop-k.k c.index-outputs-k.result c.index-outputs-k.result c.index-values-k.result c.index-values-k.result
+    (notes_at c.loop-k.some c.args.labels.now c.args.outputs.now c.args.values.now c.loop-k.k c.index-outputs-k.result c.index-outputs-k.result
+    c.index-values-k.result c.index-values-k.result
     (option_copied c.output_note-note.result) inside c.loop-k-test.true c.index-outputs-k.is c.index-values-k.is c.output_note-note.ensures)
     c.loop-k.invariant gave.all gave.faultless)
 
 pub returns : goal.returns
-returns g c = all_given _ _ _ _ _ _ tt refl (rw (notes_end c.loop-k.some c.args.labels.now c.args.outputs.now c.args.values.now c.loop-k.k c.loop-k-test.false) at c.loop-k.invariant)
+returns g c = all_given _ _ _ _ _ _ tt refl (rw (notes_end c.loop-k.some c.args.labels.now c.args.outputs.now c.args.values.now c.loop-k.k c.loop-k-test.false)
+    at c.loop-k.invariant)

@@ -38,7 +38,8 @@ returns-in_err-give_empties g c =
     let gave-3 = c.in_ok-give_pieces-2.ensures in
     let failed = c.in_err-give_empties.ensures in
     piece_failed _ _ _ _ _ _ _ _ _ _ _ p.1 refl
-    (piece_given _ _ _ _ _ _ _ _ _ refl (piece_given _ _ _ _ _ _ _ _ _ refl (piece_given _ _ _ _ _ _ _ _ _ refl (none_given _ _ _ _) gave-1.all gave-1.faultless) gave-2.all gave-2.faultless) gave-3.all gave-3.faultless)
+    (piece_given _ _ _ _ _ _ _ _ _ refl (piece_given _ _ _ _ _ _ _ _ _ refl
+    (piece_given _ _ _ _ _ _ _ _ _ refl (none_given _ _ _ _) gave-1.all gave-1.faultless) gave-2.all gave-2.faultless) gave-3.all gave-3.faultless)
     failed.failed failed.prefix failed.counted
 
 pub returns : goal.returns
@@ -48,5 +49,7 @@ returns g c =
     let gave-3 = c.in_ok-give_pieces-2.ensures in
     let gave-4 = c.in_ok-give_empties.ensures in
     last_given _ _ _ _ _ _ _ _
-    (piece_given _ _ _ _ _ _ _ _ _ refl (piece_given _ _ _ _ _ _ _ _ _ refl (piece_given _ _ _ _ _ _ _ _ _ refl (piece_given _ _ _ _ _ _ _ _ _ refl (none_given _ _ _ _) gave-1.all gave-1.faultless) gave-2.all gave-2.faultless) gave-3.all gave-3.faultless) gave-4.all gave-4.faultless)
+    (piece_given _ _ _ _ _ _ _ _ _ refl (piece_given _ _ _ _ _ _ _ _ _ refl
+    (piece_given _ _ _ _ _ _ _ _ _ refl (piece_given _ _ _ _ _ _ _ _ _ refl (none_given _ _ _ _) gave-1.all gave-1.faultless) gave-2.all gave-2.faultless)
+    gave-3.all gave-3.faultless) gave-4.all gave-4.faultless)
     c.give_pieces-3.ensures

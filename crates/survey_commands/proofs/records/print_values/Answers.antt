@@ -36,5 +36,6 @@ returns g c =
     let gave-2 = c.in_ok-give_notes.ensures in
     let gave-3 = c.in_ok-give_values.ensures in
     last_given _ _ _ _ _ _ _ _
-    (piece_given _ _ _ _ _ _ _ _ _ refl (piece_given _ _ _ _ _ _ _ _ _ refl (piece_given _ _ _ _ _ _ _ _ _ refl (none_given _ _ _ _) gave-1.all gave-1.faultless) gave-2.all gave-2.faultless) gave-3.all gave-3.faultless)
+    (piece_given _ _ _ _ _ _ _ _ _ refl (piece_given _ _ _ _ _ _ _ _ _ refl
+    (piece_given _ _ _ _ _ _ _ _ _ refl (none_given _ _ _ _) gave-1.all gave-1.faultless) gave-2.all gave-2.faultless) gave-3.all gave-3.faultless)
     c.give_pieces-2.ensures

@@ -10,7 +10,8 @@ returns-in_err-print_output g c =
     let gave = c.in_err-print_output.ensures in
     let shown : c.loop-k.k < length c.args.outputs.now = omega (arith, c.loop-k-test.true, c.requires) in
     piece_failed _ _ _ _ _ _ _ _ _ _ _ p.1
-    (outputs_at c.args.labels.now c.args.outputs.now c.args.values.now c.loop-k.k c.index-outputs-k.result c.index-outputs-k.result c.index-values-k.result c.index-values-k.result
+    (outputs_at c.args.labels.now c.args.outputs.now c.args.values.now c.loop-k.k c.index-outputs-k.result c.index-outputs-k.result c.index-values-k.result
+    c.index-values-k.result
     shown c.loop-k-test.true c.index-outputs-k.is c.index-values-k.is)
     c.loop-k.invariant gave.failed gave.prefix gave.counted
 
@@ -19,7 +20,8 @@ loop-k-preserved g c =
     let gave = c.in_ok-print_output.ensures in
     let shown : c.loop-k.k < length c.args.outputs.now = omega (arith, c.loop-k-test.true, c.requires) in
     piece_given _ _ _ _ _ _ _ _ _
-    (outputs_at c.args.labels.now c.args.outputs.now c.args.values.now c.loop-k.k c.index-outputs-k.result c.index-outputs-k.result c.index-values-k.result c.index-values-k.result
+    (outputs_at c.args.labels.now c.args.outputs.now c.args.values.now c.loop-k.k c.index-outputs-k.result c.index-outputs-k.result c.index-values-k.result
+    c.index-values-k.result
     shown c.loop-k-test.true c.index-outputs-k.is c.index-values-k.is)
     c.loop-k.invariant gave.all gave.faultless
 

@@ -5,4 +5,5 @@ use Rattle.value_sheet.proofs.build.input_rows_of.Goals as goal
 
 pub returns : goal.returns
 returns c =
-    IfOk-weaker _ _ _ (λ rows is. input_rows_are c.args.inputs c.args.nodes.now rows c.deref.result.now (c.deref.ensures.value ∙ c.in_ok-sources.ensures) is) c.of_sources.ensures
+    IfOk-weaker _ _ _ (λ rows is. input_rows_are c.args.inputs c.args.nodes.now rows c.deref.result.now (c.deref.ensures.value ∙ c.in_ok-sources.ensures) is)
+    c.of_sources.ensures

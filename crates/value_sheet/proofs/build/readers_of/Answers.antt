@@ -10,4 +10,5 @@ of_sources-requires-clause-few c =
 
 pub returns : goal.returns
 returns c =
-    IfOk-weaker _ _ _ (λ rows is. readers_are c.args.nodes.now rows c.deref.result.now (c.deref.ensures.value ∙ c.in_ok-sources.ensures) is) c.of_sources.ensures
+    IfOk-weaker _ _ _ (λ rows is. readers_are c.args.nodes.now rows c.deref.result.now (c.deref.ensures.value ∙ c.in_ok-sources.ensures) is)
+    c.of_sources.ensures

@@ -19,7 +19,8 @@ loop-edge-preserved c =
     let next = subst (λ y. IsNext c.args.sources.now y (c.loop-edge.edge + 1) (get_or c.args.nexts.now c.loop-edge.edge 0)) own
     (c.requires.chain.next c.loop-edge.edge (omega arith) lt (omega (arith, own, c.requires.source))) in
     record {
-      rest = row_more c.args.per c.args.source c.loop-edge.edge _ c.args.sources.now c.loop-edge.targets.items c.push.new.self.items _ lt own next c.in_ok-push.ensures.items c.loop-edge.invariant.rest;
+      rest = row_more c.args.per c.args.source c.loop-edge.edge _ c.args.sources.now c.loop-edge.targets.items c.push.new.self.items _ lt own next
+          c.in_ok-push.ensures.items c.loop-edge.invariant.rest;
       within = next.within;
       is = next.is;
     }

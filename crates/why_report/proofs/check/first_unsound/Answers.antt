@@ -5,5 +5,6 @@ use Rattle.why_report.proofs.check.first_unsound.Goals as goal
 
 pub overflow_cast-result : goal.overflow_cast-result
 overflow_cast-result c =
-    let few = reported-few c.args.base.now (environment c.args.env.now) c.args.lines.now c.loop-position.position c.loop-position.invariant.1 (omega (arith, c.loop-position-test.true)) c.requires.cells in
+    let few = reported-few c.args.base.now (environment c.args.env.now) c.args.lines.now c.loop-position.position c.loop-position.invariant.1
+    (omega (arith, c.loop-position-test.true)) c.requires.cells in
     omega arith

@@ -16,5 +16,8 @@ pub mark_term-mark_steps-requires : goal.mark_term-mark_steps-requires
 mark_term-mark_steps-requires t c =
     rw c.deref-in-Chain-2.ensures.value (
       omega (arith, sizes_fall c.in-Chain.steps.items, ap nodes c.term.view_is, ap (λ n. nodes (tree_of n)) c.in-Chain.is),
-      ((subst (λ tree. IsWithin (length c.args.spots.now) tree) (sym c.term.view_is ∙ ap tree_of c.in-Chain.is) c.requires.within).1, c.mark_term-in-Chain.ensures.marking),
+      (
+        (subst (λ tree. IsWithin (length c.args.spots.now) tree) (sym c.term.view_is ∙ ap tree_of c.in-Chain.is) c.requires.within).1,
+        c.mark_term-in-Chain.ensures.marking,
+      ),
     )

@@ -18,23 +18,30 @@ loop-spot-init c =
 
 pub index-found-requires : goal.index-found-requires
 index-found-requires c =
-    let room = pass-room c.args.ordered.now c.args.cell c.args.plan.now c.loop-spot.marked c.loop-spot.known c.loop-spot.needed c.loop-spot.from c.loop-spot.at c.in-Some.spot c.loop-spot.invariant c.in-Some.ensures.next.from c.in-Some.ensures.within.0 in
+    let room = pass-room c.args.ordered.now c.args.cell c.args.plan.now c.loop-spot.marked c.loop-spot.known c.loop-spot.needed c.loop-spot.from c.loop-spot.at
+    c.in-Some.spot c.loop-spot.invariant c.in-Some.ensures.next.from c.in-Some.ensures.within.0 in
     omega (arith, room.2, down-length c.args.ordered.now c.requires.valid c.requires.order, ap length c.requires.plan.cells, c.args.plan.now.cells.ok)
 
 pub mark_read-requires-clause-cell : goal.mark_read-requires-clause-cell
 mark_read-requires-clause-cell c =
-    let room = pass-room c.args.ordered.now c.args.cell c.args.plan.now c.loop-spot.marked c.loop-spot.known c.loop-spot.needed c.loop-spot.from c.loop-spot.at c.in-Some.spot c.loop-spot.invariant c.in-Some.ensures.next.from c.in-Some.ensures.within.0 in
-    (found-cell c.args.ordered.now c.args.plan.now c.in-Some.spot c.index-found.result.now _ c.requires.valid c.requires.order c.requires.plan room.2 c.index-found.ensures).1
+    let room = pass-room c.args.ordered.now c.args.cell c.args.plan.now c.loop-spot.marked c.loop-spot.known c.loop-spot.needed c.loop-spot.from c.loop-spot.at
+    c.in-Some.spot c.loop-spot.invariant c.in-Some.ensures.next.from c.in-Some.ensures.within.0 in
+    (found-cell c.args.ordered.now c.args.plan.now c.in-Some.spot c.index-found.result.now _ c.requires.valid c.requires.order c.requires.plan room.2
+    c.index-found.ensures).1
 
 pub loop-spot-preserved : goal.loop-spot-preserved
 loop-spot-preserved c =
     let ordered = c.args.ordered.now in
     let plan = c.args.plan.now in
-    let room = pass-room ordered c.args.cell plan c.loop-spot.marked c.loop-spot.known c.loop-spot.needed c.loop-spot.from c.loop-spot.at c.in-Some.spot c.loop-spot.invariant c.in-Some.ensures.next.from c.in-Some.ensures.within.0 in
-    let found = found-cell ordered plan c.in-Some.spot c.index-found.result.now _ c.requires.valid c.requires.order c.requires.plan room.2 c.index-found.ensures in
-    pass-turn ordered c.args.cell plan c.loop-spot.marked c.mark_read.new.marked c.loop-spot.known c.mark_read.new.known c.loop-spot.needed c.loop-spot.from c.loop-spot.at c.in-Some.spot c.index-found.result.now
+    let room = pass-room ordered c.args.cell plan c.loop-spot.marked c.loop-spot.known c.loop-spot.needed c.loop-spot.from c.loop-spot.at c.in-Some.spot
+    c.loop-spot.invariant c.in-Some.ensures.next.from c.in-Some.ensures.within.0 in
+    let found = found-cell ordered plan c.in-Some.spot c.index-found.result.now _ c.requires.valid c.requires.order c.requires.plan room.2
+    c.index-found.ensures in
+    pass-turn ordered c.args.cell plan c.loop-spot.marked c.mark_read.new.marked c.loop-spot.known c.mark_read.new.known c.loop-spot.needed c.loop-spot.from
+    c.loop-spot.at c.in-Some.spot c.index-found.result.now
     c.requires.valid c.requires.order c.requires.plan c.loop-spot.invariant c.in-Some.ensures.next c.in-Some.ensures.within.0 found.0
-    (subst (λ (spots : List ℕ). Marks spots c.loop-spot.marked c.mark_read.new.marked (cell_reads ordered.base c.index-found.result.now)) c.deref-in-Some-2.ensures.value c.mark_read.ensures.marks)
+    (subst (λ (spots : List ℕ). Marks spots c.loop-spot.marked c.mark_read.new.marked (cell_reads ordered.base c.index-found.result.now))
+    c.deref-in-Some-2.ensures.value c.mark_read.ensures.marks)
     (subst (λ (spots : List ℕ). IsMarking spots c.mark_read.new.marked c.mark_read.new.known) c.deref-in-Some-2.ensures.value c.mark_read.ensures.marking)
 
 pub returns-clause-needed : goal.returns-clause-needed

@@ -7,4 +7,5 @@ pub returns : goal.returns
 returns c =
     let n = get_or c.args.places.now c.args.cell 0 in
     ap (λ (x : Definition). Some x.1) (sym c.index-as_slice-place.is)
-    ∙ (place-term c.args.base.now c.as_slice.result.now c.args.cell n c.index-as_slice-place.result (c.requires.places.each c.args.cell c.requires.cell) c.if-place-eq0.false c.as_slice.ensures c.index-as_slice-place.is).1
+    ∙ (place-term c.args.base.now c.as_slice.result.now c.args.cell n c.index-as_slice-place.result (c.requires.places.each c.args.cell c.requires.cell)
+    c.if-place-eq0.false c.as_slice.ensures c.index-as_slice-place.is).1

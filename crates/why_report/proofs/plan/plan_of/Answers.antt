@@ -8,7 +8,8 @@ use Rattle.why_report.proofs.plan.plan_of.Goals as goal
 pub spots_of-requires-clause-once : goal.spots_of-requires-clause-once
 spots_of-requires-clause-once c =
     let ordered = c.args.ordered.now in
-    subst AreDistinctCells (sym (c.deref-2.ensures.value ∙ c.in_ok-cells.ensures)) (down-distinct ordered.base (cells_down ordered) (all-left ordered c.requires.valid c.requires.order).down)
+    subst AreDistinctCells (sym (c.deref-2.ensures.value ∙ c.in_ok-cells.ensures))
+    (down-distinct ordered.base (cells_down ordered) (all-left ordered c.requires.valid c.requires.order).down)
 
 pub spots_of-requires-clause-within : goal.spots_of-requires-clause-within
 spots_of-requires-clause-within c =

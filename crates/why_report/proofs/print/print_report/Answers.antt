@@ -23,4 +23,5 @@ loop-line-preserved g c =
 
 pub returns : goal.returns
 returns g c =
-    all_given _ _ _ _ _ _ tt refl (rw (ap (report_text c.args.symbols.now) (drop_all c.loop-line.line-index c.args.lines.now (omega (arith, c.loop-line-test.false)))) at c.loop-line.invariant)
+    all_given _ _ _ _ _ _ tt refl (rw (ap (report_text c.args.symbols.now)
+    (drop_all c.loop-line.line-index c.args.lines.now (omega (arith, c.loop-line-test.false)))) at c.loop-line.invariant)

@@ -4,7 +4,8 @@ use Rattle.why_report.proofs.standing.rest_is_marked.Goals as goal
 
 pub returns-then-not-marks-first : goal.returns-then-not-marks-first
 returns-then-not-marks-first c =
-    sym (run-not c.args.marks.now c.args.first c.args.size (c.args.first + c.loop-passed.passed) (omega arith) (omega (arith, c.loop-passed-test.true)) c.if-not-marks-first.true)
+    sym (run-not c.args.marks.now c.args.first c.args.size (c.args.first + c.loop-passed.passed) (omega arith) (omega (arith, c.loop-passed-test.true))
+    c.if-not-marks-first.true)
 
 pub returns : goal.returns
 returns c =

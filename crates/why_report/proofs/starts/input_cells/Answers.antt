@@ -14,7 +14,8 @@ loop-number-preserved c =
     let low : n < length vs = omega (arith, c.loop-number-test.true, c.loop-number.auto.number-end, c.count-number-end.ensures) in
     elim c.if-is_input.branch [
       | then-is_input+in_ok-push w ↦
-          rw w.cells-is (rw w.in_ok-push.ensures.items (cells-taken vs n v cells whole low c.variable-variable.ensures (sym c.is_input.ensures ∙ w.if-is_input.true) c.loop-number.invariant))
+          rw w.cells-is (rw w.in_ok-push.ensures.items (cells-taken vs n v cells whole low c.variable-variable.ensures (sym c.is_input.ensures
+          ∙ w.if-is_input.true) c.loop-number.invariant))
       | else-is_input w ↦
           rw w.cells-is (cells-passed vs n v cells whole low c.variable-variable.ensures (sym c.is_input.ensures ∙ w.if-is_input.false) c.loop-number.invariant)
     ]

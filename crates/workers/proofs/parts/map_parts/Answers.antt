@@ -11,7 +11,8 @@ pub collect-requires-clause-ready : goal.collect-requires-clause-ready
 collect-requires-clause-ready g c κs within =
     let ends = c.into_par_iter.ensures in
     let inside = nat_range-All (λ n. n * c.args.size < length c.args.items.now) 0 c.part_count.result (λ n low high. c.part_count.ensures.inside n high) in
-    rw (c.map.ensures.base, c.map.ensures.f, c.with_min_len.ensures.base, ends.0, ends.1) (λ k d lt. ((c.requires.size, inside k d lt, c.requires.accepts), λ y p. tt))
+    rw (c.map.ensures.base, c.map.ensures.f, c.with_min_len.ensures.base, ends.0, ends.1)
+    (λ k d lt. ((c.requires.size, inside k d lt, c.requires.accepts), λ y p. tt))
 
 pub returns : goal.returns
 returns g c =

@@ -20,7 +20,8 @@ pub chain-requires-clause-chained : goal.chain-requires-clause-chained
 chain-requires-clause-chained c =
     let self = c.args.self.now in
     let e : c.len-count.result ≡ length self.nodes.items = c.len-count.ensures ∙ self.nodes.ok.0 in
-    let t = longer-table self.key self.nodes.items self.links.items c.truncate.new.self.items c.append.new.list.items self.heads.items c.len-count.result c.args.hash
+    let t = longer-table self.key self.nodes.items self.links.items c.truncate.new.self.items c.append.new.list.items self.heads.items c.len-count.result
+    c.args.hash
     e c.truncate.ensures.items c.in_ok-append.ensures.ok c.requires.table in
     subst (AreChained c.deref_mut.result.now c.deref_mut-2.result.now) (sym e)
     (subst (λ links. AreChained links c.deref_mut-2.result.now (length self.nodes.items)) (sym c.deref_mut.ensures.value)
@@ -36,7 +37,8 @@ returns-clause-table c =
     let heads = take self.heads.len (new' ++ drop (length new') self.heads.items) in
     let whole : links ≡ new = take_at new _ c.append.new.list.len (c.chain.ensures.links ∙ c.deref_mut.ensures.len) in
     let whole' : heads ≡ new' = take_at new' _ self.heads.len (c.chain.ensures.heads ∙ c.deref_mut-2.ensures.len) in
-    let t = table-added self.key self.nodes.items c.args.node.now self.links.items c.truncate.new.self.items c.append.new.list.items new self.heads.items new' c.len-count.result c.args.hash
+    let t = table-added self.key self.nodes.items c.args.node.now self.links.items c.truncate.new.self.items c.append.new.list.items new self.heads.items new'
+    c.len-count.result c.args.hash
     e c.truncate.ensures.items c.in_ok-append.ensures.ok c.requires.hash c.requires.room
     (c.chain.ensures.links ∙ ap length c.deref_mut.ensures.value) (c.chain.ensures.heads ∙ ap length c.deref_mut-2.ensures.value)
     (λ j. c.chain.ensures.hashes j ∙ ap (λ xs. (link_at xs j).hash) c.deref_mut.ensures.value) c.chain.ensures.chained c.requires.table in

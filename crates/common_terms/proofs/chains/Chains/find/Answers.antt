@@ -26,7 +26,8 @@ loop-left-smaller c =
     let linked : length self.nodes.items ≤ length self.links.items = c.requires.table.linked in
     let e : left ≡ suc (left - 1) = omega arith in
     let lt : left - 1 < length self.links.items = omega arith in
-    (search-next self.key self.nodes.items self.links.items self.heads.items c.args.node.now (c.args.hash % m) left (left - 1) c.index.result.now.next c.requires.table
+    (search-next self.key self.nodes.items self.links.items self.heads.items c.args.node.now (c.args.hash % m) left (left - 1) c.index.result.now.next
+    c.requires.table
     (ap (λ x. x % m) c.requires.hash) e (c.is_here.ensures.no c.if-is_here.false)
     (ap (λ (l : Link). l.next) (get_or_read self.links.items (left - 1) c.index.result.now lt c.index.ensures no-link)) c.loop-left.invariant).1
 
@@ -40,6 +41,7 @@ loop-left-preserved c =
     let linked : length self.nodes.items ≤ length self.links.items = c.requires.table.linked in
     let e : left ≡ suc (left - 1) = omega arith in
     let lt : left - 1 < length self.links.items = omega arith in
-    (search-next self.key self.nodes.items self.links.items self.heads.items c.args.node.now (c.args.hash % m) left (left - 1) c.index.result.now.next c.requires.table
+    (search-next self.key self.nodes.items self.links.items self.heads.items c.args.node.now (c.args.hash % m) left (left - 1) c.index.result.now.next
+    c.requires.table
     (ap (λ x. x % m) c.requires.hash) e (c.is_here.ensures.no c.if-is_here.false)
     (ap (λ (l : Link). l.next) (get_or_read self.links.items (left - 1) c.index.result.now lt c.index.ensures no-link)) c.loop-left.invariant).0

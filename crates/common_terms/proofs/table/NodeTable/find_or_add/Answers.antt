@@ -4,7 +4,8 @@ use Rattle.common_terms.proofs.table.NodeTable.find_or_add.Goals as goal
 
 pub returns-clause-apart : goal.returns-clause-apart
 returns-clause-apart c =
-    apart-either c.find_or_add.result c.self.inside.chains.nodes.items c.find_or_add.new.self.nodes.items c.args.node c.self.invariant.1 c.find_or_add.ensures.entered c.find_or_add.ensures.err
+    apart-either c.find_or_add.result c.self.inside.chains.nodes.items c.find_or_add.new.self.nodes.items c.args.node c.self.invariant.1
+    c.find_or_add.ensures.entered c.find_or_add.ensures.err
 
 pub invariant_of-self : goal.invariant_of-self
 invariant_of-self c =

@@ -24,7 +24,8 @@ pub invariant_of-self : goal.invariant_of-self
 invariant_of-self c =
     let s = c.self.inside in
     let below : c.args.k < s.count = omega (arith, ap length c.self.view_is, length-members s.words.items s.count, c.requires) in
-    rw (c.set_bit.ensures, c.set_bit-2.ensures, c.set_bit-3.ensures) (layered_with s.words.items s.summary.items s.top.items s.count c.args.k c.self.invariant below)
+    rw (c.set_bit.ensures, c.set_bit-2.ensures, c.set_bit-3.ensures) (layered_with s.words.items s.summary.items s.top.items s.count c.args.k c.self.invariant
+    below)
 
 pub returns : goal.returns
 returns c =

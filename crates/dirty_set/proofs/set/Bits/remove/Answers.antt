@@ -25,20 +25,23 @@ invariant_of-self c =
     let s = c.self.inside in
     let below : c.args.k < s.count = omega (arith, ap length c.self.view_is, length-members s.words.items s.count, c.requires) in
     rw (c.clear_bit.ensures.words, c.clear_bit-then-clear_bit.ensures.words, c.clear_bit-then-clear_bit-2.ensures.words)
-    (layered_emptied s.words.items s.summary.items s.top.items s.count c.args.k c.self.invariant below (sym c.if-clear_bit.ensures.zero) (sym c.if-clear_bit-2.ensures.zero))
+    (layered_emptied s.words.items s.summary.items s.top.items s.count c.args.k c.self.invariant below (sym c.if-clear_bit.ensures.zero)
+    (sym c.if-clear_bit-2.ensures.zero))
 
 pub invariant_of-self-else-clear_bit-2 : goal.invariant_of-self-else-clear_bit-2
 invariant_of-self-else-clear_bit-2 c =
     let s = c.self.inside in
     let below : c.args.k < s.count = omega (arith, ap length c.self.view_is, length-members s.words.items s.count, c.requires) in
     rw (c.clear_bit.ensures.words, c.clear_bit-then-clear_bit.ensures.words)
-    (layered_cleared s.words.items s.summary.items s.top.items s.count c.args.k c.self.invariant below (sym c.if-clear_bit.ensures.zero) (sym c.if-clear_bit-2.ensures.zero))
+    (layered_cleared s.words.items s.summary.items s.top.items s.count c.args.k c.self.invariant below (sym c.if-clear_bit.ensures.zero)
+    (sym c.if-clear_bit-2.ensures.zero))
 
 pub invariant_of-self-else-clear_bit : goal.invariant_of-self-else-clear_bit
 invariant_of-self-else-clear_bit c =
     let s = c.self.inside in
     let below : c.args.k < s.count = omega (arith, ap length c.self.view_is, length-members s.words.items s.count, c.requires) in
-    rw c.clear_bit.ensures.words (layered_without s.words.items s.summary.items s.top.items s.count c.args.k c.self.invariant below (sym c.if-clear_bit.ensures.zero))
+    rw c.clear_bit.ensures.words (layered_without s.words.items s.summary.items s.top.items s.count c.args.k c.self.invariant below
+    (sym c.if-clear_bit.ensures.zero))
 
 pub returns-then-clear_bit-2 : goal.returns-then-clear_bit-2
 returns-then-clear_bit-2 c =

@@ -14,7 +14,8 @@ returns-clause-added c =
     let new = c.add_cell.new.groups in
     added c.args.self.now.attributes c.number_of.new.attributes old new c.args.attribute.now n c.args.value c.args.cell c.in_ok-number.ensures
     (subst (λ (x : ℤ). cells_of (get key_order new (n, x)) ≡ cells_of (get key_order old (n, x)) ++ c.args.cell ∷ []) e c.in_ok-add_cell.ensures.here)
-    (subst (λ (x : ℤ). (m : ℕ) (v : ℤ) → is_eq (key_order (n, x) (m, v)) ≡ false → get key_order new (m, v) ≡ get key_order old (m, v)) e c.in_ok-add_cell.ensures.others)
+    (subst (λ (x : ℤ). (m : ℕ) (v : ℤ) → is_eq (key_order (n, x) (m, v)) ≡ false → get key_order new (m, v) ≡ get key_order old (m, v)) e
+    c.in_ok-add_cell.ensures.others)
     c.requires
 
 pub returns-clause-numbered : goal.returns-clause-numbered
@@ -25,5 +26,6 @@ returns-clause-numbered c =
     let new = c.add_cell.new.groups in
     still-numbered c.args.self.now.attributes c.number_of.new.attributes old new c.args.attribute.now n c.args.value c.args.cell c.in_ok-number.ensures
     (subst (λ (x : ℤ). cells_of (get key_order new (n, x)) ≡ cells_of (get key_order old (n, x)) ++ c.args.cell ∷ []) e c.in_ok-add_cell.ensures.here)
-    (subst (λ (x : ℤ). (m : ℕ) (v : ℤ) → is_eq (key_order (n, x) (m, v)) ≡ false → get key_order new (m, v) ≡ get key_order old (m, v)) e c.in_ok-add_cell.ensures.others)
+    (subst (λ (x : ℤ). (m : ℕ) (v : ℤ) → is_eq (key_order (n, x) (m, v)) ≡ false → get key_order new (m, v) ≡ get key_order old (m, v)) e
+    c.in_ok-add_cell.ensures.others)
     c.requires

@@ -11,7 +11,8 @@ invariant-loop-left l = record {
   within : l.left ≤ length l.pairs;
   numbered : IsNumbered l.self;
   seen : (a : List ℕ) → has a l.seen ≡ is_some (last_value a (drop l.left l.pairs));
-  added : (a : List ℕ) (v : ℤ) → group_in l.self a v ≡ group_in l.fn.self a v ++ cond (is_one_of (last_value a (drop l.left l.pairs)) (v ∷ [])) (l.cell ∷ []) [];
+  added : (a : List ℕ) (v : ℤ) → group_in l.self a v ≡ group_in l.fn.self a v ++ cond (is_one_of (last_value a (drop l.left l.pairs)) (v ∷ [])) (l.cell ∷ [])
+      [];
 }
 
 abbrev pub decreases-loop-left : goal.decreases-loop-left

@@ -11,6 +11,8 @@ returns-clause-valid c =
     let size : length c.args.self.nodes ≡ length c.from_vec.result = ap (λ (d : Draft). length d.nodes) (sym c.self.view_is) ∙ ap length (sym nodes) in
     record {
       nodes = subst (AreNodes c.self.inside.parts.inputs 0) (sym nodes) (are-nodes c.self.inside.parts.inputs c.self.inside.parts.nodes c.self.invariant.valid);
-      checks = subst (λ n. AllByRecursion (IsCheck n) c.from_vec-2.result) size (subst (AllByRecursion (IsCheck (length c.args.self.nodes))) (sym c.from_vec-2.ensures) c.requires.checks);
-      outputs = subst (λ n. AllByRecursion (λ output. output < n) c.from_vec-3.result) size (subst (AllByRecursion (λ output. output < length c.args.self.nodes)) (sym c.from_vec-3.ensures) c.requires.outputs);
+      checks = subst (λ n. AllByRecursion (IsCheck n) c.from_vec-2.result) size
+          (subst (AllByRecursion (IsCheck (length c.args.self.nodes))) (sym c.from_vec-2.ensures) c.requires.checks);
+      outputs = subst (λ n. AllByRecursion (λ output. output < n) c.from_vec-3.result) size
+          (subst (AllByRecursion (λ output. output < length c.args.self.nodes)) (sym c.from_vec-3.ensures) c.requires.outputs);
     }

@@ -29,8 +29,10 @@ returns-in-Some-clause-denoted c =
     let nodes = c.args.self.now.nodes in
     let node = c.normalised-node.result in
     let new = c.enter.new.self.nodes in
-    let early : IsNode count (length nodes) node = subst (IsNode count (length nodes)) (sym c.normalised-node.ensures) (normal-node count (length nodes) c.args.node c.requires.node) in
-    let one : one_value (entry_of facts (entries_of facts nodes) node) ≡ Some c.in-Some.value = ap one_value (sym c.fact_of_node-fact.ensures.is) ∙ sym c.value_alone.ensures ∙ c.in-Some.is in
+    let early : IsNode count (length nodes) node = subst (IsNode count (length nodes)) (sym c.normalised-node.ensures)
+    (normal-node count (length nodes) c.args.node c.requires.node) in
+    let one : one_value (entry_of facts (entries_of facts nodes) node) ≡ Some c.in-Some.value = ap one_value (sym c.fact_of_node-fact.ensures.is)
+    ∙ sym c.value_alone.ensures ∙ c.in-Some.is in
     ok-both c.enter.result (λ k. k < length new) (λ k. node_at new k ≡ Lit c.in-Some.value) (Denotes new c.args.node)
     (λ k lt is. denoted-normal new c.args.node k (subst (λ node. Denotes new node k) c.normalised-node.ensures
     (denoted-literal count nodes new node c.in-Some.value k c.requires.built.valid c.enter.ensures.built.valid c.enter.ensures.grows early one lt is)))
@@ -41,9 +43,11 @@ returns-clause-denoted c =
     let new = c.enter-2.new.self.nodes in
     let node = c.normalised-node.result in
     ok-both c.enter-2.result (λ k. k < length new) (λ k. node_at new k ≡ node) (Denotes new c.args.node)
-    (λ k lt is. denoted-normal new c.args.node k (denoted-node c.args.self.now.inputs new (normalised c.args.node) k c.enter-2.ensures.built.valid lt (is ∙ c.normalised-node.ensures)))
+    (λ k lt is. denoted-normal new c.args.node k (denoted-node c.args.self.now.inputs new (normalised c.args.node) k c.enter-2.ensures.built.valid lt (is
+    ∙ c.normalised-node.ensures)))
     c.enter-2.ensures.within c.enter-2.ensures.node
 
 pub returns-in-Some-simple-clause-denoted : goal.returns-in-Some-simple-clause-denoted
 returns-in-Some-simple-clause-denoted c =
-    denoted-normal c.args.self.now.nodes c.args.node c.in-Some-simple.number (subst (λ node. Denotes c.args.self.now.nodes node c.in-Some-simple.number) c.normalised-node.ensures c.in-Some-simple.ensures.some)
+    denoted-normal c.args.self.now.nodes c.args.node c.in-Some-simple.number (subst (λ node. Denotes c.args.self.now.nodes node c.in-Some-simple.number)
+    c.normalised-node.ensures c.in-Some-simple.ensures.some)

@@ -11,7 +11,8 @@ returns-in-Some-clause-some c =
     let nodes = c.args.self.now.nodes in
     let h = c.requires.node in
     subst (Denotes nodes (Do Choose c.args.a c.args.b c.args.c)) (sym c.choice_of.ensures)
-    (denoted-literal-choice c.args.self.now.inputs nodes c.args.a c.args.b c.args.c c.in-Some.value c.requires.built.valid h.0 h.1 h.2 (sym c.node_at.ensures ∙ c.in-Some.ensures.some))
+    (denoted-literal-choice c.args.self.now.inputs nodes c.args.a c.args.b c.args.c c.in-Some.value c.requires.built.valid h.0 h.1 h.2 (sym c.node_at.ensures
+    ∙ c.in-Some.ensures.some))
 
 pub returns-then-is_decided-clause-some : goal.returns-then-is_decided-clause-some
 returns-then-is_decided-clause-some c =

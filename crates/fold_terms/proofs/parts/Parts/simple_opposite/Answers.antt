@@ -7,4 +7,5 @@ use Rattle.fold_terms.proofs.parts.Parts.simple_opposite.Goals as goal
 pub returns-clause-some : goal.returns-clause-some
 returns-clause-some c =
     IfSome_then c.opposite_of.result c.opposite_of.ensures.some
-    (λ x n. denoted-opposite c.args.self.now.inputs c.args.self.now.nodes c.args.a c.args.b c.args.c x c.requires.built.valid c.requires.node.0 (subst (λ node. IsOpposite node x) c.node_at.ensures n) c.requires.built.possible)
+    (λ x n. denoted-opposite c.args.self.now.inputs c.args.self.now.nodes c.args.a c.args.b c.args.c x c.requires.built.valid c.requires.node.0
+    (subst (λ node. IsOpposite node x) c.node_at.ensures n) c.requires.built.possible)

@@ -16,4 +16,5 @@ returns-clause-number c =
 
 pub returns-clause-within : goal.returns-clause-within
 returns-clause-within c =
-    subst (λ k. IfSome c.number.result (λ n. n < k)) (sym (length_kept c.self.inside.names c.self.inside.kinds.items c.self.invariant.0) ∙ ap length c.self.view_is) c.number.ensures.within
+    subst (λ k. IfSome c.number.result (λ n. n < k)) (sym (length_kept c.self.inside.names c.self.inside.kinds.items c.self.invariant.0)
+    ∙ ap length c.self.view_is) c.number.ensures.within

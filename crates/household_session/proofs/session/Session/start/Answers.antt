@@ -14,11 +14,13 @@ put_all-requires-clause-none c =
 
 pub put_all-requires-clause-inputs : goal.put_all-requires-clause-inputs
 put_all-requires-clause-inputs c =
-    subst (λ (held : Held). AllByRecursion (λ input. input < held.flat.inputs) (inputs_of c.args.household.now.pairs)) (sym c.in_ok-sheet.ensures) c.requires.inputs
+    subst (λ (held : Held). AllByRecursion (λ input. input < held.flat.inputs) (inputs_of c.args.household.now.pairs)) (sym c.in_ok-sheet.ensures)
+    c.requires.inputs
 
 pub returns-clause-values : goal.returns-clause-values
 returns-clause-values c =
     let pairs = c.args.household.now.pairs in
-    let given = subst (λ n. AreValuesOf c.args.face.inputs (values_of pairs n)) c.requires.face.inputs (pairs_give c.args.face.inputs pairs c.requires.amounts) in
+    let given = subst (λ n. AreValuesOf c.args.face.inputs (values_of pairs n)) c.requires.face.inputs
+    (pairs_give c.args.face.inputs pairs c.requires.amounts) in
     let put = subst (λ (held : Held). AreValuesOf c.args.face.inputs (values_of pairs held.flat.inputs)) (sym c.in_ok-sheet.ensures) given in
     subst (λ (held : Held). AreValuesOf c.args.face.inputs held.now) (sym c.put_all.ensures) put

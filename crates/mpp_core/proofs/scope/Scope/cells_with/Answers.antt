@@ -12,5 +12,6 @@ returns c =
     let declared = c.args.self.now in
     let index = c.self.inside.kinds.value in
     let indexed = subst (λ (d : Declared). IsIndexOf d.variables index) c.self.view_is c.self.invariant in
-    let same = (λ i. ascending (groups_in index (c.bytes.ensures i) (c.as_slice.ensures i))) ∙ kind-is declared index c.args.attribute.now c.args.values.now c.requires indexed in
+    let same = (λ i. ascending (groups_in index (c.bytes.ensures i) (c.as_slice.ensures i)))
+    ∙ kind-is declared index c.args.attribute.now c.args.values.now c.requires indexed in
     subst (λ (l : List ℕ). IfOk c.new.result (λ cells. cells ≡ l)) same c.new.ensures

@@ -9,7 +9,8 @@ seal-requires c =
     let s = c.self.inside in
     let t = c.self.invariant.state in
     let read = subst (λ code. reading code ≡ Some t) c.self.view_is c.self.invariant.read in
-    subst (λ code. code_fault (with_slots code c.self.inside.slots) ≡ None) c.self.view_is (end-whole (listing_of s.inputs s.slots s.labels s.outputs s.pool.items s.used s.packed.items) t c.self.invariant.read (c.if-is_whole.ensures t read))
+    subst (λ code. code_fault (with_slots code c.self.inside.slots) ≡ None) c.self.view_is
+    (end-whole (listing_of s.inputs s.slots s.labels s.outputs s.pool.items s.used s.packed.items) t c.self.invariant.read (c.if-is_whole.ensures t read))
 
 pub returns-else-is_whole : goal.returns-else-is_whole
 returns-else-is_whole c =

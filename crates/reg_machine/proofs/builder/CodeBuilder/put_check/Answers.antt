@@ -7,6 +7,16 @@ use Rattle.reg_machine.proofs.builder.CodeBuilder.put_check.Goals as goal
 pub invariant_of-self-2 : goal.invariant_of-self-2
 invariant_of-self-2 c =
     let s = c.self.inside in
-    let d : Parts = record { inputs = s.inputs; slots = s.slots; labels = s.labels; outs = s.outputs; pool = s.pool.items; used = s.used; packed = s.packed.items; written = s.written; given = s.given } in
+    let d : Parts = record {
+      inputs = s.inputs;
+      slots = s.slots;
+      labels = s.labels;
+      outs = s.outputs;
+      pool = s.pool.items;
+      used = s.used;
+      packed = s.packed.items;
+      written = s.written;
+      given = s.given;
+    } in
     let right = subst (λ code. IsRight code (Check c.args.g c.args.c c.args.over_only c.args.label)) (sym c.self.view_is) c.requires.right in
     rw (c.push_reserved.ensures.items, c.reserve.ensures.items) (draft-check d c.args.g c.args.c c.args.over_only c.args.label c.self.invariant right)

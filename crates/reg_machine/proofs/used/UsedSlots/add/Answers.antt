@@ -11,4 +11,5 @@ invariant_of-self-2 c =
     let s = c.self.inside in
     let away : IsAmong c.args.slot s.used.items → ⊥ = subst (λ (u : List ℕ). IsAmong c.args.slot u → ⊥) (sym c.self.view_is) c.requires.away in
     let at : c.len-number.result ≡ length s.used.items = omega (arith, c.len-number.ensures, s.used.ok.0) in
-    rw (c.push_reserved.ensures.items, c.reserve.ensures.items) (numbered-push s.numbers c.insert.new.self s.used.items c.args.slot c.len-number.result c.self.invariant c.in_ok-insert.ensures.updates at away)
+    rw (c.push_reserved.ensures.items, c.reserve.ensures.items) (numbered-push s.numbers c.insert.new.self s.used.items c.args.slot c.len-number.result
+    c.self.invariant c.in_ok-insert.ensures.updates at away)

@@ -49,7 +49,8 @@ loop-output-preserved c =
     let more = count-gave c.args.node k (suc k) outputs refl below is in
     let same = ap count_some (part-next-output c.args.node (suc k) _ outputs next) in
     record {
-      sound = rw added (sound-skip c.args.node (suc k) _ outputs (sound-gave c.args.node k before.sound (suc k) c.args.register refl below c.requires.within here is) next);
+      sound = rw added (sound-skip c.args.node (suc k) _ outputs (sound-gave c.args.node k before.sound (suc k) c.args.register refl below c.requires.within
+          here is) next);
       within = next.within;
       is = next.is;
       registers = before.registers;

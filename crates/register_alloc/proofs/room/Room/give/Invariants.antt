@@ -10,7 +10,8 @@ invariant-loop-output l = record {
   is : l.output < length l.flat.outputs → slice_index l.flat.outputs l.output ≡ l.fn.node;
   registers : l.self.registers ≡ l.fn.self.registers;
   counts : l.self.code.counts ≡ l.fn.self.code.counts;
-  len : length l.self.code.instrs + count_given l.fn.node l.flat.outputs ≤ length l.fn.self.code.instrs + count_some (given_part l.fn.node l.output l.flat.outputs);
+  len : length l.self.code.instrs + count_given l.fn.node l.flat.outputs ≤ length l.fn.self.code.instrs + count_some
+      (given_part l.fn.node l.output l.flat.outputs);
   loads : (y : ℕ) → loads_of y l.self.code ≡ loads_of y l.fn.self.code;
 }
 

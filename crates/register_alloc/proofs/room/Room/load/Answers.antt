@@ -20,9 +20,15 @@ returns-clause-sound c =
     let away = subst Away (sym c.vacate.ensures.registers) c.requires.away in
     let there = c.in-Some.ensures.found in
     let size : c.in_ok-register.register < length c.vacate.new.self.registers = search rules in
-    rw c.in_ok-add-in-Some.ensures.added (sound-loaded c.vacate.new.self.registers c.in_ok-register.ensures.sound c.in_ok-register.register c.in-Some.slot x c.in_ok-register.ensures.within size there away c.in_ok-register.ensures.spare.1)
+    rw c.in_ok-add-in-Some.ensures.added (sound-loaded c.vacate.new.self.registers c.in_ok-register.ensures.sound c.in_ok-register.register c.in-Some.slot x
+    c.in_ok-register.ensures.within size there away c.in_ok-register.ensures.spare.1)
 
 pub returns-clause-loads : goal.returns-clause-loads
 returns-clause-loads c =
     rw c.in_ok-add-in-Some.ensures.added
-    (λ y. omega (arith, c.in_ok-register.ensures.loads y, loads-load c.in_ok-register.ensures.sound c.in_ok-register.register c.in-Some.slot c.args.x c.in_ok-register.ensures.within c.in-Some.ensures.found y))
+    (λ y. omega (
+      arith,
+      c.in_ok-register.ensures.loads y,
+      loads-load c.in_ok-register.ensures.sound c.in_ok-register.register c.in-Some.slot c.args.x
+          c.in_ok-register.ensures.within c.in-Some.ensures.found y,
+    ))

@@ -21,6 +21,7 @@ loop-check-preserved c =
       counts = after.counts ∙ before.counts;
       short = omega (arith, before.short, after.len);
       loads = λ y.
-          let more = ap (λ m. checks_read flat m y) checked ∙ tests-more flat c.loop-check.at.checked c.in-Some.check c.in-Some.ensures.next c.in-Some.ensures.check y in
+          let more = ap (λ m. checks_read flat m y) checked ∙ tests-more flat c.loop-check.at.checked c.in-Some.check c.in-Some.ensures.next
+          c.in-Some.ensures.check y in
           omega (arith, before.loads y, after.loads y, more);
     }

@@ -24,7 +24,8 @@ returns-in_ok-add-in-None-clause-sound c =
     let lives : live c.in-Some.x ≡ true = sym (ap (is_busy live) c.in-Some.is) ∙ c.requires.busy in
     let slot = c.in_ok-slot-in-None.ensures in
     rw c.in_ok-add-in-None.ensures.added
-    (sound-stored _ _ c.requires.sound _ _ c.in-Some.x slot.within slot.empty slot.set slot.grows c.requires.crowded c.requires.within c.in-Some.is lives c.in-None.ensures.absent)
+    (sound-stored _ _ c.requires.sound _ _ c.in-Some.x slot.within slot.empty slot.set slot.grows c.requires.crowded c.requires.within c.in-Some.is lives
+    c.in-None.ensures.absent)
 
 pub returns-in_ok-add-in-None-clause-loads : goal.returns-in_ok-add-in-None-clause-loads
 returns-in_ok-add-in-None-clause-loads c =

@@ -8,15 +8,36 @@ sources-requires-clause-few c = omega (arith, turn-room c.requires.sound c.requi
 
 pub vacate-requires-clause-few : goal.vacate-requires-clause-few
 vacate-requires-clause-few c =
-    omega (arith, turn-room c.requires.sound c.requires.short, c.in_ok-sources.ensures.len, ap (λ (code : Listing). length code.instrs) c.in_ok-passed.ensures.code)
+    omega (
+      arith,
+      turn-room c.requires.sound c.requires.short,
+      c.in_ok-sources.ensures.len,
+      ap (λ (code : Listing). length code.instrs)
+          c.in_ok-passed.ensures.code,
+    )
 
 pub make-requires-clause-few : goal.make-requires-clause-few
 make-requires-clause-few c =
-    omega (arith, turn-room c.requires.sound c.requires.short, c.in_ok-sources.ensures.len, ap (λ (code : Listing). length code.instrs) c.in_ok-passed.ensures.code, c.in_ok-register.ensures.len)
+    omega (
+      arith,
+      turn-room c.requires.sound c.requires.short,
+      c.in_ok-sources.ensures.len,
+      ap (λ (code : Listing). length code.instrs)
+          c.in_ok-passed.ensures.code,
+      c.in_ok-register.ensures.len,
+    )
 
 pub give-requires-clause-few : goal.give-requires-clause-few
 give-requires-clause-few c =
-    omega (arith, turn-room c.requires.sound c.requires.short, c.in_ok-sources.ensures.len, ap (λ (code : Listing). length code.instrs) c.in_ok-passed.ensures.code, c.in_ok-register.ensures.len, c.in_ok-make.ensures.len)
+    omega (
+      arith,
+      turn-room c.requires.sound c.requires.short,
+      c.in_ok-sources.ensures.len,
+      ap (λ (code : Listing). length code.instrs)
+          c.in_ok-passed.ensures.code,
+      c.in_ok-register.ensures.len,
+      c.in_ok-make.ensures.len,
+    )
 
 pub vacate-requires-clause-crowded : goal.vacate-requires-clause-crowded
 vacate-requires-clause-crowded c =

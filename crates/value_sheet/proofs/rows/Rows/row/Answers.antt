@@ -11,13 +11,25 @@ row_at-requires-clause-within c =
 pub row_at-requires-clause-ends : goal.row_at-requires-clause-ends
 row_at-requires-clause-ends c =
     let s = c.self.inside in
-    let within : c.args.source + 1 < length s.offsets.items = omega (arith, c.requires, ap length c.self.view_is, length-rows_in s.offsets.items s.targets.items) in
+    let within : c.args.source + 1 < length s.offsets.items = omega (
+      arith,
+      c.requires,
+      ap length c.self.view_is,
+      length-rows_in s.offsets.items
+          s.targets.items,
+    ) in
     rw (c.deref.ensures.value, c.deref-2.ensures.value) (c.self.invariant.ends c.args.source within)
 
 pub returns : goal.returns
 returns c =
     let s = c.self.inside in
-    let within : c.args.source + 1 < length s.offsets.items = omega (arith, c.requires, ap length c.self.view_is, length-rows_in s.offsets.items s.targets.items) in
+    let within : c.args.source + 1 < length s.offsets.items = omega (
+      arith,
+      c.requires,
+      ap length c.self.view_is,
+      length-rows_in s.offsets.items
+          s.targets.items,
+    ) in
     c.row_at.ensures ∙ ap (λ (xs : List ℕ). row_in xs c.deref-2.result.now c.args.source) c.deref.ensures.value
     ∙ ap (λ (xs : List ℕ). row_in s.offsets.items xs c.args.source) c.deref-2.ensures.value
     ∙ sym (row_is s.offsets.items s.targets.items c.args.source within)

@@ -13,7 +13,8 @@ invariant_of-result c =
       valid = c.nodes_of-nodes.ensures.valid;
       few = c.requires;
       given = ap length (c.in_ok-inputs.ensures.items_if_clones_equal (λ y h. h)) ∙ length-replicate c.inputs_of-count.result Undef ∙ c.inputs_of-count.ensures;
-      before = ap (λ v. length v.items) c.of-last.ensures ∙ ap length (c.in_ok-inputs.ensures.items_if_clones_equal (λ y h. h)) ∙ length-replicate c.inputs_of-count.result Undef ∙ c.inputs_of-count.ensures;
+      before = ap (λ v. length v.items) c.of-last.ensures ∙ ap length (c.in_ok-inputs.ensures.items_if_clones_equal (λ y h. h))
+          ∙ length-replicate c.inputs_of-count.result Undef ∙ c.inputs_of-count.ensures;
       puts = ap length c.in_ok-puts.ensures ∙ length-replicate c.inputs_of-count.result false ∙ c.inputs_of-count.ensures;
       same = λ n h. ap (λ v. value_at v.items n) c.of-last.ensures;
       right = c.in_ok-kept.ensures ∙ ap (λ vs. node_values vs nodes) c.deref.ensures.value ∙ ap (λ v. node_values v.items nodes) (sym c.of-last.ensures)

@@ -12,18 +12,35 @@ index-requires c =
     let s = c.self.inside in
     let there : c.args.k < length s.tidy.outputs = omega (arith, c.requires.output, ap (λ (held : Held). length held.flat.outputs) c.self.view_is) in
     let within : get_or s.tidy.outputs c.args.k 0 < length s.tidy.nodes =
-    one_of_all (λ output. output < length s.tidy.nodes) s.tidy.outputs c.args.k (get_or s.tidy.outputs c.args.k 0) c.self.invariant.valid.outputs (slice_get-get_or s.tidy.outputs c.args.k 0 there) in
-    omega (arith, within, ap (λ (outputs : List ℕ). get_or outputs c.args.k 0) c.outputs_of.ensures, ap length c.self.invariant.right, length-node_values s.last.value.items s.tidy.nodes, s.kept.ok.0)
+    one_of_all (λ output. output < length s.tidy.nodes) s.tidy.outputs c.args.k (get_or s.tidy.outputs c.args.k 0) c.self.invariant.valid.outputs
+    (slice_get-get_or s.tidy.outputs c.args.k 0 there) in
+    omega (
+      arith,
+      within,
+      ap (λ (outputs : List ℕ). get_or outputs c.args.k 0) c.outputs_of.ensures,
+      ap length c.self.invariant.right,
+      length-node_values
+          s.last.value.items s.tidy.nodes,
+      s.kept.ok.0,
+    )
 
 pub returns : goal.returns
 returns c =
     let s = c.self.inside in
     let there : c.args.k < length s.tidy.outputs = omega (arith, c.requires.output, ap (λ (held : Held). length held.flat.outputs) c.self.view_is) in
     let within : get_or s.tidy.outputs c.args.k 0 < length s.tidy.nodes =
-    one_of_all (λ output. output < length s.tidy.nodes) s.tidy.outputs c.args.k (get_or s.tidy.outputs c.args.k 0) c.self.invariant.valid.outputs (slice_get-get_or s.tidy.outputs c.args.k 0 there) in
+    one_of_all (λ output. output < length s.tidy.nodes) s.tidy.outputs c.args.k (get_or s.tidy.outputs c.args.k 0) c.self.invariant.valid.outputs
+    (slice_get-get_or s.tidy.outputs c.args.k 0 there) in
     let node = get_or c.outputs_of.result.now c.args.k 0 in
     let room : get_or c.outputs_of.result.now c.args.k 0 < length s.kept.items =
-    omega (arith, within, ap (λ (outputs : List ℕ). get_or outputs c.args.k 0) c.outputs_of.ensures, ap length c.self.invariant.right, length-node_values s.last.value.items s.tidy.nodes) in
+    omega (
+      arith,
+      within,
+      ap (λ (outputs : List ℕ). get_or outputs c.args.k 0) c.outputs_of.ensures,
+      ap length c.self.invariant.right,
+      length-node_values
+          s.last.value.items s.tidy.nodes,
+    ) in
     get_or_read s.kept.items node c.index.result.now room c.index.ensures Undef
     ∙ ap (λ (outputs : List ℕ). value_at s.kept.items (get_or outputs c.args.k 0)) c.outputs_of.ensures
     ∙ ap (λ vs. value_at vs (get_or s.tidy.outputs c.args.k 0)) c.self.invariant.right

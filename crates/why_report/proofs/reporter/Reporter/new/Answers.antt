@@ -12,7 +12,8 @@ invariant_of-result c = (
     plan_of = c.in_ok-plan.ensures;
     room_for = c.in_ok-room.ensures;
     each = search rules;
-    within = begun-within c.args.symbols.now c.in_ok-input_cells.input_cells.items c.in_ok-env.env.items c.requires.placed c.in_ok-input_cells.ensures c.in_ok-env.ensures;
+    within = begun-within c.args.symbols.now c.in_ok-input_cells.input_cells.items c.in_ok-env.env.items c.requires.placed c.in_ok-input_cells.ensures
+        c.in_ok-env.ensures;
   },
   omega arith,
 )
@@ -20,11 +21,13 @@ invariant_of-result c = (
 pub returns-clause-begun : goal.returns-clause-begun
 returns-clause-begun c =
     let inputs : c.in_ok-inputs.inputs.items ≡ replicate (length c.in_ok-input_cells.input_cells.items) Undef = search rules in
-    begun-is c.args.ordered c.args.symbols.now c.in_ok-input_cells.input_cells.items c.in_ok-inputs.inputs.items c.in_ok-env.env.items c.requires.placed c.in_ok-input_cells.ensures inputs c.in_ok-env.ensures
+    begun-is c.args.ordered c.args.symbols.now c.in_ok-input_cells.input_cells.items c.in_ok-inputs.inputs.items c.in_ok-env.env.items c.requires.placed
+    c.in_ok-input_cells.ensures inputs c.in_ok-env.ensures
 
 pub returns-clause-start : goal.returns-clause-start
 returns-clause-start c =
     let inputs : c.in_ok-inputs.inputs.items ≡ replicate (length c.in_ok-input_cells.input_cells.items) Undef = search rules in
     subst (IsStart c.args.symbols.now)
-    (sym (begun-is c.args.ordered c.args.symbols.now c.in_ok-input_cells.input_cells.items c.in_ok-inputs.inputs.items c.in_ok-env.env.items c.requires.placed c.in_ok-input_cells.ensures inputs c.in_ok-env.ensures))
+    (sym (begun-is c.args.ordered c.args.symbols.now c.in_ok-input_cells.input_cells.items c.in_ok-inputs.inputs.items c.in_ok-env.env.items c.requires.placed
+    c.in_ok-input_cells.ensures inputs c.in_ok-env.ensures))
     (begun-start c.args.ordered c.args.symbols.now c.requires.placed)

@@ -10,7 +10,8 @@ returns-clause-put c =
     let input = c.args.input in
     let few : input < length inside.inputs.items = subst (λ (h : Reporting). input < length h.inputs) (sym c.self.view_is) c.requires in
     let low : input < length inside.input_cells.items = omega (arith, c.self.invariant.0.each) in
-    let cell : c.index-cell.result.now ≡ get_or inside.input_cells.items input 0 = c.index-cell.ensures ∙ get_or_default inside.input_cells.items input _ 0 low in
+    let cell : c.index-cell.result.now ≡ get_or inside.input_cells.items input 0 = c.index-cell.ensures
+    ∙ get_or_default inside.input_cells.items input _ 0 low in
     let value : c.index.result.now ≡ c.args.v = c.index.ensures ∙ get_or-set_same inside.inputs.items input c.args.v _ few in
     (λ i. record {
       ordered = inside.ordered;
@@ -22,4 +23,5 @@ returns-clause-put c =
     ∙ ap (λ (h : Reporting). with_input h input c.args.v) c.self.view_is
 
 pub returns-clause-start : goal.returns-clause-start
-returns-clause-start c = λ declared is. subst (IsStart declared) (sym (returns-clause-put c)) (put-start declared c.args.self.now c.args.input c.args.v c.requires is)
+returns-clause-start c = λ declared is. subst (IsStart declared) (sym (returns-clause-put c))
+    (put-start declared c.args.self.now c.args.input c.args.v c.requires is)

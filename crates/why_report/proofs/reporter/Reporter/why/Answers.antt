@@ -21,8 +21,14 @@ forget-requires-clause-cells c =
     let same : c.deref.result.now ≡ needed = c.deref.ensures.value ∙ with_items_is c.self.inside.room.needed needed (search (rules, places)) in
     let is = end-slice c.deref.result.now needed (needed_cells ordered c.args.cell) c.find_needed-from.result same c.find_needed-from.ensures.needed in
     let known = c.find_needed-from.new.known in
-    let long : length known ≡ ordered.base.cells = omega (arith, c.find_needed-from.auto.known, ap length c.deref_mut.ensures.value, ready.room_for.known_size) in
-    let size : length c.deref_mut-3.result.now ≡ ordered.base.cells = ap length (c.deref_mut-3.ensures.value ∙ with_items_is c.self.inside.room.known known (search (rules, places))) ∙ long in
+    let long : length known ≡ ordered.base.cells = omega (
+      arith,
+      c.find_needed-from.auto.known,
+      ap length c.deref_mut.ensures.value,
+      ready.room_for.known_size,
+    ) in
+    let size : length c.deref_mut-3.result.now ≡ ordered.base.cells = ap length (c.deref_mut-3.ensures.value
+    ∙ with_items_is c.self.inside.room.known known (search (rules, places))) ∙ long in
     λ k d low. let b = subst (λ (xs : List ℕ). All (λ x. x < ordered.base.cells) xs) (sym is) all k d low in omega (arith, size)
 
 pub fill_lines-requires-clause-cells : goal.fill_lines-requires-clause-cells
@@ -53,13 +59,15 @@ returns-clause-reason c =
     let cells = take (length c.deref.result.now - c.find_needed-from.result) (drop c.find_needed-from.result c.deref.result.now) in
     let low : c.args.cell < inside.ordered.base.cells = subst (λ (h : Reporting). c.args.cell < h.ordered.base.cells) (sym c.self.view_is) c.requires in
     let same : c.deref.result.now ≡ needed = c.deref.ensures.value ∙ with_items_is inside.room.needed needed (search (rules, places)) in
-    let is : cells ≡ needed_cells inside.ordered c.args.cell = end-slice c.deref.result.now needed (needed_cells inside.ordered c.args.cell) c.find_needed-from.result same c.find_needed-from.ensures.needed in
+    let is : cells ≡ needed_cells inside.ordered c.args.cell = end-slice c.deref.result.now needed (needed_cells inside.ordered c.args.cell)
+    c.find_needed-from.result same c.find_needed-from.ensures.needed in
     let are : take (length cells) (with_items inside.room.lines lines).items ≡ why_lines inside.ordered given c.args.cell =
     ap (take (length cells)) (with_items_is inside.room.lines lines (search (rules, places)))
     ∙ c.fill_lines.ensures.lines
     ∙ ap (λ (vs : List Value). lines_over inside.ordered.base (environment vs) [] cells) c.deref-3.ensures.value
     ∙ ap (lines_over inside.ordered.base given []) is in
-    subst (λ (h : Reporting). IsReasonOf h.ordered.base (environment h.env) c.args.cell (take (length cells) (with_items inside.room.lines lines).items)) c.self.view_is
+    subst (λ (h : Reporting). IsReasonOf h.ordered.base (environment h.env) c.args.cell (take (length cells) (with_items inside.room.lines lines).items))
+    c.self.view_is
     (subst (IsReasonOf inside.ordered.base given c.args.cell) (sym are) (why-reason inside.ordered given c.args.cell ready.valid ready.order low))
 
 pub returns-clause-known : goal.returns-clause-known
@@ -71,11 +79,13 @@ returns-clause-known c =
     let lines = c.fill_lines.new.lines in
     let cells = take (length c.deref.result.now - c.find_needed-from.result) (drop c.find_needed-from.result c.deref.result.now) in
     let same : c.deref.result.now ≡ needed = c.deref.ensures.value ∙ with_items_is inside.room.needed needed (search (rules, places)) in
-    let is : cells ≡ needed_cells inside.ordered c.args.cell = end-slice c.deref.result.now needed (needed_cells inside.ordered c.args.cell) c.find_needed-from.result same c.find_needed-from.ensures.needed in
+    let is : cells ≡ needed_cells inside.ordered c.args.cell = end-slice c.deref.result.now needed (needed_cells inside.ordered c.args.cell)
+    c.find_needed-from.result same c.find_needed-from.ensures.needed in
     let are : take (length cells) (with_items inside.room.lines lines).items ≡ why_lines inside.ordered given c.args.cell =
     ap (take (length cells)) (with_items_is inside.room.lines lines (search (rules, places)))
     ∙ c.fill_lines.ensures.lines
     ∙ ap (λ (vs : List Value). lines_over inside.ordered.base (environment vs) [] cells) c.deref-3.ensures.value
     ∙ ap (lines_over inside.ordered.base given []) is in
     subst (λ (h : Reporting). All (λ line. line.cell < h.ordered.base.cells) (take (length cells) (with_items inside.room.lines lines).items)) c.self.view_is
-    (subst (λ (ls : List ReportLine). All (λ line. line.cell < inside.ordered.base.cells) ls) (sym are) (why-below inside.ordered given c.args.cell ready.valid ready.order))
+    (subst (λ (ls : List ReportLine). All (λ line. line.cell < inside.ordered.base.cells) ls) (sym are)
+    (why-below inside.ordered given c.args.cell ready.valid ready.order))

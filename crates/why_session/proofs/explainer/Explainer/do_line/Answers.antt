@@ -13,14 +13,17 @@ pub put-requires : goal.put-requires
 put-requires g c =
     let inside = c.self.inside in
     let parts = c.self.invariant in
-    let low = named_within inside.session.sitting.face.inputs (session_command c.args.line.now) c.in-Some.input (sym c.input_named-named.ensures.named ∙ c.in-Some.is) in
+    let low = named_within inside.session.sitting.face.inputs (session_command c.args.line.now) c.in-Some.input (sym c.input_named-named.ensures.named
+    ∙ c.in-Some.is) in
     omega (arith, low, as_many inside.session.sitting.face.inputs inside.session.sitting.values parts.values, ap length parts.same)
 
 pub invariant_of-self : goal.invariant_of-self
 invariant_of-self g c =
     let inside = c.self.inside in
-    line_put inside.session c.command-replied.new.self inside.reporter c.put.new.self inside.symbols c.args.line.now c.in-Some.input c.self.invariant c.command-replied.ensures.sitting
-    (sym c.input_named-named.ensures.named ∙ c.in-Some.is) (c.put.ensures.put ∙ ap (λ (v : Value). with_input inside.reporter c.in-Some.input v) c.input_value.ensures)
+    line_put inside.session c.command-replied.new.self inside.reporter c.put.new.self inside.symbols c.args.line.now c.in-Some.input c.self.invariant
+    c.command-replied.ensures.sitting
+    (sym c.input_named-named.ensures.named ∙ c.in-Some.is) (c.put.ensures.put
+    ∙ ap (λ (v : Value). with_input inside.reporter c.in-Some.input v) c.input_value.ensures)
     (c.put.ensures.start inside.symbols c.self.invariant.start)
 
 pub returns-in-Some-clause-goes_on : goal.returns-in-Some-clause-goes_on
@@ -33,7 +36,8 @@ returns-in-Some-clause-goes_on g c = λ lines.
 
 pub returns-in-None-clause-gives : goal.returns-in-None-clause-gives
 returns-in-None-clause-gives g c =
-    subst (λ (j : Joined). Gives g.K.Sink.written g.K.Sink.faults c.args.out.now c.command-replied.new.out c.command-replied.result (reply_of j.seated.sitting c.args.line.now)) c.self.view_is
+    subst (λ (j : Joined). Gives g.K.Sink.written g.K.Sink.faults c.args.out.now c.command-replied.new.out c.command-replied.result
+    (reply_of j.seated.sitting c.args.line.now)) c.self.view_is
     c.command-replied.ensures.text
 
 pub returns-in-None-clause-goes_on : goal.returns-in-None-clause-goes_on

@@ -11,5 +11,6 @@ invariant_of-result c = record {
   start = c.put_inputs.ensures.start c.args.symbols c.in_ok-reporter.ensures.start;
   same = c.put_inputs.ensures.inputs;
   values = c.requires.values;
-  cells = ap (λ (o : Ordered). o.base.cells) (c.put_inputs.ensures.ordered ∙ ap (λ (r : Reporting). r.ordered) c.in_ok-reporter.ensures.begun) ∙ c.requires.cells;
+  cells = ap (λ (o : Ordered). o.base.cells) (c.put_inputs.ensures.ordered ∙ ap (λ (r : Reporting). r.ordered) c.in_ok-reporter.ensures.begun)
+      ∙ c.requires.cells;
 }

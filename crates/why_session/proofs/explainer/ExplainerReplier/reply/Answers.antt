@@ -12,7 +12,8 @@ pub returns-in-Some : goal.returns-in-Some
 returns-in-Some g c = record {
   text = explains_in c.args.self.now c.in-Some.name.now;
   gives = c.reply_to_why.ensures.gives;
-  goes_on = why_goes_on c.args.self.now c.reply_to_why.new.self c.args.line.now c.in-Some.name.now (sym c.why_name.ensures ∙ ap option_copied c.in-Some.is) c.reply_to_why.ensures.stays;
+  goes_on = why_goes_on c.args.self.now c.reply_to_why.new.self c.args.line.now c.in-Some.name.now (sym c.why_name.ensures ∙ ap option_copied c.in-Some.is)
+      c.reply_to_why.ensures.stays;
 }
 
 pub returns-in-None : goal.returns-in-None
