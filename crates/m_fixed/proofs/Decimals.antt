@@ -1,4 +1,4 @@
--- The number that digits write, and what is left of it from a place on.
+-- The number that digits denote, and its remainder from a position on.
 use Rattle.std.proofs.Common.{◌≡◌, ℕ, zero, suc, ◌+◌, ◌-◌, ◌*◌, ◌^◌, ◌<◌, ◌≤◌, List, [], ◌∷◌, ◌++◌, length, drop, get_or, Bool, true, false, ◌&&◌, arith, refl}
 use Rattle.std.proofs.Common.{◌∙◌, rules}
 use Rattle.std.proofs.Math.Nat.{pow-suc, le_refl}
@@ -23,7 +23,7 @@ digit_is c h = let e = digit_value_digit c (digit_from_test c h) in omega arith
 pub digit_small : (c : ℕ) → IsTrue (is_ascii_digit c) → digit_value c ≤ 9
 digit_small c h = let e = digit_value_digit c (digit_from_test c h) in let r = digit_from_test c h in omega (arith, e, r.0, r.1)
 
--- ---- one digit more, with p for a power of 10
+-- ---- one more digit, with p for a power of 10
 
 pub tens : (n d p : ℕ) → (n * 10 + d) * p ≡ 10 * (n * p) + d * p
 tens n d p = omega arith
@@ -64,7 +64,7 @@ digits_after_append n (x ∷ xs) ys = digits_after_append (n * 10 + digit_value 
 pub digits_append : (xs ys : List ℕ) → digits_value 10 (xs ++ ys) ≡ digits_value 10 xs * 10 ^ length ys + digits_value 10 ys
 digits_append xs ys = digits_after_append 0 xs ys ∙ digits_after_is (digits_value 10 xs) ys
 
--- the value that is left from a place on, and its first decimal
+-- the value of the digits from a position on, split into the first decimal and the rest
 pub decimals_step : (ds : List ℕ) (i : ℕ) → IsTrue (only_digits ds) → digits_value 10 (drop i ds) * 10 ^ suc i ≡ (get_or ds i 48 - 48) * 10 ^ length ds +
     digits_value 10 (drop (suc i) ds) * 10 ^ suc i
 decimals_step [] zero h = omega arith
@@ -78,7 +78,7 @@ digits_below [] h = omega arith
 digits_below (c ∷ cs) h = below_next (digit_value c) (10 ^ length cs) _ _ _ (pow-suc 10 (length cs)) (digit_small c (both _ _ h).0)
     (digits_below cs (both _ _ h).1) (digits_cons c cs)
 
--- what is left after i places of the decimals is less than one of the last place
+-- the digits after the first i decimals are worth less than one unit of decimal i
 pub rest_below : (ds : List ℕ) (i : ℕ) → IsTrue (only_digits ds) → digits_value 10 (drop i ds) * 10 ^ i < 10 ^ length ds
 rest_below ds zero h = omega (arith, digits_below ds h)
 rest_below [] (suc i) h = omega arith

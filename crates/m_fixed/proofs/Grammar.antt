@@ -1,4 +1,4 @@
--- The value of a text is there exactly where the text has the form, and is what the form spells.
+-- A text has a value exactly if it parses, and the value is the one that the grammar assigns.
 use Rattle.std.proofs.Common.{◌≡◌, ℕ, List, [], ◌∷◌, ◌++◌, Bool, true, false, Option, Some, None, ℤ, refl, sym, ap, ◌∙◌, ⊎_elim}
 use Rattle.std.proofs.lemmas.Bool.{eqb-true, cases_Bool}
 use Rattle.std.specs.Prelude.{IsTrue, ◌==◌, ◌&&◌, drop, option_map}
@@ -8,7 +8,7 @@ use Rattle.m_fixed.specs.Text.{is_digits, before_point, behind_point, point, min
 use Rattle.m_fixed.specs.Laws.{SpellsNumber, whole, decimal, SpellsAmount, plain, below_zero}
 use Rattle.m_fixed.proofs.Numbers.{number_value-digits, number_value-decimals, text_value-number, text_value-minus}
 
--- the two parts make the text
+-- the text of the two parts
 abbrev glued : List ℕ → Option (List ℕ) → List ℕ
 glued ds None = ds
 glued ds (Some fs) = ds ++ point ∷ fs

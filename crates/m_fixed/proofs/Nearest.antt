@@ -9,7 +9,7 @@ use Rattle.std.specs.Prelude.{not}
 use Rattle.std.specs.Int.{is_negative}
 use Rattle.m_fixed.specs.Rounding.{nearest, signed, differ, rounded, IsNear, IsNearest}
 
--- how far two sizes are apart
+-- the distance of two sizes
 abbrev apart : ℕ → ℕ → ℕ
 apart a b = (a - b) + (b - a)
 
@@ -58,7 +58,7 @@ twice_other true false = refl
 twice_other false true = refl
 twice_other false false = refl
 
--- how far a multiple lies from a number: where its sign is the number's, and where it isn't
+-- the distance of a multiple from a number: with the number's sign, and with the other sign
 multiple_same : (b c : Bool) (n d m : ℕ) → unsigned_abs (signed b n -ℤ signed (differ b c) m *ℤ signed c d) ≡ apart n (m * d)
 multiple_same b c n d m =
     ap (λ z. unsigned_abs (signed b n -ℤ z)) (product_of_signed (differ b c) c m d ∙ ap (λ s. signed s (m * d)) (twice_differ b c))
@@ -101,7 +101,8 @@ signed_zero true false = refl
 signed_zero false true = refl
 signed_zero false false = refl
 
--- a near quotient is no greater than the rounded one, and has its sign
+-- the quotient with sign e and size m is near; then m is at most the rounded size, and the sign the
+-- rounded one's unless m is 0
 abbrev NearSigned : Bool → Bool → Bool → ℕ → ℕ → ℕ → Type 0
 NearSigned b c e n d m = 2 * unsigned_abs (signed b n -ℤ signed e m *ℤ signed c d) ≤ d
 
@@ -173,7 +174,7 @@ nearest_is_rounded n d q some is =
     with_sign q ∙ signs_agree b c (is_negative q) (unsigned_abs n) (unsigned_abs d) (unsigned_abs q) (some_size d some) (near_signs n d q is.near)
     ∙ ap (λ m. signed (differ b c) m) size
 
--- the same of sizes
+-- the statement for sizes, without signs
 pub sizes_are_nearest : (n d : ℕ) → 0 < d → IsNearest (pos n) (pos d) (pos (nearest n d))
 sizes_are_nearest n d some =
     let here : rounded (pos n) (pos d) ≡ pos (nearest n d) = rw (lt-leb (suc n) 0 (omega arith), lt-leb (suc d) 0 (omega arith)) refl in

@@ -1,4 +1,4 @@
--- What a number's text spells: digits alone, and digits with decimals after a point.
+-- The value of a number's text: digits alone, and digits with decimals after a point.
 use Rattle.std.proofs.Common.{◌≡◌, ℕ, List, [], ◌∷◌, ◌++◌, true, false, Some, None, refl, ap, ◌∙◌, arith, ⊎_elim, neg_ℤ}
 use Rattle.std.proofs.lemmas.Bool.{ne_eqb, eqb-true, cases_Bool}
 use Rattle.std.specs.Prelude.{IsTrue, ◌==◌, pos}
@@ -58,7 +58,7 @@ pub text_value-number : (text : List ℕ) (n : ℕ) → number_value text ≡ So
 unfolding text_value
 text_value-number text n e = rw (no_sign text n e, e) refl
 
--- after a minus it is below zero
+-- a minus negates the value
 pub text_value-minus : (text : List ℕ) (n : ℕ) → number_value text ≡ Some n → text_value (45 ∷ text) ≡ Some (neg_ℤ (pos n))
 unfolding text_value
 text_value-minus text n e = rw e refl

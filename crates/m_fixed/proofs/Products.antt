@@ -1,4 +1,4 @@
--- Products of amounts, and how a test for zero reads.
+-- Products of amounts, and tests for zero.
 use Rattle.std.proofs.Common.{ap, sym, cond, ◌∙◌, ◌≡◌, ◌^◌, ◌≤◌, ℤ, pos, negsuc, ◌*ℤ◌, unsigned_abs, false, refl, suc, zero, arith, lit<}
 use Rattle.std.proofs.Math.Dec.{eqb-suc-zero}
 use Rattle.std.proofs.lemmas.Int.{ints, to_z-of_z, unsigned_abs-mul, fits_signed_mul}

@@ -1,4 +1,4 @@
--- How a text is read: its parts, its units, and the bound.
+-- Reading a text: its parts, its whole units, and the bound.
 use Rattle.std.proofs.Common.{◌≡◌, ℕ, zero, suc, ◌+◌, ◌-◌, ◌*◌, ◌/◌, ◌^◌, ◌<◌, ◌≤◌, min, List, [], ◌∷◌, length, take, get_or, Bool, true, false, if◌then◌else◌}
 use Rattle.std.proofs.Common.{Option, Some, None, Result, Ok, Err, arith, refl, sym, ap, ◌∙◌}
 use Rattle.std.proofs.Math.Nat.{mul-add-div_right, pow-suc}
@@ -20,7 +20,7 @@ digit_at [] i h below = absurd (omega arith)
 digit_at (c ∷ cs) zero h below = (both _ _ h).0
 digit_at (c ∷ cs) (suc i) h below = digit_at cs i (both _ _ h).1 (omega arith)
 
--- one digit more of the whole units
+-- one more digit of the whole units
 pub units_more : (ds : List ℕ) (i u v : ℕ) → IsTrue (only_digits ds) → i < length ds → u ≡ min (digits_value 10 (take i ds)) 10_000_000_000_001
     → v ≡ min (u * 10 + (get_or ds i 0 - 48)) 10_000_000_000_001 → v ≡ min (digits_value 10 (take (i + 1) ds)) 10_000_000_000_001
 units_more ds i u v h below eu ev =
@@ -38,7 +38,7 @@ regrouped m k n = omega arith
 scaled : (a k b u : ℕ) → (a * k + b) * u ≡ (a * u) * k + b * u
 scaled a k b u = omega arith
 
--- whole units are rounded to themselves
+-- a whole part is added after rounding
 pub nearest_whole : (m n k : ℕ) → 0 < k → nearest (m * k + n) k ≡ m + nearest n k
 nearest_whole m n k h = ap (λ x. x / (2 * k)) (regrouped m k n) ∙ mul-add-div_right {m = 2 * k} (omega arith) m (2 * n + k)
 
@@ -104,7 +104,7 @@ size_of_signed true zero = refl
 size_of_signed true (suc n) = refl
 size_of_signed false n = refl
 
--- what is read, where the test of the bound gives t
+-- the result, given the outcome t of the bound's test
 abbrev if_fits : {N : Type 0} → Bool → N → Result N AmountFault
 if_fits t n = if t then Ok n else Err TooGreat
 

@@ -1,4 +1,4 @@
--- What rounding makes of decimals.
+-- Rounding of decimals.
 use Rattle.std.proofs.Common.{◌≡◌, ℕ, suc, ◌+◌, ◌-◌, ◌*◌, ◌^◌, ◌<◌, ◌≤◌, List, length, drop, get_or, arith, sym, ap, ◌∙◌, add-one}
 use Rattle.std.specs.Prelude.{IsTrue, if◌then◌else◌, ◌==◌, ◌/◌}
 use Rattle.std.proofs.Math.Nat.{pow-suc, le_refl, div-eq_of_lt-le}
@@ -16,7 +16,7 @@ twice q d = omega arith
 one_more : (q d : ℕ) → (q + 1) * d ≡ q * d + d
 one_more q d = omega arith
 
--- halfway or above goes up, and below it down
+-- a remainder of half or more rounds up, and one below half rounds down
 pub nearest_up : (q d r n : ℕ) → n ≡ q * d + r → r < d → d ≤ 2 * r → nearest n d ≡ q + 1
 nearest_up q d r n e below half =
     div-eq_of_lt-le {k = q + 1} (2 * d) (omega (arith, one_more q (2 * d), twice q d)) (omega (arith, one_more (q + 1) (2 * d), one_more q (2 * d), twice q d))
@@ -24,7 +24,7 @@ nearest_up q d r n e below half =
 pub nearest_down : (q d r n : ℕ) → n ≡ q * d + r → 2 * r < d → nearest n d ≡ q
 nearest_down q d r n e below = div-eq_of_lt-le {k = q} (2 * d) (omega (arith, twice q d)) (omega (arith, one_more q (2 * d), twice q d))
 
--- a guess is the quotient where what it leaves is less than the divisor
+-- a guess whose remainder is less than the divisor is the quotient
 guessed_right : (n d q : ℕ) → q * d ≤ n → n < q * d + d → n / d ≡ q
 guessed_right n d q low high = div-eq_of_lt-le {k = q} d low (omega (arith, one_more q d))
 
@@ -33,7 +33,7 @@ pub quotient_guessed : (size by q : ℕ) → (2 * q) * by ≤ size * 2_000_000 +
 quotient_guessed size by q low high =
     rw (ne_eqb by 0 (λ e. absurd (omega arith))) (guessed_right (2 * (size * unit) + by) (2 * by) q (omega arith) (omega arith))
 
--- the first decimals as a number, and what is left
+-- the first decimals as a number, with the remainder
 pub decimals_more : (f p k s t a b d : ℕ) → t ≡ s * 10 → f * s ≡ p * k + a * s → a * t ≡ d * k + b * t → f * t ≡ (p * 10 + d) * k + b * t
 decimals_more f p k s t a b d et e step = omega (arith, times_ten f s t et, times_ten a s t et, tens p d k)
 
@@ -43,7 +43,7 @@ half_up k s t a b d et step h = omega (arith, times_ten a s t et, mul-le 5 k d k
 half_down : (k s t a b d : ℕ) → t ≡ s * 10 → a * t ≡ d * k + b * t → b * t < k → d ≤ 4 → 2 * (a * s) < k
 half_down k s t a b d et step below h = omega (arith, times_ten a s t et, mul-le d k 4 k h (le_refl k))
 
--- so much are the decimals with six of them read
+-- n is the value of the first `places` decimals
 pub record AreRead (ds : List ℕ) (places n : ℕ) : Type 0 where
   pub small : n < 10 ^ places
   pub value : digits_value 10 ds * 10 ^ places ≡ n * 10 ^ length ds + digits_value 10 (drop places ds) * 10 ^ places

@@ -1,4 +1,4 @@
--- Texts written into a room, one after another.
+-- Texts written into a buffer, one after another.
 use Rattle.std.proofs.Common.{◌≡◌, ℕ, zero, suc, ◌+◌, ◌-◌, ◌/◌, ◌%◌, ◌^◌, ◌<◌, ◌≤◌, List, [], ◌∷◌, ◌++◌, length, take, drop, set, arith, refl, sym, ap, ◌∙◌}
 use Rattle.std.proofs.Common.{append_assoc, length-append, add-zero, ⊎_elim, true, false, if◌then◌else◌, ℤ, unsigned_abs}
 use Rattle.std.proofs.Math.Nat.{pow-suc, mul-div_left}
@@ -14,13 +14,13 @@ use Rattle.m_fixed.specs.Text.{Writes, decimals_of, fraction_text, size_text, pr
 pub writes_none : (room : List ℕ) (at : ℕ) → Writes room room at [] at
 writes_none room at = record { length = sym (add-zero at); front = sym (append-nil (take at room)); rest = refl }
 
--- the rest from a place is the rest from each place after it
+-- buffers that agree from a position on agree from every later one
 later : (xs ys : List ℕ) (i j : ℕ) → i ≤ j → drop i xs ≡ drop i ys → drop j xs ≡ drop j ys
 later xs ys i j h e =
     let split : i + (j - i) ≡ j = omega arith in
     ap (λ k. drop k xs) (sym split) ∙ sym (drop-drop (j - i) i xs) ∙ ap (drop (j - i)) e ∙ drop-drop (j - i) i ys ∙ ap (λ k. drop k ys) split
 
--- one byte before what was written
+-- one byte before the written text
 pub writes_before : (room next : List ℕ) (at end : ℕ) (b : ℕ) (text : List ℕ) → at < length room → Writes (set room at b) next (at + 1) text end
     → Writes room next at (b ∷ text) end
 writes_before room next at end b text below w = record {
@@ -29,7 +29,7 @@ writes_before room next at end b text below w = record {
   rest = w.rest ∙ drop-set-lt end room at b (omega (arith, w.length));
 }
 
--- one byte after it
+-- one byte after the written text
 pub writes_behind : (room next : List ℕ) (at end : ℕ) (b : ℕ) (text : List ℕ) → end < length next → Writes room next at text end
     → Writes room (set next end b) at (text ++ b ∷ []) (end + 1)
 writes_behind room next at end b text below w = record {
@@ -120,7 +120,7 @@ size_short size h =
 
 -- ---- the sign
 
--- the printed form after a minus, and without one
+-- the printed form, with a minus and without one
 pub writes_negative : (room next : List ℕ) (z : ℤ) (n end : ℕ) → 0 < length room → true ≡ is_negative z → n ≡ unsigned_abs z
     → Writes (set room 0 45) next 1 (size_text n) end → Writes room next 0 (printed z) end
 unfolding printed

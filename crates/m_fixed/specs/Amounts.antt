@@ -5,11 +5,11 @@ use Rattle.std.specs.Prelude.{ℕ, ℤ, pos, neg_ℤ, ◌≤ℤ◌}
 abbrev pub unit : ℕ
 unit = 1_000_000
 
--- the greatest absolute value of an amount, in millionths: ten million million units
+-- the greatest absolute value of an amount, in millionths: 10^13 units
 abbrev pub most : ℕ
 most = 10_000_000_000_000_000_000
 
--- so many millionths are an amount
+-- z millionths are an amount
 pub record IsAmount (z : ℤ) : Type 0 where
   pub low : neg_ℤ (pos most) ≤ℤ z
   pub high : z ≤ℤ pos most

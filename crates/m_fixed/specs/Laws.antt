@@ -1,4 +1,4 @@
--- What the laws of amounts and operators speak of.
+-- The vocabulary of the laws of amounts and operators.
 use Rattle.std.specs.Prelude.{◌≡◌, ℕ, List, [], ◌∷◌, ◌++◌, IsTrue, Bool, true, false, ℤ, pos, neg_ℤ, ⊤}
 use Rattle.m_fixed.specs.declared.amount.Value.{Value}
 use Rattle.m_fixed.specs.declared.amount.Value.TheVariants.{Undef, Num, Over}
@@ -14,7 +14,7 @@ IsValue Undef = ⊤
 IsValue (Num z) = IsAmount z
 IsValue Over = ⊤
 
--- the two operators that select, and look at no more than they need
+-- the two operators that select: they ignore Over in an argument that they don't need
 abbrev pub is_selecting : Op → Bool
 is_selecting Add = false
 is_selecting Sub = false

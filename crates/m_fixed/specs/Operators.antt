@@ -13,7 +13,7 @@ use Rattle.m_fixed.specs.Rounding.{rounded}
 
 -- ---- the columns of the table
 
--- how many arguments an operator looks at
+-- the number of arguments that an operator uses
 abbrev pub arity_of : Op → ℕ
 arity_of Neg = 1
 arity_of Not = 1
@@ -28,9 +28,9 @@ arity_of Truth = 1
 arity_of Choose = 3
 arity_of _ = 2
 
--- Two undefined arguments always give undefined, but for Present. With one of two: where this is true
--- it counts as 0, and else it makes the result undefined. Of an operator that doesn't have two
--- arguments it says nothing.
+-- How an undefined argument counts in an operator of two arguments, where the other is a number: as
+-- 0 if true, and else the result is undefined. Without meaning for other operators. Two undefined
+-- arguments always give undefined.
 abbrev pub counts_undefined_as_zero : Op → Bool
 counts_undefined_as_zero Add = true
 counts_undefined_as_zero Sub = true
@@ -39,7 +39,7 @@ counts_undefined_as_zero Max = true
 counts_undefined_as_zero Min = true
 counts_undefined_as_zero _ = false
 
--- 1 where the test passes, and 0 where it doesn't, in millionths
+-- 1 or 0 as an amount, in millionths
 abbrev pub truth : Bool → ℤ
 truth b = if b then pos unit else pos 0
 
@@ -55,21 +55,21 @@ cut x = int_div x (pos unit)
 abbrev pub floor : ℤ → ℤ
 floor x = int_div_euclid x (pos unit)
 
--- by so much `arr` moves away from zero before it cuts, in millionths: by 0.50005
+-- the shift of `arr` away from zero before truncation, in millionths: 0.50005
 abbrev pub arr_shift : ℕ
 arr_shift = 500_050
 
--- so many whole units, in millionths
+-- n whole units, in millionths
 abbrev pub units : ℤ → ℤ
 units n = n *ℤ pos unit
 
--- a quotient, which is 0 where the divisor is: 2 / 3 gives 0.666667, and 5 / 0 gives 0
+-- a quotient; 0 if the divisor is 0: 2 / 3 gives 0.666667, and 5 / 0 gives 0
 abbrev pub quotient : ℤ → ℤ → ℤ
 quotient x y = if is_zero y then pos 0 else rounded (x *ℤ pos unit) y
 
--- What an operator gives where its arguments are numbers, in millionths and without a bound; one of one
--- argument looks at the first. Of the two that select it says what they give of numbers alone: a
--- choice whose condition isn't 0 gives its first branch.
+-- The result of an operator on numbers, in millionths and without a bound. An operator of one
+-- argument uses the first. For `Choose` it covers only a condition other than 0, whose result is
+-- the first branch.
 abbrev pub result_of : Op → ℤ → ℤ → ℤ
 result_of Add x y = x +ℤ y
 result_of Sub x y = x -ℤ y
@@ -100,7 +100,7 @@ result_of Choose _ y = y
 
 -- ---- the rules
 
--- a number as a value: Over where its absolute value is above the greatest
+-- a number as a value: Over if its absolute value is above the greatest
 abbrev pub bounded : ℤ → Value
 bounded z = if nat_le (unsigned_abs z) most then Num z else Over
 
@@ -111,7 +111,7 @@ of_one Present Undef = Num (pos 0)
 of_one op Undef = Undef
 of_one op (Num x) = bounded (result_of op x (pos 0))
 
--- an operator of two arguments: Over comes first, then the undefined ones
+-- an operator of two arguments: Over takes precedence over undefined
 abbrev pub of_two : Op → Value → Value → Value
 of_two op Over b = Over
 of_two op a Over = Over
@@ -120,7 +120,7 @@ of_two op Undef (Num y) = if counts_undefined_as_zero op then bounded (result_of
 of_two op (Num x) Undef = if counts_undefined_as_zero op then bounded (result_of op x (pos 0)) else Undef
 of_two op (Num x) (Num y) = bounded (result_of op x y)
 
--- the choice between two values: only the branch taken counts
+-- the choice between two values: only the selected branch counts
 abbrev pub chosen : Value → Value → Value → Value
 chosen Undef a b = Undef
 chosen Over a b = Over
@@ -131,7 +131,7 @@ abbrev pub truth_of : Value → Value
 truth_of (Num x) = Num (truth (not (is_zero x)))
 truth_of _ = Num (pos 0)
 
--- what an operator gives, whatever its arguments are: the two that select have their own rule
+-- the result of an operator on any values; the two that select have rules of their own
 unfoldable pub op_value : Op → Value → Value → Value → Value
 op_value Choose a b c = chosen a b c
 op_value Truth a b c = truth_of a

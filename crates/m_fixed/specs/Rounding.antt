@@ -1,8 +1,8 @@
--- Quotients of whole numbers as whole numbers.
+-- Quotients of whole numbers, rounded to whole numbers.
 use Rattle.std.specs.Prelude.{ℕ, ◌≤◌, ◌-ℤ◌, ◌*ℤ◌, ◌+◌, ◌*◌, ◌/◌, ℤ, pos, neg_ℤ, unsigned_abs, Bool, true, false, not, if◌then◌else◌}
 use Rattle.std.specs.Int.{is_negative}
 
--- the whole number nearest to n / d, and halfway between two of them the greater one
+-- the whole number nearest to n / d, halves up
 abbrev pub nearest : ℕ → ℕ → ℕ
 nearest n d = (2 * n + d) / (2 * d)
 
@@ -10,7 +10,7 @@ nearest n d = (2 * n + d) / (2 * d)
 abbrev pub signed : Bool → ℕ → ℤ
 signed negative size = if negative then neg_ℤ (pos size) else pos size
 
--- one of the two and not the other
+-- exclusive or
 abbrev pub differ : Bool → Bool → Bool
 differ true b = not b
 differ false b = b
@@ -23,7 +23,8 @@ rounded n d = signed (differ (is_negative n) (is_negative d)) (nearest (unsigned
 abbrev pub IsNear : ℤ → ℤ → ℤ → Type 0
 IsNear n d q = 2 * unsigned_abs (n -ℤ q *ℤ d) ≤ unsigned_abs d
 
--- of the numbers that are so near, which are two where n lies halfway, q is the farther from zero
+-- q is nearest to n / d; of two equally near numbers, where n is halfway, it is the farther from
+-- zero
 pub record IsNearest (n d q : ℤ) : Type 0 where
   pub near : IsNear n d q
   pub farthest : (p : ℤ) → IsNear n d p → unsigned_abs p ≤ unsigned_abs q

@@ -17,7 +17,7 @@ minus = 45
 abbrev pub point : ℕ
 point = 46
 
--- nothing but digits
+-- digits alone; the empty text too
 abbrev pub only_digits : List ℕ → Bool
 only_digits text = list_all is_ascii_digit text
 
@@ -25,12 +25,12 @@ only_digits text = list_all is_ascii_digit text
 abbrev pub is_digits : List ℕ → Bool
 is_digits text = only_digits text && nat_lt 0 (length text)
 
--- what stands before the first point
+-- the text before the first point
 abbrev pub before_point : List ℕ → List ℕ
 before_point [] = []
 before_point (c ∷ text) = if c == point then [] else c ∷ before_point text
 
--- what stands after the first point, if there is one
+-- the text after the first point, if there is one
 abbrev pub behind_point : List ℕ → Option (List ℕ)
 behind_point [] = None
 behind_point (c ∷ text) = if c == point then Some text else behind_point text
@@ -40,12 +40,12 @@ behind_point (c ∷ text) = if c == point then Some text else behind_point text
 abbrev pub millionths_of : List ℕ → List ℕ → ℕ
 millionths_of whole decimals = nearest (digits_value 10 (whole ++ decimals) * unit) (10 ^ length decimals)
 
--- the same where both are digits
+-- the same, if both parts are digits
 abbrev pub parts_value : List ℕ → Option (List ℕ) → Option ℕ
 parts_value whole None = if is_digits whole then Some (millionths_of whole []) else None
 parts_value whole (Some decimals) = if is_digits whole && is_digits decimals then Some (millionths_of whole decimals) else None
 
--- the millionths that a number without a sign spells: `12`, `08`, `0.10`; none for `.5`, `1.` or `1e3`
+-- the millionths that an unsigned number denotes: `12`, `08`, `0.10`; none for `.5`, `1.` or `1e3`
 unfoldable pub number_value : List ℕ → Option ℕ
 number_value text = parts_value (before_point text) (behind_point text)
 
@@ -53,27 +53,27 @@ number_value text = parts_value (before_point text) (behind_point text)
 abbrev pub without_minus : List ℕ → List ℕ
 without_minus text = if starts_with_minus text then drop 1 text else text
 
--- the millionths that an amount spells: a number, and before it a minus or nothing
+-- the millionths that an amount denotes: a number, optionally after a minus
 unfoldable pub text_value : List ℕ → Option ℤ
 text_value text = option_map (signed (starts_with_minus text)) (number_value (without_minus text))
 
--- what is read of a number's text that spells so much
+-- the result of reading a number with this value
 abbrev pub number_read : Option ℕ → Result ℕ AmountFault
 number_read None = Err NotAnAmount
 number_read (Some n) = if nat_le n most then Ok n else Err TooGreat
 
--- what is read of an amount's text that spells so much
+-- the result of reading an amount with this value
 abbrev pub amount_read : Option ℤ → Result ℤ AmountFault
 amount_read None = Err NotAnAmount
 amount_read (Some z) = if nat_le (unsigned_abs z) most then Ok z else Err TooGreat
 
--- the decimals of a fraction of 10 ^ places parts, down to the last that isn't 0
+-- the decimals of `fraction` out of 10 ^ places, without zeros at the end
 unfoldable pub decimals_of : ℕ → ℕ → List ℕ
 decimals_of zero fraction = []
 decimals_of (suc places) fraction =
     if fraction == 0 then [] else (48 + fraction / 10 ^ places) ∷ decimals_of places (fraction % 10 ^ places)
 
--- a point and the decimals, where there are any
+-- a point and the decimals, if there are any
 abbrev pub fraction_text : ℕ → List ℕ
 fraction_text fraction = if fraction == 0 then [] else point ∷ decimals_of 6 fraction
 
@@ -81,11 +81,12 @@ fraction_text fraction = if fraction == 0 then [] else point ∷ decimals_of 6 f
 unfoldable pub size_text : ℕ → List ℕ
 size_text n = decimal (n / unit) ++ fraction_text (n % unit)
 
--- the one printed form of so many millionths: 1500500 gives `1.5005`, -500000 gives `-0.5`, 0 gives `0`
+-- the printed form of an amount in millionths: 1500500 gives `1.5005`,
+-- -500000 gives `-0.5`, 0 gives `0`
 unfoldable pub printed : ℤ → List ℕ
 printed z = if is_negative z then minus ∷ size_text (unsigned_abs z) else size_text (unsigned_abs z)
 
--- new is old with the text written in it from a place on, to the place `end`
+-- `new` is `old` with the text written from the position `from` to the position `end`
 pub record Writes (old new : List ℕ) (from : ℕ) (text : List ℕ) (end : ℕ) : Type 0 where
   pub length : end ≡ from + length text
   pub front : take end new ≡ take from old ++ text

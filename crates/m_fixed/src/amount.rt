@@ -1,4 +1,4 @@
-//! An amount and a value. Contracts see an amount as its whole number of millionths.
+//! Amounts and values. Contracts see an amount as its number of millionths.
 ghost use Rattle.std.specs.Prelude.{◌≡◌, SomeIff, pos, ◌≤◌, unsigned_abs};
 ghost use Rattle.std.specs.Int.{is_negative};
 ghost use Rattle.m_fixed.specs.Amounts.{IsAmount, most};
@@ -13,7 +13,7 @@ pub(crate) const UNIT: u64 = 1_000_000;
 /// The greatest absolute value of an amount, in millionths.
 pub(crate) const MOST: u64 = 10_000_000_000_000_000_000;
 
-/// An amount: a whole number of millionths, at most 10^19 of them above or below zero.
+/// An amount: a whole number of millionths, with an absolute value of at most 10^19.
 #[derive(Clone, Copy, Debug, PartialEq, Eq)]
 pub struct Amount {
     millionths: i128,
@@ -33,7 +33,7 @@ impl Model for Amount {
 }
 
 impl Amount {
-    /// The amount of so many millionths, and `None` where their absolute value is above 10^19:
+    /// The amount of this many millionths, or `None` if their absolute value is above 10^19:
     /// `Amount::new(1_500_500)` is 1.5005.
     pub fn new(millionths: i128) -> Option<Amount>
         ensures { SomeIff result (IsAmount millionths) millionths }
@@ -51,7 +51,7 @@ impl Amount {
         Amount { millionths: 0 }
     }
 
-    /// One unit where the test holds, and else 0.
+    /// 1 if the test holds, else 0.
     pub(crate) fn of_test(test: bool) -> Amount
         ensures { result ≡ truth test }
     {
@@ -60,7 +60,7 @@ impl Amount {
         }
     }
 
-    /// So many millionths, below zero or not.
+    /// An amount from its sign and its absolute value, in millionths.
     pub(crate) fn of_size(negative: bool, size: u64) -> Amount
         requires { size ≤ most }
         ensures { result ≡ signed negative size }
@@ -71,14 +71,13 @@ impl Amount {
         }
     }
 
-    /// Whether it is below zero.
     pub(crate) fn is_negative(self) -> bool
         ensures { result ≡ is_negative self }
     {
         self.millionths < 0
     }
 
-    /// How many millionths it is above or below zero.
+    /// The absolute value, in millionths.
     pub(crate) fn size(self) -> u64
         ensures value { result ≡ unsigned_abs self }
         ensures bound { result ≤ most }
@@ -86,7 +85,7 @@ impl Amount {
         self.millionths.unsigned_abs() as u64
     }
 
-    /// How many millionths it is.
+    /// The amount in millionths.
     pub fn millionths(self) -> i128
         ensures value { result ≡ self }
         ensures bound { IsAmount result }
@@ -95,11 +94,11 @@ impl Amount {
     }
 }
 
-/// What a term of M is worth: `2 * REV` is undefined where nobody gave `REV`, and over where the product
+/// The value of a term of M: `2 * REV` is undefined if `REV` isn't given, and over if the product
 /// is beyond the greatest amount.
 #[derive(Clone, Copy, Debug, PartialEq, Eq)]
 pub enum Value {
-    /// Nothing was given.
+    /// Not given.
     Undef,
     /// An amount.
     Num(Amount),

@@ -1,6 +1,6 @@
-//! Products, quotients and whole units. A division of 128 bits takes ten times as long as one of
-//! 64, and that one as long as all the rest: so products are divided in parts, and quotients are
-//! guessed and tested.
+//! Products, quotients and whole units. A 128-bit division takes ten times as long as a 64-bit one,
+//! and a 64-bit one as long as all the rest. So products are divided in two 64-bit parts, and
+//! quotients are guessed in floating point and checked.
 ghost use Rattle.std.specs.Prelude.{◌≡◌, ◌==◌, if◌then◌else◌, ◌≤◌, pos, unsigned_abs, ◌*ℤ◌, ◌+◌, ◌*◌, ◌/◌, ◌^◌, ◌<◌};
 ghost use Rattle.m_fixed.specs.declared.operator.Op.TheVariants.{Arr, Inf};
 ghost use Rattle.m_fixed.specs.Amounts.{IsAmount, unit, most};
@@ -14,19 +14,20 @@ use std::num::f64_to_bits_with_nan;
 /// Half a unit, in millionths.
 const HALF_UNIT: u128 = 500_000;
 
-/// By so much `arr` moves away from zero, in millionths.
+/// The shift of `arr` away from zero, in millionths.
 const ARR_SHIFT: u64 = 500_050;
 
-/// What is divided by a unit in two parts is cut here: below it are 44 bits.
+/// Where a number is split for the division in two parts: 2^44.
 const PART: u64 = 17_592_186_044_416;
 
-/// Numbers below this one are divided by a unit in two parts.
+/// Numbers below this one are divided by `UNIT` in two parts.
 const TWO_PARTS: u128 = 324_518_553_658_426_726_783_156_020_576_256;
 
-/// Numbers below this one lose nothing as floating-point numbers: 2^53.
+/// 2^53: numbers below it are exact as floating-point numbers.
 const EXACT_AS_FLOAT: u64 = 9_007_199_254_740_992;
 
-/// 2^52: a lesser floating-point number to which it is added is rounded, into the low 52 bits.
+/// 2^52: adding it to a smaller floating-point number rounds that to a whole number, in the low 52
+/// bits.
 const ROUNDING: u64 = 4_503_599_627_370_496;
 
 /// `x * y` rounded, in millionths.
@@ -65,7 +66,7 @@ fn nearest_unit(n: u128) -> u128
     whole_units(n + HALF_UNIT)
 }
 
-/// `n / 1_000_000`, cut.
+/// `n / 1_000_000`, truncated.
 fn whole_units(n: u128) -> u128
     ensures { result ≡ n / unit }
 {
@@ -78,7 +79,7 @@ fn whole_units(n: u128) -> u128
     (high / UNIT) as u128 * PART as u128 + (rest / UNIT) as u128
 }
 
-/// `x / y` in millionths, and 0 where y is 0.
+/// `x / y` in millionths; 0 if y is 0.
 pub(crate) fn quotient(x: Amount, y: Amount) -> i128
     ensures { result ≡ quotient x y }
 {
@@ -86,8 +87,8 @@ pub(crate) fn quotient(x: Amount, y: Amount) -> i128
     signed(x.is_negative() != y.is_negative(), size)
 }
 
-/// `size / by` in millionths, rounded to the nearest, halves up, and 0 where `by` is 0. It is
-/// guessed, and divided only where what the guess leaves isn't less than the divisor.
+/// `size / by` in millionths, rounded to the nearest, halves up; 0 if `by` is 0. The guess is right
+/// if its remainder is less than the divisor; only otherwise is there a division.
 fn nearest_quotient(size: u64, by: u64) -> u128
     requires size_in { size ≤ most }
     requires by_in { by ≤ most }
@@ -105,7 +106,8 @@ fn nearest_quotient(size: u64, by: u64) -> u128
     }
 }
 
-/// Mostly the whole number nearest to `size * 1_000_000 / by`. No clause says so: it is tested.
+/// Usually the whole number nearest to `size * 1_000_000 / by`. That is tested, not proved: no
+/// caller relies on it.
 fn guessed(size: u64, by: u64) -> u64
     ensures { result < 2 ^ 52 }
 {
@@ -117,7 +119,7 @@ fn guessed(size: u64, by: u64) -> u64
     }
 }
 
-/// `n / d`, cut, and 0 where `d` is 0.
+/// `n / d`, truncated; 0 if `d` is 0.
 fn divided(n: u128, d: u128) -> u128
     ensures { result ≡ (if d == 0 then 0 else n / d) }
 {
@@ -136,7 +138,7 @@ fn signed(negative: bool, size: u128) -> i128
     }
 }
 
-/// Whole units, moved by 0.50005 away from zero and cut.
+/// Moved away from zero by 0.50005 and truncated to whole units, in millionths.
 pub(crate) fn nearest_units(x: Amount) -> i128
     ensures { result ≡ result_of Arr x (pos 0) }
 {
@@ -144,7 +146,7 @@ pub(crate) fn nearest_units(x: Amount) -> i128
     signed(x.is_negative(), size as u128)
 }
 
-/// The whole units that are not above the amount and a millionth.
+/// The greatest whole number of units not above the amount plus a millionth, in millionths.
 pub(crate) fn units_not_above(x: Amount) -> i128
     ensures { result ≡ result_of Inf x (pos 0) }
 {
@@ -158,7 +160,7 @@ pub(crate) fn units_not_above(x: Amount) -> i128
     }
 }
 
-/// How many whole units there are, cut toward zero.
+/// The amount truncated toward zero, in units.
 pub(crate) fn cut(x: Amount) -> i64
     ensures { result ≡ cut x }
 {

@@ -1,4 +1,4 @@
-//! Laws of amounts and operators. Each function does nothing: its contract is the law, shown once for
+//! Laws of amounts and operators. Each function does nothing: its contract is the law, proved for
 //! all values and texts.
 ghost use Rattle.std.specs.Prelude.{◌≡◌, ◌≢◌, ◌≤◌, ◌*◌, ◌^◌, ◌++◌, ◌⊎◌, ℕ, List, length, Some, Ok, IsFalse, ℤ, pos, ◌≤ℤ◌};
 ghost use Rattle.std.specs.Int.{int_max, int_min};
@@ -11,26 +11,27 @@ ghost use Rattle.m_fixed.specs.Operators.{op_value, arity_of};
 ghost use Rattle.m_fixed.specs.Text.{text_value, amount_read, number_value, printed, millionths_of};
 ghost use Rattle.m_fixed.specs.Laws.{IsValue, is_selecting, SpellsNumber, SpellsAmount};
 
-/// A sum with one undefined operand is the other operand, and a difference is the one that is left.
+/// A sum or difference with one undefined operand is the other operand: `a + Undef`, `Undef + a`
+/// and `a - Undef` are `a`.
 pub fn one_undefined_operand()
     ensures first { (a c : Value) → IsValue a → op_value Op.Add a Value.Undef c ≡ a }
     ensures second { (a c : Value) → IsValue a → op_value Op.Add Value.Undef a c ≡ a }
     ensures difference { (a c : Value) → IsValue a → op_value Op.Sub a Value.Undef c ≡ a }
 {}
 
-/// `x + 0` is not `x`: where `x` is undefined it is 0.
+/// `x + 0` is not `x`: it is 0 if `x` is undefined.
 pub fn zero_added_to_undefined()
     ensures zero { (c : Value) → op_value Op.Add Value.Undef (Value.Num (pos 0)) c ≡ Value.Num (pos 0) }
     ensures not_undefined { (c : Value) → op_value Op.Add Value.Undef (Value.Num (pos 0)) c ≢ Value.Undef }
 {}
 
-/// An operand that is Over makes the result Over, in every operator but the two that select.
+/// An operand that is Over makes the result Over, in every operator except `Choose` and `Truth`.
 pub fn over_absorbs()
     ensures first { (op : Op) (b c : Value) → IsFalse (is_selecting op) → op_value op Value.Over b c ≡ Value.Over }
     ensures second { (op : Op) (a c : Value) → arity_of op ≡ 2 → op_value op a Value.Over c ≡ Value.Over }
 {}
 
-/// A choice doesn't look at the branch that it leaves, and only a number other than 0 is a truth.
+/// A choice ignores the branch that isn't selected, and only a number other than 0 is true.
 pub fn selection_looks_no_further()
     ensures taken { (x : ℤ) (a b : Value) → x ≢ pos 0 → op_value Op.Choose (Value.Num x) a b ≡ a }
     ensures otherwise { (a b : Value) → op_value Op.Choose (Value.Num (pos 0)) a b ≡ b }
@@ -43,21 +44,20 @@ pub fn further_arguments_are_ignored()
     ensures two { (op : Op) (a b c d : Value) → arity_of op ≤ 2 → op_value op a b c ≡ op_value op a b d }
 {}
 
-/// A rounded quotient is the nearest whole number, and of two that are equally near the one that is
-/// farther from zero. No other number is.
+/// A rounded quotient is the nearest whole number, and of two equally near the one farther from
+/// zero. It is the only one.
 pub fn rounded_is_nearest()
     ensures nearest { (n d : ℤ) → d ≢ pos 0 → IsNearest n d (rounded n d) }
     ensures only { (n d q : ℤ) → d ≢ pos 0 → IsNearest n d q → q ≡ rounded n d }
 {}
 
-/// The millionths that a number's text spells are the nearest to the decimal number that its digits
-/// write.
+/// A number's text reads as the millionths nearest to the decimal number that it denotes.
 pub fn decimals_are_rounded()
     ensures { (whole decimals : List ℕ) → IsNearest (pos (digits_value 10 (whole ++ decimals) * unit)) (pos (10 ^ length decimals))
         (pos (millionths_of whole decimals)) }
 {}
 
-/// The greater and the lesser of two amounts are one of them, and bound both.
+/// `max` and `min` of two amounts are one of the two, and bound both.
 pub fn greater_and_lesser()
     ensures greater { (x y : ℤ) (c : Value) → IsAmount x → IsAmount y → op_value Op.Max (Value.Num x) (Value.Num y) c ≡ Value.Num (int_max x y) }
     ensures above { (x y : ℤ) → (x ≤ℤ int_max x y) × (y ≤ℤ int_max x y) }
@@ -67,8 +67,8 @@ pub fn greater_and_lesser()
     ensures one_below { (x y : ℤ) → (int_min x y ≡ x) ⊎ (int_min x y ≡ y) }
 {}
 
-/// A text has a value exactly where it has the form of a number, or of an amount, and the value is
-/// what the form spells.
+/// A text has a value exactly if it has the form of a number, or of an amount, and the value is the
+/// one that the form denotes.
 pub fn texts_are_read_by_their_form()
     ensures number { (text : List ℕ) (n : ℕ) → number_value text ≡ Some n → SpellsNumber text n }
     ensures number_back { (text : List ℕ) (n : ℕ) → SpellsNumber text n → number_value text ≡ Some n }
@@ -76,7 +76,7 @@ pub fn texts_are_read_by_their_form()
     ensures amount_back { (text : List ℕ) (z : ℤ) → SpellsAmount text z → text_value text ≡ Some z }
 {}
 
-/// What is written of an amount reads back as that amount, so no two amounts have one printed form.
+/// The printed form of an amount reads back as that amount, so different amounts print differently.
 pub fn written_reads_back()
     ensures value { (z : ℤ) → IsAmount z → text_value (printed z) ≡ Some z }
     ensures read { (z : ℤ) → IsAmount z → amount_read (text_value (printed z)) ≡ Ok z }

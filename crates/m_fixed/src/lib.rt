@@ -1,7 +1,7 @@
 //! Amounts, values and the operators of M, exactly: fixed point in millionths, undefined and over.
 //!
-//! This crate stands on nothing but `std`, takes no memory, and knows nothing of terms, tokens or
-//! files. Its contracts are definitions over unbounded whole numbers, in `specs/`.
+//! Uses `std` alone, and takes no memory. Knows nothing of terms, tokens or files. Its contracts
+//! are definitions over unbounded whole numbers, in `specs/`.
 #![tactic(auto)]
 
 mod amount;

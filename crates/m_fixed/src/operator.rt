@@ -1,4 +1,4 @@
-//! The operators of M, and how many arguments each looks at.
+//! The operators of M, and their arities.
 ghost use Rattle.std.specs.Prelude.{◌≡◌, ℕ};
 ghost use Rattle.m_fixed.specs.Operators.{arity_of};
 
@@ -11,7 +11,7 @@ pub enum Op {
     Sub,
     /// `a * b`.
     Mul,
-    /// `a / b`, which is 0 where b is.
+    /// `a / b`; 0 if b is 0.
     Div,
     /// `-a`.
     Neg,
@@ -43,23 +43,23 @@ pub enum Op {
     PositiveOrNull,
     /// `null(a)`: whether a is 0.
     Null,
-    /// `arr(a)`: whole units, from 0.49995 on the next.
+    /// `arr(a)`: rounded to whole units; up from a fraction of 0.49995 on.
     Arr,
-    /// `inf(a)`: whole units, rounded down from a millionth more.
+    /// `inf(a)`: `a` plus a millionth, rounded down to whole units.
     Inf,
     /// `max(a, b)`.
     Max,
     /// `min(a, b)`.
     Min,
-    /// Whether a is a number other than 0, as a check asks.
+    /// Whether a is a number other than 0, as in the condition of a check.
     Truth,
     /// `si c alors a sinon b`.
     Choose,
-    /// Whether an index means a cell: both cut to whole units are equal.
+    /// Whether an index selects a cell: a and b are equal when truncated to whole units.
     At,
 }
 
-/// How many arguments the operator looks at: 2 for `Op::Add`, 3 for `Op::Choose`.
+/// How many arguments the operator uses: 2 for `Op::Add`, 3 for `Op::Choose`.
 pub fn arity(op: Op) -> u8
     ensures { result ≡ arity_of op }
 {

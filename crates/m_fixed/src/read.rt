@@ -10,20 +10,20 @@ ghost use Rattle.m_fixed.specs.Text.{is_digits, only_digits, before_point, behin
 use crate::Amount;
 use crate::amount::{MOST, UNIT};
 
-/// Why a text is not read as an amount.
+/// Why a text isn't an amount.
 #[derive(Clone, Copy, Debug, PartialEq, Eq)]
 pub enum AmountFault {
-    /// The text isn't of the form `-12.5`.
+    /// The text doesn't have the form of `-12.5`.
     NotAnAmount,
-    /// It is, and the amount is beyond the greatest one.
+    /// It has, and the amount is beyond the greatest.
     TooGreat,
 }
 
-/// More whole units than any amount has.
+/// A bound for whole units: more than any amount has.
 const UNITS_ABOVE: u64 = 10_000_000_000_001;
 
-/// The amount that a text spells: a minus or nothing, digits, and after a point decimals. It is
-/// rounded at the sixth decimal, halves away from zero: `-0.1234565` is -0.123457.
+/// The amount that a text denotes: an optional minus, digits, and optionally a point and decimals.
+/// It is rounded at the sixth decimal, halves away from zero: `-0.1234565` is -0.123457.
 pub fn read_amount(text: &[u8]) -> Result<Amount, AmountFault>
     ensures { result ≡ amount_read (text_value text.now) }
 {
@@ -32,7 +32,7 @@ pub fn read_amount(text: &[u8]) -> Result<Amount, AmountFault>
     Ok(Amount::of_size(negative, size))
 }
 
-/// Whether a minus stands first, and the text without it.
+/// Whether the text begins with a minus, and the text without it.
 fn split_sign(text: &[u8]) -> (bool, &[u8])
     ensures sign { result.0 ≡ starts_with_minus text.now }
     ensures number { result.1.now ≡ without_minus text.now }
@@ -44,7 +44,7 @@ fn split_sign(text: &[u8]) -> (bool, &[u8])
     }
 }
 
-/// The millionths that a number without a sign spells.
+/// The millionths that an unsigned number denotes.
 fn read_number(text: &[u8]) -> Result<u64, AmountFault>
     ensures value { result ≡ number_read (number_value text.now) }
     ensures bound { IfOk result (λ size. size ≤ most) }
@@ -64,7 +64,7 @@ fn read_number(text: &[u8]) -> Result<u64, AmountFault>
     }
 }
 
-/// The millionths that the digits before and after a point spell.
+/// The millionths that the digits before and after a point denote.
 fn size(whole: &[u8], decimals: &[u8]) -> Result<u64, AmountFault>
     requires whole_in { IsTrue (only_digits whole.now) }
     requires decimals_in { IsTrue (only_digits decimals.now) }
@@ -79,7 +79,7 @@ fn size(whole: &[u8], decimals: &[u8]) -> Result<u64, AmountFault>
     }
 }
 
-/// What stands before the first point, and what stands after it, if there is one.
+/// The text before the first point, and the text after it, if there is one.
 fn split_at_point(text: &[u8]) -> (&[u8], Option<&[u8]>)
     ensures before { result.0.now ≡ before_point text.now }
     ensures behind { option_copied result.1 ≡ behind_point text.now }
@@ -99,14 +99,14 @@ fn is_digits(text: &[u8]) -> bool
     text.len() > 0 && only_digits(text)
 }
 
-/// Whether nothing but digits stands in the text.
+/// Whether every byte is a digit.
 fn only_digits(text: &[u8]) -> bool
     ensures { result ≡ only_digits text.now }
 {
     text.iter().all(|byte| byte.is_ascii_digit())
 }
 
-/// The whole units, or more than any amount has.
+/// The number that the digits denote, or `UNITS_ABOVE` if it is greater.
 fn whole_units(whole: &[u8]) -> u64
     requires { IsTrue (only_digits whole.now) }
     ensures { result ≡ min (digits_value 10 whole.now) 10_000_000_000_001 }
@@ -118,7 +118,7 @@ fn whole_units(whole: &[u8]) -> u64
     units
 }
 
-/// The millionths of the decimals, rounded at the sixth.
+/// The decimals in millionths, rounded at the sixth.
 fn rounded_decimals(decimals: &[u8]) -> u64
     requires { IsTrue (only_digits decimals.now) }
     ensures value { result ≡ nearest (digits_value 10 decimals.now * unit) (10 ^ length decimals.now) }
@@ -135,7 +135,7 @@ fn rounded_decimals(decimals: &[u8]) -> u64
     }
 }
 
-/// The decimal at a place, which is 0 after the last one.
+/// The decimal at a position; 0 after the last one.
 fn decimal_at(decimals: &[u8], place: usize) -> u64
     requires { IsTrue (only_digits decimals.now) }
     ensures value { result ≡ slice_index_or decimals.now place 48 - 48 }

@@ -1,4 +1,5 @@
-//! What each operator gives.
+//! The result of each operator. All take three values: one table is simpler than a function per
+//! arity, and programs call operators with three values anyway.
 ghost use Rattle.std.specs.Prelude.{◌≡◌, if◌then◌else◌};
 ghost use Rattle.std.specs.Int.{int_max, int_min};
 ghost use Rattle.m_fixed.specs.Operators.{op_value, of_one, of_two, chosen, truth_of, bounded, counts_undefined_as_zero, result_of, truth};
@@ -7,8 +8,8 @@ use crate::amount::UNIT;
 use crate::divide::{cut, nearest_units, product, quotient, units_not_above};
 use crate::{Amount, Op, Value};
 
-/// What the operator gives: of `Op::Div`, 2 and 3 units it is 0.666667, of `Op::Add`, 2 units and
-/// undefined it is 2 units. Arguments past its arity are ignored.
+/// The result of the operator: `Op::Div` of 2 and 3 units is 0.666667, `Op::Add` of 2 units and
+/// undefined is 2 units. Arguments past its arity are ignored; callers pass `Undef`.
 #[tactic(auto, unfolding(crate::specs::Operators::op_value))]
 pub fn apply(op: Op, a: Value, b: Value, c: Value) -> Value
     ensures { result ≡ op_value op a b c }
@@ -43,7 +44,7 @@ pub fn apply(op: Op, a: Value, b: Value, c: Value) -> Value
     }
 }
 
-/// The branch that the condition takes.
+/// The branch that the condition selects.
 fn choose(c: Value, a: Value, b: Value) -> Value
     ensures { result ≡ chosen c a b }
 {
@@ -64,7 +65,7 @@ fn truth_value(a: Value) -> Value
     }
 }
 
-/// What an operator of one argument gives.
+/// The result of an operator of one argument.
 fn apply_one(op: Op, a: Value) -> Value
     ensures { result ≡ of_one op a }
 {
@@ -81,7 +82,8 @@ fn apply_one(op: Op, a: Value) -> Value
     }
 }
 
-/// What an operator of two arguments gives. Two numbers come first: they are the rule.
+/// The result of an operator of two arguments. Two numbers are the frequent case, so they are
+/// tested first.
 fn apply_two(op: Op, a: Value, b: Value) -> Value
     ensures { result ≡ of_two op a b }
 {
@@ -107,7 +109,7 @@ fn apply_two(op: Op, a: Value, b: Value) -> Value
     }
 }
 
-/// What an operator of two arguments gives of two numbers. The greater and the lesser of them are amounts as they are.
+/// The result on two numbers. `max` and `min` are amounts already, so they skip the bound.
 fn of_numbers(op: Op, x: Amount, y: Amount) -> Value
     ensures { result ≡ bounded (result_of op x y) }
 {
@@ -140,7 +142,7 @@ fn lesser(x: Amount, y: Amount) -> Amount
     }
 }
 
-/// What an operator of two arguments gives where one of them is undefined, and 0 stands for it.
+/// The result if one argument is undefined and passed as 0.
 fn with_one_undefined(op: Op, x: Amount, y: Amount) -> Value
     ensures { result ≡ (if counts_undefined_as_zero op then bounded (result_of op x y) else Value.Undef) }
 {
@@ -170,7 +172,8 @@ fn with_one_undefined(op: Op, x: Amount, y: Amount) -> Value
     }
 }
 
-/// What the operator gives of two numbers, in millionths; one of one argument looks at the first.
+/// The result on two numbers, in millionths and without a bound; an operator of one argument uses
+/// the first.
 fn result_of(op: Op, x: Amount, y: Amount) -> i128
     ensures { result ≡ result_of op x y }
 {
@@ -204,7 +207,7 @@ fn result_of(op: Op, x: Amount, y: Amount) -> i128
     }
 }
 
-/// A number as a value.
+/// A number of millionths as a value: `Over` if it is no amount.
 fn bounded(millionths: i128) -> Value
     ensures { result ≡ bounded millionths }
 {
@@ -214,14 +217,14 @@ fn bounded(millionths: i128) -> Value
     }
 }
 
-/// 1 for true and 0 for false, in millionths.
+/// 1 or 0, in millionths.
 fn truth(test: bool) -> i128
     ensures { result ≡ truth test }
 {
     Amount::of_test(test).millionths()
 }
 
-/// The same as a value.
+/// 1 or 0, as a value.
 fn whether(test: bool) -> Value
     ensures { result ≡ Value.Num (truth test) }
 {

@@ -6,8 +6,8 @@ ghost use Rattle.m_fixed.specs.Text.{printed, size_text, fraction_text, decimals
 use crate::Amount;
 use crate::amount::UNIT;
 
-/// Writes the one printed form of an amount into the start of the room, as `-1.5005`, and answers its
-/// length. What stands after it in the room stays.
+/// Writes the printed form of an amount, as `-1.5005`, to the start of the buffer, and returns its
+/// length. The rest of the buffer is unchanged.
 pub fn write_amount(a: Amount, room: &mut [u8; 32]) -> usize
     ensures text { take result room.new ≡ printed a }
     ensures rest { drop result room.new ≡ drop result room.old }
@@ -23,7 +23,7 @@ pub fn write_amount(a: Amount, room: &mut [u8; 32]) -> usize
     }
 }
 
-/// Writes so many millionths from a place on, and answers where they end.
+/// Writes millionths as units and decimals from a position on, and returns the position after them.
 fn write_size(room: &mut [u8; 32], at: usize, size: u64) -> usize
     requires at_in { at ≤ 1 }
     requires size_in { size ≤ most }
@@ -34,7 +34,7 @@ fn write_size(room: &mut [u8; 32], at: usize, size: u64) -> usize
     write_fraction(room, at, size % UNIT)
 }
 
-/// Writes a whole number from a place on, and answers where it ends.
+/// Writes a whole number from a position on, and returns the position after it.
 fn write_whole(room: &mut [u8; 32], at: usize, n: u64) -> usize
     requires { at + length (decimal n) ≤ 32 }
     ensures { Writes room.old room.new at (decimal n) result }
@@ -48,8 +48,8 @@ fn write_whole(room: &mut [u8; 32], at: usize, n: u64) -> usize
     end + 1
 }
 
-/// Writes a point and the decimals of so many millionths from a place on, where there are any, and
-/// answers where they end.
+/// Writes a point and the decimals of this many millionths from a position on, if there are any,
+/// and returns the position after them.
 fn write_fraction(room: &mut [u8; 32], at: usize, fraction: u64) -> usize
     requires at_in { at + 7 ≤ 32 }
     requires fraction_in { fraction < 10 ^ 6 }
@@ -62,8 +62,8 @@ fn write_fraction(room: &mut [u8; 32], at: usize, fraction: u64) -> usize
     write_decimals(room, at + 1, fraction, 6, UNIT)
 }
 
-/// Writes the decimals of a fraction of so many parts, down to the last that isn't 0, from a place on,
-/// and answers where they end.
+/// Writes the decimals of `fraction / parts` from a position on, without zeros at the end, and
+/// returns the position after them.
 fn write_decimals(room: &mut [u8; 32], at: usize, fraction: u64, places: usize, parts: u64) -> usize
     requires parts_in { parts ≡ 10 ^ places }
     requires fraction_in { fraction < 10 ^ places }
