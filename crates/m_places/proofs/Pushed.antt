@@ -1,4 +1,4 @@
--- Texts with one more at the end.
+-- Rule texts with one more appended.
 use Rattle.std.proofs.Common.{◌≡◌, ◌≤◌, ◌+◌, List, [], ◌∷◌, ◌++◌, length, length-append, ap, ◌∙◌, subst, sym, arith}
 use Rattle.m_places.specs.declared.limits.TheConstants.{FILE_BYTES}
 use Rattle.m_places.specs.SourceLimits.{EachIsWithin, all_bytes}

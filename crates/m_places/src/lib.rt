@@ -1,7 +1,10 @@
-//! What every other crate speaks of: names, and names that many own, places in rule files, lists that contracts see as lists, the kinds
-//! and labels of verifications, what is compiled as bytes, gates for workers, and the limits of the program.
+//! The vocabulary of every other crate: names, positions in rule files, lists that contracts see as
+//! lists, labels of verifications, sources to compile, gates for workers, and the limits of the
+//! program.
 //!
-//! This crate stands on `std` and `smallvec` alone, and knows nothing of files on a disk, tokens or amounts.
+//! Uses `std` and `smallvec` alone. Knows nothing of files on a disk, tokens or amounts. The text
+//! of a rule file is a type here, so that what is fetched, what `large N` makes and what is
+//! compiled are the same.
 #![tactic(auto)]
 
 mod gate;

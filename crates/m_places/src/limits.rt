@@ -1,4 +1,5 @@
-//! The limits of the program, each named once, with a law that states each as a number.
+//! The limits of the program, each defined once. Definitions cite the constants, so a wrong number
+//! would be proved everywhere; the law `limits_are` states each as a literal.
 ghost use Rattle.std.specs.Prelude.{◌≡◌};
 
 /// The most bytes of a list, rule, driver, request, household or table file.
@@ -7,7 +8,7 @@ pub const FILE_BYTES: u64 = 16_777_216;
 /// The most bytes of all rule files of a list together.
 pub const RULE_BYTES: u64 = 67_108_864;
 
-/// The most bytes of a code file, of findings and of a report.
+/// The most bytes of a code file, of findings or of a report.
 pub const CODE_FILE_BYTES: u64 = 1_073_741_824;
 
 /// The most rule files in a list.
@@ -37,7 +38,7 @@ pub const TABLE_CELLS: u32 = 1_024;
 /// The greatest weight of a driver.
 pub const DRIVER_WEIGHT: u64 = 4_000_000;
 
-/// The most requests, from a file or of `-`.
+/// The most requests, from a file or `-`.
 pub const REQUESTS: u32 = 100_000;
 
 /// The most rows of a household or a table.

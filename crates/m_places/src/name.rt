@@ -5,8 +5,8 @@ use std::alloc::{AllocError, Global};
 use std::marker::Model;
 
 /// A name: of a variable, a code, a file, a word. Contracts see it as its bytes, which need not be
-/// UTF-8, and two names are equal exactly where their bytes are. A name of up to 16 bytes, as nearly
-/// every name is, takes no memory of its own.
+/// UTF-8; names are equal if their bytes are. A name of up to 16 bytes, as nearly every name is, is
+/// kept inline: allocating names was half of the work on tokens and trees.
 #[derive(Drop)]
 pub struct Name {
     bytes: SmallVec<u8, 16>,

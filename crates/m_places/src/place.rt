@@ -1,4 +1,4 @@
-/// Where something stands in the rule files, as a fault prints it.
+/// A position in the rule files, as error messages print it.
 #[derive(Clone, Copy, Debug, PartialEq, Eq)]
 pub struct Place {
     /// The number of the file in the list, from 0.

@@ -5,8 +5,8 @@ use std::alloc::{AllocError, Global};
 use std::marker::Model;
 use std::sync::Arc;
 
-/// A name that many may own, with one copy of its bytes for all of them. Contracts see it as its
-/// bytes, as they see a `Name`.
+/// A name with several owners and one copy of its bytes, which may go to other threads. Contracts
+/// see it as its bytes, like a `Name`.
 #[derive(Drop)]
 pub struct SharedName {
     name: Arc<Name, Global>,
@@ -38,8 +38,8 @@ impl SharedName {
         self.name.bytes()
     }
 
-    /// The same name for one more owner, which takes no memory, but where it has more owners than
-    /// are counted, in 63 bits: then it is an equal name. Its only error is running out of memory.
+    /// The same name for one more owner. Takes no memory, unless the 63-bit count of owners is
+    /// full: then it is a copy. Its only error is running out of memory.
     pub fn share(&self, alloc: Global) -> Result<SharedName, AllocError>
         ensures { IfOk result (λ s. s ≡ self.now) }
     {

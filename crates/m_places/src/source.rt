@@ -1,18 +1,18 @@
-//! What is compiled, as bytes: the texts of rule files, and a source of them with a driver and requests.
+//! A source to compile, as bytes: the texts of rule files, a driver and requests.
 use crate::{Name, Seq};
 
-/// A rule file: its name, which faults in it print, and its bytes.
+/// A rule file: its name, for error messages, and its bytes.
 #[derive(Drop)]
 pub struct Text {
     pub name: Name,
     pub bytes: Seq<u8>,
 }
 
-/// What is compiled: the application, the rule files in the order of the list, and the driver and the
-/// requests where there are any.
+/// A source to compile: the application, the rule files in the order of the list, and optionally a
+/// driver and requests.
 #[derive(Drop)]
 pub struct Source {
-    /// The word that rules and verifications list where they count.
+    /// The application: only rules and verifications that list this word are compiled.
     pub application: Name,
     pub texts: Seq<Text>,
     pub driver: Option<Seq<u8>>,

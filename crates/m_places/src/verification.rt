@@ -8,9 +8,9 @@ pub enum ErrorKind {
     Informative,
 }
 
-/// What a failed verification prints: its number as spelled in the source, the error's name and
-/// kind, and the error's text. Labels of one verification share its number, and labels of one error
-/// its name and text, so a further label takes no memory but its own.
+/// What a failed verification prints: its number as spelled in the source, and the error's name,
+/// kind and text. Labels of one verification share its number, and labels of one error its name and
+/// text, so another label takes no memory for them.
 #[derive(Drop)]
 pub struct Label {
     pub verif: SharedName,

@@ -1,4 +1,4 @@
--- `Seq` as a type that may hold the type that holds it.
+-- `Seq` as a type former, for types that contain lists of themselves.
 use mathlib.Core.Path.{◌≡◌, refl, sym}
 use mathlib.Core.List.{List, []}
 use mathlib.Core.Former.{Former, this, list, via, children}
