@@ -1,4 +1,4 @@
--- The parts of a list, and what is made of them, from one part to the next.
+-- The parts of a list and their results, by induction over the parts.
 use Rattle.std.proofs.Common.{◌≡◌, ℕ, zero, suc, ◌+◌, ◌*◌, ◌<◌, ◌≤◌, List, [], ◌∷◌, length, get_or, take, drop, Result, Ok, Err, Vec, refl, sym, ap, subst, ◌∙◌}
 use Rattle.std.proofs.Common.{arith}
 use Rattle.std.specs.declared.alloc.Global.{Global}
@@ -14,7 +14,7 @@ is_part items size at some inside =
     record { value = refl; some = omega (arith, some, inside, long, left); within = omega (arith, inside, long, left) }
 
 module _ {X U : Type 0} (gives : ℕ → List X → U → Type 0) (size : ℕ) (items : List X) where
-  -- one part more
+  -- one more part
   a_part : (n : ℕ) (u : U) (made : List U) → n * size < length items → gives (n * size) (part_at items size (n * size)) u
       → AreOfParts gives size ((n + 1) * size) (drop ((n + 1) * size) items) made → AreOfParts gives size (n * size) (drop (n * size) items) (u ∷ made)
   a_part n u made inside gave rest =
@@ -27,7 +27,7 @@ module _ {X U : Type 0} (gives : ℕ → List X → U → Type 0) (size : ℕ) (
             (subst (λ xs. AreOfParts gives size ((n + 1) * size) xs made) left rest),
       )
 
-  -- what is made of the parts from one on, part after part
+  -- the results of the parts from one part on
   parts_from : (n : ℕ) (made : List U) → ((k : ℕ) (d : U) → k < length made → gives ((n + k) * size) (part_at items size ((n + k) * size)) (get_or made k d))
       → ((k : ℕ) → k < length made → (n + k) * size < length items) → length items ≤ (n + length made) * size
       → AreOfParts gives size (n * size) (drop (n * size) items) made
@@ -43,7 +43,7 @@ module _ {X U : Type 0} (gives : ℕ → List X → U → Type 0) (size : ℕ) (
       (λ k h. let there : n + suc k ≡ n + 1 + k = omega arith in subst (λ m. m * size < length items) there (inside (suc k) (omega (arith, h))))
       (subst (λ m. length items ≤ m * size) long reach))
 
-  -- What is made of each part, for callers: `gives` is what they say of it.
+  -- The results of all parts; `gives` is the caller's fact about each.
   pub of_parts : (made : List U) → ((n : ℕ) (d : U) → n < length made → gives (n * size) (part_at items size (n * size)) (get_or made n d))
       → ((n : ℕ) → n < length made → n * size < length items)
       → length items ≤ length made * size → AreOfParts gives size 0 items made
@@ -54,7 +54,7 @@ module _ {X U : Type 0} (gives : ℕ → List X → U → Type 0) (size : ℕ) (
       (λ k h. subst (λ m. m * size < length items) (plus k) (inside k h))
       (subst (λ m. length items ≤ m * size) (plus (length made)) reach))
 
--- results of calls with numbers, one after another
+-- results of calls on consecutive numbers
 pub zipped_at : {U : Type 0} (R : ℕ → U → Type 0) (n count : ℕ) (made : List U) → AllZip R (range_with_len n count) made → (k : ℕ) (d : U) → k < length made
     → R (n + k) (get_or made k d)
 zipped_at R n count [] all k d h = absurd (omega (arith, h))
@@ -69,7 +69,8 @@ zipped_many R n zero (u ∷ made) all = absurd all
 zipped_many R n (suc count) [] all = absurd all
 zipped_many R n (suc count) (u ∷ made) all = ap suc (zipped_many R (n + 1) count made all.1)
 
--- what holds of parts, joined, from the last one to the first: of no item, of a part with a fault, and of a part before what follows it
+-- Induction over joined results, from the last part to the first: for the empty list, for a part
+-- that fails, and for a part before the rest.
 pub stated_of_parts : {X U E : Type 0} (gives : ℕ → List X → Result (Vec U Global) E → Type 0) (size : ℕ) (Says : ℕ → List X → Result (List U) E → Type 0)
     → ((at : ℕ) → Says at [] (Ok []))
     → ((at : ℕ) (items : List X) (fault : E) → 0 < length items → gives at (take size items) (Err fault) → Says at items (Err fault))

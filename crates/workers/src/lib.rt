@@ -1,6 +1,7 @@
-//! Work on the parts of a list, by several threads at once: what a function makes of each part, in the order of the parts.
+//! Parallel work on the parts of a list: a function is applied to each part by a pool of threads,
+//! and the results are in the order of the parts.
 //!
-//! This crate knows nothing of what the items of a list are, nor of what is made of them.
+//! Uses gates of `m_places`, and rayon. Knows nothing of the items of a list, nor of the results.
 #![tactic(auto)]
 
 mod parts;

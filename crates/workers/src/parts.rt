@@ -1,4 +1,6 @@
-//! The parts of a list, each handed to a worker.
+//! Parts of one size, each given to a worker. The parallel iterator runs over the numbers of the
+//! parts with `with_min_len(1)`: rayon runs a chain of fewer than 2,048 items on one thread
+//! otherwise.
 ghost use Rattle.std.specs.Prelude.{◌*◌, ◌<◌, ◌≤◌, ℕ, length, IfOk};
 ghost use Rattle.workers.specs.Parts.{AcceptsParts, IsPart, MadeOfParts, MayGive, part_at};
 
@@ -8,9 +10,10 @@ use std::alloc::{AllocError, Global};
 use std::thread;
 use std::thread::Threads;
 
-/// How many items a part has, the last one perhaps fewer, if so many items are cut into so many parts for each processor, and two at least.
+/// The size of a part, if `items` items are cut into `each` parts per processor, and at least two
+/// parts. The last part may be smaller.
 ///
-/// On four processors 1,000 items are 4 parts of 250, or with four for each processor 16 of 63.
+/// On four processors 1,000 items are 4 parts of 250, or with four per processor 16 of 63.
 pub fn part_size<R: Threads>(rt: &R, items: usize, each: usize) -> usize
     ensures { 0 < result }
 {
@@ -28,11 +31,14 @@ fn size_of(items: usize, parts: usize) -> usize
     items.div_ceil(parts).max(1)
 }
 
-/// What `f` makes of each part of a list, in the order of the parts, whatever their order in time. A part has `size` items, and the last one
-/// perhaps fewer; `f` is given the place of its first item, from 0, and the part. The worker of a part first calls `gate.pass(k)` for the
-/// place k of each of its items. Several parts are worked on at once, each by one worker. The only error is running out of memory.
+/// The results of `f` on the parts of a list, in the order of the parts, whatever their order in
+/// time. A part has `size` items, and the last one perhaps fewer; `f` gets the position of its
+/// first item, from 0, and the part. The worker of a part first calls `gate.pass(k)` for the
+/// position k of each of its items. Parts run in parallel, each on one worker. The only error is
+/// running out of memory.
 ///
-/// Of a list of five items and the size 2 these are the parts with two items, two items and one, at the places 0, 2 and 4.
+/// A list of five items has for the size 2 parts of two items, two items and one, at the positions
+/// 0, 2 and 4.
 pub fn map_parts<
     R: Threads + Sync,
     G: Gate + Sync,
@@ -60,7 +66,7 @@ pub fn map_parts<
         .collect(rt, alloc)
 }
 
-// How many parts of this size so many items have.
+// The number of parts of this size.
 fn part_count(items: usize, size: usize) -> usize
     requires { 0 < size }
     ensures reach { items ≤ result * size }
@@ -69,7 +75,7 @@ fn part_count(items: usize, size: usize) -> usize
     items.div_ceil(size)
 }
 
-/// The part with this number, from 0, of parts of one size: some items, and fewer than the size where the list ends before.
+/// The part with this number, from 0: `size` items, or fewer at the end of the list.
 pub fn part_at<T>(items: &[T], size: usize, n: usize) -> &[T]
     requires size { 0 < size }
     requires inside { n * size < length items.now }
@@ -80,7 +86,7 @@ pub fn part_at<T>(items: &[T], size: usize, n: usize) -> &[T]
     part
 }
 
-// Passes the items of a part, of which the first has this place.
+// Passes the gate for each item of a part; `start` is the position of the first.
 fn pass<G: Gate>(gate: &G, start: usize, count: usize) {
     for n in 0..count {
         gate.pass(u32::try_from(start.saturating_add(n)).unwrap_or(u32::MAX));

@@ -1,4 +1,4 @@
-//! What workers give that may fail, joined.
+//! Results of workers that may fail, joined.
 ghost use Rattle.std.specs.Prelude.{◌≡◌, ◌<◌, IfOk};
 ghost use Rattle.workers.specs.Parts.{AcceptsParts, IsJoined, MayGive, all_items, joined};
 
@@ -7,10 +7,11 @@ use m_places::Gate;
 use std::alloc::{AllocError, Global};
 use std::thread::Threads;
 
-/// What `f` makes of each part of a list, one after another in the order of the parts, or the fault of the first part that has one, whatever
-/// their order in time. Parts and the gate are those of [`map_parts`]. The outer error is running out of memory.
+/// The results of `f` on the parts of a list, appended in the order of the parts, or the error of
+/// the first part that failed, whatever their order in time. Parts and the gate are as in
+/// [`map_parts`]. The outer error is running out of memory.
 ///
-/// Where the second part and the third have a fault, that of the second is answered.
+/// If the second and the third part fail, the error is the second part's.
 pub fn join_parts<
     R: Threads + Sync,
     G: Gate + Sync,
@@ -34,7 +35,7 @@ pub fn join_parts<
     joined(alloc, parts)
 }
 
-// The lists of parts, one after another, or the fault of the first that has one.
+// The lists of the parts, appended, or the error of the first that failed.
 fn joined<U: Drop, E: Drop>(
     alloc: Global,
     parts: Vec<Result<Vec<U>, E>>,
