@@ -1,4 +1,4 @@
--- What a look-up among keys gives, said of their bytes.
+-- Look-ups among keys, as look-ups among their bytes.
 use Rattle.std.proofs.Common.{◌≡◌, ℕ, ◌+◌, Bool, true, false, not, cond, ltb, suc, List, [], ◌∷◌, map, length, Option, Some, None, refl, sym, ap, ◌∙◌, arith}
 use mathlib.Core.Bool.{◌||◌}
 use Rattle.std.specs.Option.{option_map}
@@ -9,7 +9,7 @@ use Rattle.std.proofs.lemmas.Bool.{false≢true}
 use Rattle.m_names.specs.Names.{index_of, has}
 use Rattle.m_names.proofs.NameLemmas.{index_of-none}
 
--- the first place in a longer list
+-- the index in a list that is longer by one in front
 shifted : (b c : Bool) (i : ℕ) → b ≡ c → cond b (Some (1 + i)) None ≡ option_map (λ j. j + 1) (cond c (Some i) None)
 shifted true true i e = ap Some (omega arith)
 shifted false false i e = refl
@@ -35,12 +35,12 @@ index_of-keys bytes name [] = refl
 index_of-keys bytes name (k ∷ ks) = position-cons (λ x. bytes_eq name (bytes x)) k ks
     ∙ ap (λ o. cond (bytes_eq name (bytes k)) (Some 0) (option_map (λ i. i + 1) o)) (index_of-keys bytes name ks)
 
--- where there is a place at all, it is this one
+-- an index that exists is this one
 only_place : (b : Bool) (n : ℕ) (o : Option ℕ) → cond b (Some n) None ≡ o → (o ≡ None → ⊥) → o ≡ Some n
 only_place true n o e f = sym e
 only_place false n o e f = absurd (f (sym e))
 
--- the number of a name that is there
+-- the number of a known name
 pub index_of-known : {K : Type 0} (bytes : K → List ℕ) (name : List ℕ) (ks : List K) → has name (map bytes ks) ≡ true
     → index_of name (map bytes ks) ≡ Some (position_or_len (λ k. bytes_eq name (bytes k)) ks)
 index_of-known bytes name ks h =

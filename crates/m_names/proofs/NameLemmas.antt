@@ -14,7 +14,7 @@ same a b = (bytes_eq-Decides a b).0
 pub itself : (a : List ℕ) → bytes_eq a a ≡ true
 itself a = (bytes_eq-Decides a a).1 refl
 
--- a test is true or false, and what follows in each case
+-- case distinction on a Boolean
 pub cases : (b : Bool) {P : Type 0} → (b ≡ true → P) → (b ≡ false → P) → P
 cases true t f = t refl
 cases false t f = f refl
@@ -50,7 +50,7 @@ pub has-append : (x : List ℕ) (ns ms : List (List ℕ)) → has x (ns ++ ms) �
 has-append x [] ms = refl
 has-append x (n ∷ ns) ms = elim (bytes_eq x n) as (λ b. (b || has x (ns ++ ms)) ≡ ((b || has x ns) || has x ms)) [ true ↦ refl | false ↦ has-append x ns ms ]
 
--- another name's place is one further on in a longer list
+-- no index in the longer list: none in the shorter
 shifted-none : (o : Option ℕ) → option_map (λ i. i + 1) o ≡ None → o ≡ None
 shifted-none None e = refl
 shifted-none (Some i) e = cc
@@ -59,7 +59,7 @@ pub shifted-some : (o : Option ℕ) (j : ℕ) → option_map (λ i. i + 1) o ≡
 shifted-some None j e = cc
 shifted-some (Some i) j e = let h : i + 1 ≡ j = cc in (i, refl, sym h ∙ add-one i)
 
--- a name that isn't there, and one that is
+-- a name without an index isn't among the names
 absent : (b : Bool) (o : Option ℕ) (c : Bool) → cond b (Some 0) (option_map (λ i. i + 1) o) ≡ None → (o ≡ None → c ≡ false) → (b || c) ≡ false
 absent true o c e f = cc
 absent false o c e f = f (shifted-none o e)

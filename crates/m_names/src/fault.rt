@@ -3,13 +3,12 @@ ghost use Rattle.m_names.specs.declared.fault.NamesFault.TheVariants.{Memory};
 
 use std::alloc::{AllocError, AllocFailed};
 
-/// Why names are refused.
+/// Why names are rejected.
 #[derive(Clone, Copy, Debug, PartialEq, Eq)]
 pub enum NamesFault {
-    /// A name stands a second time: its first place, and the place where it stands again, both
-    /// from 0.
+    /// A name occurs twice: the indexes of its first occurrence and of the repeat, from 0.
     Repeated(usize, usize),
-    /// There was no memory.
+    /// Out of memory.
     Memory,
 }
 

@@ -1,19 +1,19 @@
-//! The key under which names are hashed.
+//! The hash key of names.
 
 use m_places::Name;
 use sha2::{Digest, Sha256};
 use std::hash::{BuildHasher, DefaultHasher, Hasher};
 
-/// A key that names are hashed under: each hash goes on from where the key left the hasher.
+/// A key for hashing names: every hash starts from this state of the hasher.
 #[derive(Clone, Copy)]
 pub struct Key {
     start: DefaultHasher,
 }
 
-/// The digest of names, one taken after the other, of which a key is made.
+/// The digest from which a key is made: SHA-256 of the names and their lengths.
 ///
-/// Whoever chose the names chose them before the key was, so they can't be chosen to collide under
-/// it.
+/// A key that depends on all names is known only after they are chosen, so names can't be chosen to
+/// collide under it.
 #[derive(Drop)]
 pub struct NamesDigest {
     digest: Sha256,
@@ -27,13 +27,13 @@ impl NamesDigest {
         }
     }
 
-    /// Takes a further name.
+    /// Adds a name to the digest.
     pub fn take(&mut self, name: &[u8]) {
         self.digest.update(&name.len().to_le_bytes());
         self.digest.update(name);
     }
 
-    /// The key that is made of the names so far.
+    /// The key of the names added so far.
     pub fn key(self) -> Key {
         let NamesDigest { digest } = self;
         let mut start = DefaultHasher::new();
@@ -43,7 +43,7 @@ impl NamesDigest {
 }
 
 impl Key {
-    /// A key that is the digest of these names.
+    /// The key of these names.
     pub(crate) fn of(names: &[Name]) -> Key {
         let mut digest = NamesDigest::new();
         for name in names {

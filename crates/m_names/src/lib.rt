@@ -1,8 +1,8 @@
-//! Names in the order in which they were added, each found by its bytes in one step.
+//! Names in the order in which they were added, each found by its bytes in constant time.
 //!
-//! Variables, the codes of a household's form and the targets of rules are numbered by it. This
-//! crate doesn't know what the names are of. Whoever writes a rule file chooses its names, and so
-//! they are hashed under a key that nobody knows before they are chosen.
+//! Uses names of `m_places`, a hash map and SHA-256. Knows nothing of what the names denote: it
+//! numbers variables, codes of inputs and targets of rules. The author of a rule file chooses its
+//! names, so they are hashed under a key that is made of all of them.
 #![tactic(auto)]
 
 mod fault;

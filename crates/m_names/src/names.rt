@@ -10,8 +10,8 @@ use m_places::Name;
 use std::alloc::{AllocError, Global};
 use std::marker::Model;
 
-/// Distinct names in order, each with its number, from 0. Contracts see them as the list of the
-/// names' bytes.
+/// Distinct names in order, numbered from 0. Contracts see them as the list of the names' bytes.
+/// Numbers are `usize`, which no memory outgrows; a caller that needs 32 bits requires fewer names.
 #[derive(Drop)]
 pub struct Names {
     known: IndexSet<Vec<u8>, Key>,
@@ -28,8 +28,8 @@ impl Model for Names {
 impl Names {
     /// No names. Takes no memory.
     ///
-    /// Where strangers choose the names, `Names::of` takes them all at once, and `Names::under` is
-    /// given a key that was made of them: other names are hashed under a key that anyone can know.
+    /// Names that a user chose go to `Names::of` all at once, or to `Names::under` with a key made
+    /// of them: the names added here are hashed under a key that anyone can compute.
     pub fn new(alloc: Global) -> Names
         ensures { result ≡ [] }
     {
@@ -38,7 +38,7 @@ impl Names {
         }
     }
 
-    /// No names, of which those that will be added are hashed under this key. Takes no memory.
+    /// No names. Those added later are hashed under this key. Takes no memory.
     pub fn under(alloc: Global, key: Key) -> Names
         ensures { result ≡ [] }
     {
@@ -47,7 +47,8 @@ impl Names {
         }
     }
 
-    /// These names in order, or the first of them that stands a second time, with its first place.
+    /// These names in order, or the error for the first that occurs twice. `add` hashes further
+    /// names under the key of these.
     pub fn of(alloc: Global, names: &[Name]) -> Result<Names, NamesFault>
         ensures outcome { Outcome NamesFault.Memory result
             (λ known. (known ≡ names.now) × AreDistinct names.now) (Repeats names.now) }
@@ -65,14 +66,14 @@ impl Names {
         Ok(known)
     }
 
-    /// How many names there are. Takes no memory.
+    /// The number of names. Takes no memory.
     pub fn len(&self) -> usize
         ensures { result ≡ length self.now }
     {
         self.known.len()
     }
 
-    /// The number of a name, from 0, if it is there. Takes no memory.
+    /// The number of a name, from 0, if it is known. Takes no memory.
     pub fn find(&self, name: &[u8]) -> Option<usize>
         ensures number { result ≡ index_of name.now self.now }
         ensures within { IfSome result (λ number. number < length self.now) }
@@ -80,7 +81,7 @@ impl Names {
         self.known.get_index_of(name)
     }
 
-    /// The same of fewer than 2^32 names: the number of a name, from 0, if it is there. Takes no memory.
+    /// `find` for fewer than 2^32 names. Takes no memory.
     pub fn number(&self, name: &[u8]) -> Option<u32>
         requires { length self.now < 2 ^ 32 }
         ensures number { result ≡ index_of name.now self.now }
@@ -92,8 +93,8 @@ impl Names {
         }
     }
 
-    /// Adds a name at the end, and says whether it is new. A name that is there already stays
-    /// where it is. Its only error is running out of memory, and then the names are as they were.
+    /// Appends a name if it is new, and returns whether it was. Its only error is running out of
+    /// memory, and then the names are unchanged.
     pub fn add(&mut self, alloc: Global, name: &[u8]) -> Result<bool, AllocError>
         ensures fresh { IfOk result (λ fresh. fresh ≡ not (has name.now self.old)) }
         ensures added { IfOk result (λ fresh. self.new ≡ (if fresh then self.old ++ name.now ∷ [] else self.old)) }
@@ -103,7 +104,7 @@ impl Names {
         Ok(fresh)
     }
 
-    // Adds a name at the end, if it is new, and gives its number and whether it is new.
+    // Appends a name if it is new. Returns its number, and whether it was new.
     fn put(&mut self, alloc: Global, name: &[u8]) -> Result<(usize, bool), AllocError>
         ensures number { IfOk result (λ r. has name.now self.old ≡ true → index_of name.now self.old ≡ Some r.0) }
         ensures fresh { IfOk result (λ r. r.1 ≡ not (has name.now self.old)) }
@@ -116,7 +117,7 @@ impl Names {
     }
 }
 
-/// Whether a name is among names. Takes no memory, and looks at them one after the other.
+/// Whether a name is among names, by linear search. Takes no memory.
 pub fn has_name(names: &[Name], name: &[u8]) -> bool
     ensures { result ≡ has name.now names.now }
 {
