@@ -1,4 +1,4 @@
--- The value of a few digits.
+-- The value of at most nine digits.
 use Rattle.std.proofs.Common.{◌≡◌, ℕ, ◌+◌, ◌-◌, ◌*◌, ◌<◌, ◌≤◌, Bool, true, false, ◌&&◌, nat_le, List, length, take, get_or, refl, arith}
 use Rattle.std.proofs.lemmas.Bool.{le-leb}
 use Rattle.std.proofs.lemmas.Int.Digits.{digits_value_more}
@@ -34,7 +34,7 @@ holds_digits = record {
 own : IsNumeralModel (λ ds. IsTrue (list_all is_digit ds)) (digits_value 10)
 own = numerals_by_value (λ ds. IsTrue (list_all is_digit ds)) holds_digits
 
--- one digit more
+-- one more digit
 pub value_more : (ds : List ℕ) (i : ℕ) → IsTrue (list_all is_digit ds) → i < length ds
     → digits_value 10 (take (i + 1) ds) ≡ digits_value 10 (take i ds) * 10 + (get_or ds i 0 - 48)
 value_more ds i h below =

@@ -1,4 +1,4 @@
--- Prefixes of lists of bytes: where bytes of one kind end, and which of two prefixes is longer.
+-- Prefixes of byte lists: the end of a run of one kind, and the longer of two prefixes.
 use Rattle.std.proofs.Common.{◌≡◌, ℕ, ◌+◌, ◌-◌, ◌<◌, ◌≤◌, List, [], ◌∷◌, ◌++◌, length, get_or, take, drop, refl, sym, ap, ◌∙◌, subst, arith, inl, inr}
 use Rattle.std.specs.List.{AllByRecursion}
 use Rattle.std.proofs.lemmas.Bool.{cases_lt}
@@ -6,7 +6,7 @@ use Rattle.std.proofs.lemmas.List.{take-append-drop, drop-drop, drop_more, drop_
 use Rattle.std.proofs.lemmas.List.Elements.{recursion_from_All}
 use Rattle.m_text.specs.Bytes.{RunsTo}
 
--- no byte of the kind comes next
+-- the next byte, if any, isn't of the kind
 abbrev pub Stops : (ℕ → Type 0) → List ℕ → Type 0
 Stops P [] = Unit {0}
 Stops P (b ∷ bytes) = P b → ⊥
@@ -15,7 +15,7 @@ pub not_next : (P : ℕ → Type 0) (x : List ℕ) (c : ℕ) (r : List ℕ) → 
 not_next P [] c r e s p = cc
 not_next P (d ∷ x) c r e s p = let q : d ≡ c = cc in s (subst P (sym q) p)
 
--- where bytes of one kind end is one place
+-- a run of one kind has one end
 pub one_front : (P : ℕ → Type 0) (a b x y : List ℕ) → AllByRecursion P a → AllByRecursion P b → Stops P x → Stops P y → a ++ x ≡ b ++ y → (a ≡ b) × (x ≡ y)
 one_front P [] [] x y pa pb sx sy e = (refl, e)
 one_front P [] (c ∷ b) x y pa pb sx sy e = absurd (not_next P x c (b ++ y) e sx pb.0)
@@ -26,7 +26,7 @@ one_front P (c ∷ a) (d ∷ b) x y pa pb sx sy e =
     let q = one_front P a b x y pa.1 pb.1 sx sy tails in
     ((λ i. heads i ∷ q.0 i), q.1)
 
--- the longer of two prefixes goes on from the shorter
+-- the longer of two prefixes extends the shorter
 pub longer : (t r u v : List ℕ) → t ++ r ≡ u ++ v → length t < length u → (c : ℕ) × (more : List ℕ) × (u ≡ t ++ c ∷ more) × (r ≡ c ∷ (more ++ v))
 longer [] r [] v e h = absurd (omega arith)
 longer [] r (c ∷ u) v e h = (c, u, refl, e)
@@ -37,7 +37,7 @@ longer (b ∷ t) r (c ∷ u) v e h =
     let q = longer t r u v tails (omega arith) in
     (q.0, q.1, (λ i. heads i ∷ q.2 i), q.3)
 
--- two prefixes of one length are one
+-- two prefixes of equal length are equal
 pub same_length : (t r u v : List ℕ) → t ++ r ≡ u ++ v → length t ≡ length u → (t ≡ u) × (r ≡ v)
 same_length [] r [] v e h = (refl, e)
 same_length [] r (c ∷ u) v e h = absurd (omega arith)

@@ -1,4 +1,4 @@
--- The first line of a text, by the place of its line feed.
+-- The first line of a text, by the position of its line feed.
 use Rattle.std.proofs.Common.{◌≡◌, ◌≢◌, ℕ, ◌+◌, ◌-◌, ◌<◌, ◌≤◌, zero, suc, Bool, true, false, not, cond, eqb, List, [], ◌∷◌, length, take, drop, get_or, Result}
 use Rattle.std.proofs.Common.{Ok, Err, MatchResult, is_ok, refl, sym, add-one, ap, subst, ◌∙◌, inl, inr, arith}
 use mathlib.Core.Bool.{◌&&◌}
@@ -11,13 +11,13 @@ use Rattle.std.proofs.lemmas.Str.{IsUtf8-from_is_utf8, is_utf8-from_IsUtf8}
 use Rattle.m_text.specs.Bytes.{RunsTo, line_feed}
 use Rattle.m_text.specs.Lines.{lines_of, exact_lines_of, onto_first, begins_with_feed, without_return}
 
--- what std's reader of UTF-8 tells
+-- UTF-8, by the result of std's decoder
 pub is_utf8-from_read : {T E : Type 0} (bytes : List ℕ) (read : Result T E) (P : T → Type 0) (Q : E → Type 0)
     → MatchResult read (λ text. P text × IsUtf8 bytes) (λ fault. (IsUtf8 bytes → ⊥) × Q fault) → is_ok read ≡ is_utf8 bytes
 is_utf8-from_read bytes (Ok text) P Q reported = sym (is_utf8-from_IsUtf8 bytes reported.1)
 is_utf8-from_read bytes (Err fault) P Q reported = sym (false_from_ne_true (is_utf8 bytes) (λ passes. reported.0 (IsUtf8-from_is_utf8 bytes passes)))
 
--- where the first line feed stands
+-- the position of the first line feed, or the length
 abbrev pub feed_place : List ℕ → ℕ
 feed_place bytes = position_or_len (λ byte. eqb byte 10) bytes
 
@@ -28,7 +28,7 @@ feed_place-from_run bytes end r = sym (position_or_len_is (λ byte. eqb byte 10)
     at : end < length bytes → eqb (get_or bytes end 0) 10 ≡ true
     at h = elim (cases_Bool (eqb (get_or bytes end 0) 10)) [ inl is ↦ is | inr other ↦ absurd (r.stops h (eqb-false (get_or bytes end 0) 10 other)) ]
 
--- what each kind of byte makes of the lines after it
+-- the lines of a text from those after its first byte, for each kind of byte
 at_feed : (byte : ℕ) (bytes : List ℕ) → eqb byte 10 ≡ true → lines_of (byte ∷ bytes) ≡ [] ∷ lines_of bytes
 at_feed byte bytes e = rw e refl
 
@@ -47,7 +47,7 @@ place_later : (byte : ℕ) (bytes : List ℕ) (n : ℕ) → feed_place (byte ∷
 place_later byte bytes n p = elim (eqb byte 10) as (λ t. cond (not t) (1 + feed_place bytes) 0 ≡ suc n → t ≡ false)
     [ true ↦ λ q. absurd (omega arith) | false ↦ λ q. refl ] p
 
--- one byte more before the first line feed
+-- one more byte before the first line feed
 before_one_more : (byte : ℕ) (bytes : List ℕ) (n : ℕ) → eqb byte 10 ≡ false → feed_place bytes ≡ n → n < length bytes
     → lines_of bytes ≡ without_return (take n bytes) ∷ lines_of (drop (suc n) bytes)
     → lines_of (byte ∷ bytes) ≡ without_return (take (suc n) (byte ∷ bytes)) ∷ lines_of (drop (suc n) bytes)
@@ -92,7 +92,7 @@ lines_of-no_feed (byte ∷ c ∷ cs) l h =
     let p = last_other byte (c ∷ cs) h in
     at_other byte (c ∷ cs) p.0 (and_right _ _ (last_other c cs p.1).0) ∙ ap (onto_first byte) (lines_of-no_feed (c ∷ cs) (omega arith) p.1)
 
--- a line by its last byte
+-- a line, by its last byte
 pub without_return-return : (line : List ℕ) (last : ℕ) → last + 1 ≡ length line → get_or line last 0 ≡ 13 → take last line ≡ without_return line
 without_return-return [] last l h = absurd (omega arith)
 without_return-return (byte ∷ []) zero l h = sym (rw h refl)
@@ -107,7 +107,7 @@ without_return-other (byte ∷ next ∷ bytes) zero l h = absurd (omega arith)
 without_return-other (byte ∷ []) (suc last) l h = absurd (omega arith)
 without_return-other (byte ∷ next ∷ bytes) (suc last) l h = ap (λ line. byte ∷ line) (without_return-other (next ∷ bytes) last (omega arith) h)
 
--- the same, as code cuts the text
+-- the same, with the slices that the code takes
 pub lines_of-cut : (bytes : List ℕ) (n : ℕ) → n ≡ feed_place bytes → n < length bytes
     → lines_of bytes ≡ without_return (take n bytes) ∷ lines_of (take (length bytes - (n + 1)) (drop (n + 1) bytes))
 lines_of-cut bytes n p l = rw (take_rest, add-one) (lines_of-at_feed bytes n (sym p) l)
@@ -119,7 +119,7 @@ lines_of-whole bytes n e p some =
     let behind : length bytes ≤ n = omega arith in
     rw (take_rest, drop_all) (lines_of-no_feed bytes (omega (arith, has_some)) (omega arith))
 
--- ---- lines as they stand
+-- ---- exact lines
 
 exact_step : (byte : ℕ) (bytes : List ℕ) (n : ℕ)
     → ((m : ℕ) → feed_place bytes ≡ m → m < length bytes → exact_lines_of bytes ≡ take m bytes ∷ exact_lines_of (drop (suc m) bytes))
@@ -148,7 +148,7 @@ exact-no_feed (byte ∷ c ∷ cs) l h =
     let other : exact_lines_of (byte ∷ c ∷ cs) ≡ onto_first byte (exact_lines_of (c ∷ cs)) = rw p.0 refl in
     other ∙ ap (onto_first byte) (exact-no_feed (c ∷ cs) (omega arith) p.1)
 
--- the same, as code cuts the text
+-- the same, with the slices that the code takes
 pub exact-cut : (bytes : List ℕ) (n : ℕ) → n ≡ feed_place bytes → n < length bytes
     → exact_lines_of bytes ≡ take n bytes ∷ exact_lines_of (take (length bytes - (n + 1)) (drop (n + 1) bytes))
 exact-cut bytes n p l = rw (take_rest, add-one) (exact-at_feed bytes n (sym p) l)

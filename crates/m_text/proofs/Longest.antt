@@ -1,10 +1,10 @@
--- Which text of a kind is the longest at the start of bytes.
+-- The longest text of a kind at the start of bytes.
 use Rattle.std.proofs.Common.{◌≡◌, ℕ, ◌≤◌, List, ◌∷◌, ◌++◌, length, sym, ◌∙◌, subst, arith, inl, inr}
 use Rattle.std.proofs.lemmas.Bool.{cases_lt}
 use Rattle.m_text.specs.Words.{LongestOf}
 use Rattle.m_text.proofs.Fronts.{longer, same_length}
 
--- a text is the longest if none of its kind goes on from it
+-- a text is the longest if no longer one of its kind extends it
 pub longest_from : (P : List ℕ → Type 0) (bytes t rest : List ℕ) → bytes ≡ t ++ rest → P t
     → ((c : ℕ) (more v : List ℕ) → rest ≡ c ∷ (more ++ v) → P (t ++ c ∷ more) → ⊥) → LongestOf P bytes t rest
 longest_from P bytes t rest e p none = record { parts = e; piece = p; longest = most }
@@ -15,14 +15,15 @@ longest_from P bytes t rest e p none = record { parts = e; piece = p; longest = 
       | inr h ↦ h
     ]
 
--- the longest text of a kind is one
+-- the longest text of a kind is unique
 pub one_longest : (P : List ℕ → Type 0) (bytes t r u v : List ℕ) → LongestOf P bytes t r → LongestOf P bytes u v → (t ≡ u) × (r ≡ v)
 one_longest P bytes t r u v a b =
     let le : length t ≤ length u = b.longest t r a.parts a.piece in
     let ge : length u ≤ length t = a.longest u v b.parts b.piece in
     same_length t r u v (sym a.parts ∙ b.parts) (omega arith)
 
--- the longest of one kind is the longest of another, where both have the same texts at the start of these bytes
+-- the longest of one kind is the longest of another, if both kinds have the same texts at the start
+-- of these bytes
 pub longest_among : (P Q : List ℕ → Type 0) (bytes t rest : List ℕ) → LongestOf P bytes t rest → Q t → ((u others : List ℕ) → bytes ≡ u ++ others → Q u → P u)
     → LongestOf Q bytes t rest
 longest_among P Q bytes t rest l q same = record { parts = l.parts; piece = q; longest = λ u others e p. l.longest u others e (same u others e p) }

@@ -1,4 +1,4 @@
--- How far a text goes on without a byte.
+-- The search for the first occurrence of a byte.
 use Rattle.std.proofs.Common.{◌≡◌, ◌<◌, ◌+◌, ◌==◌, ℕ, suc, false, true, cond, List, [], ◌∷◌, ◌++◌, length, take, drop, get_or, Option, Some, None, refl, sym}
 use Rattle.std.proofs.Common.{ap, ◌∙◌, arith}
 use Rattle.std.proofs.Math.Seq.{drop-cons}
@@ -6,7 +6,7 @@ use Rattle.std.proofs.lemmas.List.{take_more, drop_all}
 use Rattle.std.proofs.lemmas.Bool.{ne_eqb, eq-eqb}
 use Rattle.m_text.specs.Parts.{with_first, split_at}
 
--- bytes before the parts of a text
+-- bytes put before the parts of a text
 abbrev pub onto : List ℕ → List ℕ × Option (List ℕ) → List ℕ × Option (List ℕ)
 onto [] parts = parts
 onto (b ∷ bs) parts = with_first b (onto bs parts)
@@ -19,7 +19,7 @@ onto_none : (bs : List ℕ) (behind : Option (List ℕ)) → onto bs ([], behind
 onto_none [] behind = refl
 onto_none (b ∷ bs) behind = ap (with_first b) (onto_none bs behind)
 
--- what the text is split into, seen from a position on
+-- the split of the text, from a position on
 abbrev pub Splits : ℕ → List ℕ → ℕ → Type 0
 Splits byte text at = split_at byte text ≡ onto (take at text) (split_at byte (drop at text))
 

@@ -1,4 +1,4 @@
--- Words and numbers: what their first byte is, which are the longest, and where they end.
+-- Words and numbers: their first bytes, which are the longest, and their ends.
 use Rattle.std.proofs.Common.{◌≡◌, ◌≢◌, ℕ, ◌+◌, ◌-◌, ◌<◌, ◌≤◌, List, [], ◌∷◌, ◌++◌, length, get_or, drop, refl, sym, ap, ◌∙◌, subst, arith, inl, inr}
 use Rattle.std.specs.List.{AllByRecursion}
 use Rattle.std.proofs.lemmas.Bool.{cases_lt}
@@ -35,7 +35,7 @@ digits_are_word_bytes = all_weaker IsDigit IsWordByte (λ b h. inr (inl h))
 pub point_is_none : IsWordByte point → ⊥
 point_is_none h = omega arith
 
--- the first byte of two texts in a row
+-- the first byte of a concatenation
 pub first_append : (t u : List ℕ) → (t ≡ [] → ⊥) → first (t ++ u) ≡ first t
 first_append [] u ne = absurd (ne refl)
 first_append (b ∷ t) u ne = refl
@@ -61,7 +61,7 @@ longest_word bytes t rest e h stops = longest_from IsWordOrNumber bytes t rest e
           | inr q ↦ not_number c more outside q
         ]
 
--- a point and a digit do not come next
+-- no point and digit follow
 abbrev pub NoDecimals : List ℕ → Type 0
 NoDecimals rest = (c : ℕ) (more : List ℕ) → rest ≡ point ∷ c ∷ more → IsDigit c → ⊥
 
@@ -116,7 +116,7 @@ longest_decimal bytes whole decimals rest e h k stops = longest_from IsWordOrNum
           | inr q ↦ not_number c more outside q
         ]
 
--- a word runs as far as word bytes do, and one of them is no digit
+-- a word extends as far as word bytes do, and one of them is no digit
 pub word_between : (bytes : List ℕ) (from end whole : ℕ) → RunsTo IsWordByte bytes from end → RunsTo IsDigit bytes from whole → whole < end
     → IsWord (part bytes from end)
 word_between bytes from end whole r d h = (all_part IsWordByte bytes from end r, not_digits)
@@ -152,7 +152,7 @@ pub whole_longest : (bytes : List ℕ) (from to : ℕ) → from < to → RunsTo 
 whole_longest bytes from to h d w short = longest_whole (drop from bytes) (part bytes from to) (drop to bytes) (parts bytes from to d.onward)
     (digits_between bytes from to h d) (stops_part IsWordByte bytes from to w) short
 
--- no decimals follow at the end, where no point stands, and where no digit stands after the point
+-- no decimals follow if there is no point, or no digit after it
 pub no_point : (bytes : List ℕ) (to : ℕ) → (to < length bytes → get_or bytes to 0 ≢ point) → NoDecimals (drop to bytes)
 no_point bytes to ne c more e k = elim (cases_lt to (length bytes)) [
   | inl h ↦ let d = drop_more bytes to 0 h in ne h (cc)
@@ -166,7 +166,7 @@ no_digit bytes to h none c more e k = elim (cases_lt (to + 1) (length bytes)) [
   | inr g ↦ let d = drop_more bytes to 0 h in let f = drop_all (to + 1) bytes g in cc
 ]
 
--- the bytes from one position to a later one, past a third between them
+-- the bytes between two positions, split at a third
 part_split : (bytes : List ℕ) (from mid to b : ℕ) → from ≤ mid → mid < to → to ≤ length bytes → get_or bytes mid 0 ≡ b
     → part bytes from to ≡ part bytes from mid ++ b ∷ part bytes (mid + 1) to
 part_split bytes from mid to b h k g e =

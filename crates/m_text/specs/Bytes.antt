@@ -1,11 +1,11 @@
--- Kinds of bytes, and how far bytes of one kind go on.
+-- Kinds of bytes, and runs of one kind.
 use Rattle.std.specs.Prelude.{◌≡◌, ◌⊎◌, ℕ, ◌≤◌, ◌<◌, nat_le, Bool, ◌&&◌, List, length, slice_index}
 
--- what ends a line
+-- the byte that terminates a line
 abbrev pub line_feed : ℕ
 line_feed = 10
 
--- what is dropped right before a line feed
+-- the byte that is dropped right before a line feed
 abbrev pub carriage_return : ℕ
 carriage_return = 13
 
@@ -45,8 +45,8 @@ IsWordByte b = IsLetter b ⊎ (IsDigit b ⊎ (b ≡ 95))
 abbrev pub IsBlankByte : ℕ → Type 0
 IsBlankByte b = (b ≡ 32) ⊎ ((b ≡ 9) ⊎ ((b ≡ carriage_return) ⊎ (b ≡ line_feed)))
 
--- The bytes from one position to another are all of the kind, and the next one, if there is one,
--- is not. In `12 a` the digits run from position 0 to 2, and from position 2 to 2.
+-- A maximal run: the bytes between the positions are all of the kind, and the next one, if any, is
+-- not. In `12 a` the digits run from position 0 to 2, and from position 2 to 2.
 pub record RunsTo (P : ℕ → Type 0) (bytes : List ℕ) (from to : ℕ) : Type 0 where
   pub onward : from ≤ to
   pub within : to ≤ length bytes

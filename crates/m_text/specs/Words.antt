@@ -1,5 +1,5 @@
--- What words, numbers, quoted texts and comments are spelled by, as lists of bytes. Words and numbers are the
--- same in rules and in drivers.
+-- The spelling of words, numbers, quoted texts and comments, as lists of bytes. Words and numbers
+-- are the same in rules and in drivers.
 use Rattle.std.specs.Prelude.{◌≡◌, ◌≢◌, ◌⊎◌, ℕ, ◌<◌, ◌≤◌, List, [], ◌∷◌, ◌++◌, length, drop, slice_range}
 use Rattle.std.specs.List.{AllByRecursion}
 use Rattle.m_text.specs.Bytes.{IsDigit, IsWordByte, hash, line_feed, point, quote}
@@ -22,26 +22,26 @@ IsDecimal t = (whole decimals : List ℕ) × AreDigits whole × AreDigits decima
 abbrev pub IsNumber : List ℕ → Type 0
 IsNumber t = AreDigits t ⊎ IsDecimal t
 
--- what may begin with a letter, a digit or `_`
+-- the tokens that may begin with a letter, a digit or `_`
 abbrev pub IsWordOrNumber : List ℕ → Type 0
 IsWordOrNumber t = IsWord t ⊎ IsNumber t
 
--- the bytes inside, of any kind but a quote, between two quotes: `""`, `"n"`
+-- the bytes between two quotes, of any kind but a quote: `""`, `"n"`
 abbrev pub IsQuoted : List ℕ → List ℕ → Type 0
 IsQuoted t inside = AllByRecursion (λ b. b ≢ quote) inside × (t ≡ quote ∷ (inside ++ quote ∷ []))
 
--- `#` and bytes of any kind, but no line feed
+-- `#` and bytes of any kind but a line feed
 abbrev pub IsComment : List ℕ → Type 0
 IsComment t = (bytes : List ℕ) × AllByRecursion (λ b. b ≢ line_feed) bytes × (t ≡ hash ∷ bytes)
 
--- t is the longest text of a kind at the start of bytes, and rest stands after it: of `sinon 1` the longest word is
--- `sinon`, with ` 1` after it
+-- t is the longest text of a kind at the start of bytes, and rest follows it: in `sinon 1` the
+-- longest word is `sinon`, and ` 1` follows it
 pub record LongestOf (P : List ℕ → Type 0) (bytes t rest : List ℕ) : Type 0 where
   pub parts : bytes ≡ t ++ rest
   pub piece : P t
   pub longest : (u others : List ℕ) → bytes ≡ u ++ others → P u → length u ≤ length t
 
--- the bytes from one position to another are the longest word or number that begins there
+-- the bytes between the positions are the longest word or number that begins at the first
 pub record LongestBetween (bytes : List ℕ) (from end : ℕ) : Type 0 where
   pub onward : from < end
   pub within : end ≤ length bytes

@@ -1,7 +1,9 @@
-//! Bytes and texts: kinds of bytes, words and numbers of M, the lines of a text, its parts at a byte, and a text that is put together of pieces.
+//! Bytes and texts: kinds of bytes, words and numbers of M, lines, splitting at a byte, and
+//! concatenation.
 //!
-//! The list, the requests, the household, the rules and the driver are read by it. This crate stands on nothing but `std`, and knows neither
-//! tokens nor what lines say. Nothing but `append_pieces` takes memory.
+//! Uses `std` alone. Knows nothing of tokens, nor of what a line means: lists, requests,
+//! households, rules and drivers are all parsed with it. Only `append_pieces` takes memory; it is
+//! here, and not in the crates of outputs, so that the language doesn't depend on them.
 #![tactic(auto)]
 
 mod lines;

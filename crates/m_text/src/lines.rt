@@ -1,4 +1,4 @@
-//! The lines of a text, one after another.
+//! The lines of a text.
 
 ghost use Rattle.std.specs.Prelude.{◌≡◌, ◌+◌, ◌<◌, ◌==◌, [], ◌∷◌, length, drop, IfSome, MatchOption};
 ghost use Rattle.std.specs.Str.{is_utf8};
@@ -6,8 +6,8 @@ ghost use Rattle.m_text.specs.Lines.{lines_of, exact_lines_of, without_return};
 
 use crate::runs::line_end;
 
-/// The first line of a text and what stands after its line feed; `None` where the text is empty.
-/// A carriage return right before the line feed is dropped. Takes no memory.
+/// The first line of a text and the text after its line feed; `None` if the text is empty. A
+/// carriage return right before the line feed is dropped. Takes no memory.
 ///
 /// `first_line(b"iliad\r\na.m")` is the line `iliad` and the rest `a.m`.
 pub fn first_line(bytes: &[u8]) -> Option<(&[u8], &[u8])>
@@ -24,7 +24,7 @@ pub fn first_line(bytes: &[u8]) -> Option<(&[u8], &[u8])>
     Some((without_return(&bytes[..end]), &bytes[end + 1..]))
 }
 
-/// The first line of a text as it stands, and what stands after its line feed; `None` where the text is empty. Takes no memory.
+/// `first_line` without dropping carriage returns. Takes no memory.
 ///
 /// `first_exact_line(b"iliad\r\na.m")` is the line `iliad\r` and the rest `a.m`.
 pub fn first_exact_line(bytes: &[u8]) -> Option<(&[u8], &[u8])>
@@ -41,7 +41,7 @@ pub fn first_exact_line(bytes: &[u8]) -> Option<(&[u8], &[u8])>
     Some((&bytes[..end], &bytes[end + 1..]))
 }
 
-/// A line without the carriage return at its end, if it has one. Takes no memory.
+/// A line without a carriage return at its end. Takes no memory.
 pub fn without_return(line: &[u8]) -> &[u8]
     ensures { result.now ≡ without_return line.now }
 {

@@ -6,7 +6,7 @@ ghost use Rattle.std.specs.Str.Parse.{digits_value};
 ghost use Rattle.m_text.specs.Bytes.{is_digit};
 ghost use Rattle.m_text.specs.Numbers.{whole_number};
 
-/// The number that one to nine digits spell, and `None` for any other text. Takes no memory.
+/// The number that one to nine digits denote, and `None` for any other text. Takes no memory.
 ///
 /// `010` is 10; `1.0`, `1234567890` and the empty text are none.
 #[tactic(auto, unfolding(crate::specs::Numbers::whole_number))]
@@ -19,14 +19,14 @@ pub fn whole_number(text: &[u8]) -> Option<u32>
     None
 }
 
-// Whether nothing but digits stands in the text.
+// Whether every byte is a digit.
 fn only_digits(text: &[u8]) -> bool
     ensures { result ≡ list_all is_digit text.now }
 {
     text.iter().all(|byte| byte.is_ascii_digit())
 }
 
-// What the digits are worth.
+// The value of the digits.
 fn value_of(text: &[u8]) -> u32
     requires digits { IsTrue (list_all is_digit text.now) }
     requires short { length text.now ≤ 9 }

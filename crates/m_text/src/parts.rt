@@ -1,9 +1,10 @@
-//! Where a text is cut at a byte.
+//! Splitting a text at a byte.
 
 ghost use Rattle.std.specs.Prelude.{◌≡◌, ◌≤◌, ◌<◌, ◌+◌, length, take, drop, Some, None};
 ghost use Rattle.m_text.specs.Parts.{split_at};
 
-/// Where a byte first stands, or the end where it doesn't: 1 in `T[2]` for `[`, and 3 in `IRN`. Takes no memory.
+/// The position of the first occurrence of a byte, or the length if it doesn't occur: 1 in `T[2]`
+/// for `[`, and 3 in `IRN`. Takes no memory.
 pub fn first_of(text: &[u8], byte: u8) -> usize
     ensures within { result ≤ length text.now }
     ensures none { result ≡ length text.now → split_at byte text.now ≡ (take result text.now, None) }

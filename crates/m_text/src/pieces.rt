@@ -1,10 +1,10 @@
-//! A text that is put together of pieces.
+//! Concatenation of pieces.
 ghost use Rattle.std.specs.Prelude.{◌≡◌, ◌++◌, OnOk};
 ghost use Rattle.m_text.specs.Pieces.{text_of};
 
 use std::alloc::AllocError;
 
-/// Appends pieces to a text, one after another. Its only error is running out of memory.
+/// Appends pieces to a text, in order. Its only error is running out of memory.
 pub fn append_pieces(text: &mut Vec<u8>, pieces: &[&[u8]]) -> Result<(), AllocError>
     ensures { OnOk result (text.new.items ≡ text.old.items ++ text_of pieces.now) }
 {

@@ -1,9 +1,9 @@
-//! Kinds of bytes, and how far the bytes of one kind go on.
+//! Kinds of bytes, and runs of one kind.
 
 ghost use Rattle.std.specs.Prelude.{◌≡◌, ◌≢◌, ◌≤◌, ◌↔◌, ◌==◌, IsTrue, length, count_by};
 ghost use Rattle.m_text.specs.Bytes.{IsWordByte, IsDigit, RunsTo, is_digit, line_feed, quote};
 
-/// Whether a byte may stand in a word: a letter of ASCII, a digit or `_`.
+/// Whether a byte may occur in a word: a letter of ASCII, a digit or `_`.
 pub fn is_word_byte(b: u8) -> bool
     ensures { IsTrue result ↔ IsWordByte b }
 {
@@ -17,7 +17,7 @@ pub fn is_digit(b: u8) -> bool
     b'0' <= b && b <= b'9'
 }
 
-/// Where the bytes of words from a position on end: 3 in `1AJ+2` from 0, and 3 from 3.
+/// The end of the run of word bytes from a position: 3 in `1AJ+2` from 0, and 3 from 3.
 pub fn word_end(bytes: &[u8], from: usize) -> usize
     requires { from ≤ length bytes.now }
     ensures { RunsTo IsWordByte bytes.now from result }
@@ -30,7 +30,7 @@ pub fn word_end(bytes: &[u8], from: usize) -> usize
     bytes.len()
 }
 
-/// Where the digits from a position on end: 2 in `08..10` from 0, and 2 from 2.
+/// The end of the run of digits from a position: 2 in `08..10` from 0, and 2 from 2.
 pub fn digits_end(bytes: &[u8], from: usize) -> usize
     requires { from ≤ length bytes.now }
     ensures { RunsTo IsDigit bytes.now from result }
@@ -43,8 +43,8 @@ pub fn digits_end(bytes: &[u8], from: usize) -> usize
     bytes.len()
 }
 
-/// Where the line ends that a position is on: at its line feed, or at the end of the bytes. It is 1 in
-/// `a\nb` from 0, and 3 from 2.
+/// The end of the line that contains a position: the position of its line feed, or the length. It
+/// is 1 in `a\nb` from 0, and 3 from 2.
 pub fn line_end(bytes: &[u8], from: usize) -> usize
     requires { from ≤ length bytes.now }
     ensures { RunsTo (λ b. b ≢ line_feed) bytes.now from result }
@@ -57,7 +57,7 @@ pub fn line_end(bytes: &[u8], from: usize) -> usize
     bytes.len()
 }
 
-/// Where the first quote from a position on stands, or the end of the bytes: 2 in `ab"c` from 0, and 4
+/// The position of the first quote from a position on, or the length: 2 in `ab"c` from 0, and 4
 /// from 3.
 pub fn quote_end(bytes: &[u8], from: usize) -> usize
     requires { from ≤ length bytes.now }
@@ -71,7 +71,7 @@ pub fn quote_end(bytes: &[u8], from: usize) -> usize
     bytes.len()
 }
 
-/// How many line feeds there are: 2 in `a\n\nb`.
+/// The number of line feeds: 2 in `a\n\nb`.
 pub fn line_feeds(bytes: &[u8]) -> usize
     ensures { result ≡ count_by (λ b. b == line_feed) bytes.now }
 {
