@@ -1,4 +1,4 @@
--- Values of inputs that may have each amount.
+-- Values of inputs that admit every amount.
 use Rattle.std.proofs.Common.{◌≡◌, ℕ, ℤ, pos, negsuc, ◌≤◌, ◌<◌, leb, cond, zero, suc, Bool, true, false, List, [], ◌∷◌, length, set, Option, None, Some, Result}
 use Rattle.std.proofs.Common.{Ok, Err, refl, sym, subst, arith}
 use Rattle.std.proofs.lemmas.Int.{ints}
@@ -18,7 +18,7 @@ amount_of_size : (z : ℤ) → unsigned_abs z ≤ most → IsAmount z
 amount_of_size (pos n) h = record { low = omega (arith, ints); high = omega (arith, ints) }
 amount_of_size (negsuc n) h = record { low = omega (arith, ints); high = omega (arith, ints) }
 
--- what is read is an amount
+-- an amount that was parsed is one
 pub read_amount : (stated : Option ℤ) (z : ℤ) → amount_read stated ≡ Ok z → IsAmount z
 read_amount None z h = cc h
 read_amount (Some y) z h = by (leb (unsigned_abs y) most) refl h
@@ -27,11 +27,11 @@ read_amount (Some y) z h = by (leb (unsigned_abs y) most) refl h
     by true e g = let same : y ≡ z = cc in subst IsAmount same (amount_of_size y (leb-true _ _ e))
     by false e g = cc g
 
--- an input that may have each amount may have each value that isn't over
+-- an input that admits every amount admits every value except over
 pub value_of_any : (input : Coded) (v : Value) → input.kind ≡ Any → IsValueOf Any v → IsValueOf input.kind v
 value_of_any input v any h = subst (λ kind. IsValueOf kind v) (sym any) h
 
--- one of the values is replaced by one that its input may have
+-- one value is replaced by another that its input admits
 pub set-value : (inputs : List Coded) (values : List Value) (number : ℕ) (v : Value) → AreAny inputs → AreValuesOf inputs values → IsValueOf Any v
     → AreValuesOf inputs (set values number v)
 set-value [] [] number v any all h = all

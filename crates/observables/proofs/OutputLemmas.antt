@@ -1,4 +1,4 @@
--- Outputs that are names alone.
+-- Outputs that are all named.
 use Rattle.std.proofs.Common.{◌≡◌, ℕ, true, List, [], ◌∷◌, refl, ap}
 use Rattle.std.specs.Prelude.{map}
 use Rattle.observables.specs.declared.face.FaceLabel.{FaceLabel}
@@ -14,7 +14,7 @@ pub named-first : (labels : List FaceLabel) (names : List (List ℕ)) → notes_
 named-first labels [] = refl
 named-first labels (name ∷ names) = named-all names
 
--- and the names are these
+-- the names of the outputs
 pub names-named : (names : List (List ℕ)) → names_of (map Named names) ≡ names
 names-named [] = refl
 names-named (name ∷ names) = ap (λ rest. name ∷ rest) (names-named names)

@@ -1,4 +1,4 @@
--- The inputs of a program, and the lists of values that programs are asked for.
+-- The inputs of a program, and the lists of values that it accepts.
 use Rattle.std.specs.Prelude.{◌≡◌, ℕ, ℤ, pos, Bool, true, false, ◌||◌, ⊤, List, [], ◌∷◌, codes, map, IsTrue, int_rem, if◌then◌else◌}
 use Rattle.std.specs.List.{AllByRecursion, AllZip}
 use Rattle.std.specs.Ordering.{int_eq}
@@ -14,28 +14,29 @@ use Rattle.observables.specs.declared.inputs.InputType.TheVariants.{Any, Whole, 
 abbrev pub codes_of : List Coded → List (List ℕ)
 codes_of inputs = map (λ input. input.code) inputs
 
--- the type that a word of a declaration says
+-- the input type that a declaration's type word denotes
 abbrev pub type_of : List ℕ → InputType
 type_of word = if bytes_eq word (codes "BOOLEEN") then Truth else if bytes_eq word (codes "ENTIER") then Whole else Any
 
--- Whether so many millionths are an amount of a type: 2500000 are of the type `Any` alone, 3000000 of `Whole` too, and
--- 1000000 of all three.
+-- Whether an amount in millionths is of a type: 2500000 is of the type `Any` alone, 3000000 of
+-- `Whole` too, and 1000000 of all three.
 abbrev pub is_of_type : InputType → ℤ → Bool
 is_of_type Any z = true
 is_of_type Whole z = int_eq (int_rem z (pos 1_000_000)) (pos 0)
 is_of_type Truth z = int_eq z (pos 0) || int_eq z (pos 1_000_000)
 
--- inputs that may have each amount
+-- all inputs admit every amount
 abbrev pub AreAny : List Coded → Type 0
 AreAny inputs = AllByRecursion (λ input. input.kind ≡ Any) inputs
 
--- a value that an input of a type may have: it is undefined, or an amount of the type, and not over
+-- a value that an input of a type admits: undefined or an amount of the type, but not over
 abbrev pub IsValueOf : InputType → Value → Type 0
 IsValueOf kind Undef = ⊤
 IsValueOf kind (Num z) = IsAmount z × IsTrue (is_of_type kind z)
 IsValueOf kind Over = ⊥
 
--- Values that a program with these inputs is asked for: one for each input, in order, which that input may have. Programs that
--- were made faster answer as the source does for these lists, and need not for others.
+-- The lists of values that a program with these inputs accepts: for each input, in order, a value
+-- that it admits. Optimized programs answer as the source does for these lists only, which need not
+-- be the values of a household.
 abbrev pub AreValuesOf : List Coded → List Value → Type 0
 AreValuesOf inputs values = AllZip (λ input value. IsValueOf input.kind value) inputs values

@@ -1,4 +1,4 @@
--- The outputs of a face: notes, and values with names.
+-- The outputs of a program: notes, and named values.
 use Rattle.std.specs.Prelude.{ℕ, Bool, true, false, ◌&&◌, List, [], ◌∷◌, Option, Some, None, is_some, option_and_then, slice_get}
 use Rattle.m_places.specs.declared.verification.Label.{Label}
 use Rattle.observables.specs.declared.face.FaceLabel.{FaceLabel}
@@ -18,22 +18,22 @@ notes_of [] = []
 notes_of (Named name ∷ outputs) = notes_of outputs
 notes_of (Noted number ∷ outputs) = number ∷ notes_of outputs
 
--- the verification that a label tells, if it tells one
+-- the verification of a label, if it is one's
 abbrev pub verif_of : FaceLabel → Option Label
 verif_of (Verif label) = Some label
 verif_of (DriverLine line) = None
 
--- the verification that the label with this number tells, if there is such a label and it tells one
+-- the verification of the label with this number, if there is one
 abbrev pub verif_at : List FaceLabel → ℕ → Option Label
 verif_at labels number = option_and_then verif_of (slice_get labels number)
 
--- whether no output is a note
+-- no output is a note
 abbrev pub are_named : List FaceOutput → Bool
 are_named [] = true
 are_named (Named name ∷ outputs) = are_named outputs
 are_named (Noted number ∷ outputs) = false
 
--- Whether the notes stand before the names, and each has the number of a verification's label.
+-- The notes come before the names, and each has the number of a verification's label.
 abbrev pub notes_stand_first : List FaceLabel → List FaceOutput → Bool
 notes_stand_first labels [] = true
 notes_stand_first labels (Named name ∷ outputs) = are_named outputs

@@ -1,7 +1,7 @@
 use m_fixed::Value;
 use m_places::Seq;
 
-/// What ends a run before its end. The number is that of a label of the program's face.
+/// What stops a run. The number is that of a label in the program's interface.
 #[derive(Clone, Copy, Debug, PartialEq, Eq)]
 pub enum Stop {
     /// A condition is a number other than 0.
@@ -10,7 +10,7 @@ pub enum Stop {
     Over(u32),
 }
 
-/// What a run answers: the value of each output in order, or what ended it.
+/// The result of a run: the value of each output in order, or what stopped it.
 #[derive(Drop)]
 pub enum Answer {
     Values(Seq<Value>),

@@ -1,30 +1,31 @@
-//! The inputs of a program: their codes, and the amounts that they may have.
+//! The inputs of a program: their codes and types. They are in this crate because it is the lowest
+//! that uses inputs.
 ghost use Rattle.std.specs.Prelude.{◌≡◌};
 ghost use Rattle.observables.specs.Inputs.{is_of_type, type_of};
 
 use m_fixed::Amount;
 use m_places::Name;
 
-/// The amounts that an input may have.
+/// The amounts that an input admits.
 #[derive(Clone, Copy, Debug, PartialEq, Eq)]
 pub enum InputType {
-    /// Each amount.
+    /// Every amount.
     Any,
-    /// Whole units alone: 3, and not 2.5.
+    /// Whole units: 3, and not 2.5.
     Whole,
-    /// The amounts 0 and 1 alone.
+    /// 0 and 1.
     Truth,
 }
 
-/// An input: the code by which households name it, and the amounts that it may have.
+/// An input: the code that households use for it, and the amounts that it admits.
 #[derive(Drop)]
 pub struct Coded {
     pub code: Name,
     pub kind: InputType,
 }
 
-/// The type that a word of a declaration says: `BOOLEEN` is `Truth`, `ENTIER` is `Whole`, and each other word is `Any`. Takes
-/// no memory.
+/// The input type that a declaration's type word denotes: `BOOLEEN` is `Truth`, `ENTIER` is
+/// `Whole`, and any other word is `Any`. Takes no memory.
 pub fn type_of(word: &[u8]) -> InputType
     ensures { result ≡ type_of word.now }
 {
@@ -37,7 +38,7 @@ pub fn type_of(word: &[u8]) -> InputType
     }
 }
 
-/// Whether an amount is one of a type: 2.5 is of the type `Any` alone. Takes no memory.
+/// Whether an amount is of a type: 2.5 is of the type `Any` alone. Takes no memory.
 pub fn is_of_type(kind: InputType, amount: Amount) -> bool
     ensures { result ≡ is_of_type kind amount }
 {

@@ -1,7 +1,8 @@
-//! What is observed of a program, whatever its form: what it is asked for, what a run answers, what ended it, and what a
-//! program shows of itself.
+//! What can be observed of a program in any form: the values that it accepts, the result of a run,
+//! what stopped it, and its interface.
 //!
-//! This crate knows nothing of rules, drivers, nodes, instructions or printed lines.
+//! Uses amounts, and names and labels of `m_places`. Knows nothing of rules, drivers, nodes,
+//! instructions or printed lines.
 #![tactic(auto)]
 
 mod answer;

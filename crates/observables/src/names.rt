@@ -1,4 +1,4 @@
-//! Faces without notes.
+//! Interfaces without notes.
 ghost use Rattle.std.specs.Prelude.{◌≡◌, IfOk, map};
 ghost use Rattle.observables.specs.declared.face.FaceOutput.TheVariants.{Named};
 
@@ -6,7 +6,8 @@ use crate::{Coded, Face, FaceLabel, FaceOutput};
 use m_places::{Name, Seq};
 use std::alloc::{AllocError, Global};
 
-/// The face of a program whose outputs are values with these names, and no notes. Its only error is running out of memory.
+/// The interface of a program whose outputs all have names. Its only error is running out of
+/// memory.
 pub fn named_face(
     alloc: Global,
     inputs: Seq<Coded>,
@@ -25,7 +26,7 @@ pub fn named_face(
     })
 }
 
-// An output for each name, in order.
+// A named output for each name, in order.
 fn named(alloc: Global, names: Seq<Name>) -> Result<Seq<FaceOutput>, AllocError>
     ensures { IfOk result (λ outputs. outputs ≡ map Named names) }
 {
