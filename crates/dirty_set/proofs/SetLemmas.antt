@@ -1,4 +1,4 @@
--- Sets with a summary: their lists, one change after another, and the next member.
+-- Sets with summaries: their lists of Booleans after each change, and the next member.
 use Rattle.std.proofs.Common.{◌≡◌, ◌≢◌, ℕ, ◌*◌, ◌/◌, ◌<◌, ◌≤◌, Bool, true, false, not, eqb, length, get_or, set, map, replicate, List, sym, ap, subst, ◌∙◌}
 use Rattle.std.proofs.Common.{⊎_elim, arith}
 use Rattle.std.specs.List.{range_with_len}
@@ -12,7 +12,7 @@ use Rattle.dirty_set.proofs.WordLemmas.{has_zero, has_with_same, has_with_other,
 pub length-members : (words : List ℕ) (n : ℕ) → length (members words n) ≡ n
 length-members words n = length-map-range_with_len (has words) 0 n
 
--- the list says of each number whether words have it
+-- an element of the list is the bit of its number
 pub member_is : (words summary : List ℕ) (n k : ℕ) → IsSummed words summary n → is_member (members words n) k ≡ has words k
 member_is words summary n k h =
     ⊎_elim
@@ -77,7 +77,7 @@ summed_with words summary n k h below =
           (cases_eq v w);
     }
 
--- where the word becomes 0
+-- if the word becomes 0
 pub summed_cleared : (words summary : List ℕ) (n k : ℕ) → IsSummed words summary n → k < n → word_at (without_bit words k) (k / 64) ≡ 0
     → IsSummed (without_bit words k) (without_bit summary (k / 64)) n
 summed_cleared words summary n k h below zero =
@@ -100,7 +100,7 @@ summed_cleared words summary n k h below zero =
           (cases_eq v w);
     }
 
--- where the word doesn't
+-- if the word stays other than 0
 pub summed_without : (words summary : List ℕ) (n k : ℕ) → IsSummed words summary n → k < n → word_at (without_bit words k) (k / 64) ≢ 0
     → IsSummed (without_bit words k) summary n
 summed_without words summary n k h below some =
@@ -142,7 +142,7 @@ layered_with words summary top n k h below =
           (summed_with summary top (length words) (k / 64) h.upper places.0);
     }
 
--- where the number's word stays other than 0
+-- if the word of the number stays other than 0
 pub layered_without : (words summary top : List ℕ) (n k : ℕ) → IsLayered words summary top n → k < n
     → eqb (word_at (without_bit words k) (k / 64)) 0 ≡ false → IsLayered (without_bit words k) summary top n
 layered_without words summary top n k h below some = record {
@@ -150,7 +150,7 @@ layered_without words summary top n k h below some = record {
   upper = subst (λ m. IsSummed summary top m) (sym (length-set words (k / 64) _)) h.upper;
 }
 
--- where it becomes 0, and the summary's word doesn't
+-- if it becomes 0, but the summary's word doesn't
 pub layered_cleared : (words summary top : List ℕ) (n k : ℕ) → IsLayered words summary top n → k < n
     → eqb (word_at (without_bit words k) (k / 64)) 0 ≡ true → eqb (word_at (without_bit summary (k / 64)) (k / 64 / 64)) 0 ≡ false
     → IsLayered (without_bit words k) (without_bit summary (k / 64)) top n
@@ -162,7 +162,7 @@ layered_cleared words summary top n k h below zero some =
           (summed_without summary top (length words) (k / 64) h.upper places.0 (λ none. false≢true (sym some ∙ eq-eqb _ 0 none)));
     }
 
--- where both do
+-- if both become 0
 pub layered_emptied : (words summary top : List ℕ) (n k : ℕ) → IsLayered words summary top n → k < n
     → eqb (word_at (without_bit words k) (k / 64)) 0 ≡ true → eqb (word_at (without_bit summary (k / 64)) (k / 64 / 64)) 0 ≡ true
     → IsLayered (without_bit words k) (without_bit summary (k / 64)) (without_bit top (k / 64 / 64)) n
@@ -183,7 +183,7 @@ next_member words summary n p r h next = record {
   between = λ i low high. member_is words summary n i h ∙ next.between i low high;
 }
 
--- a number that words have is below the count
+-- a member is below the count
 pub has_within : (words summary : List ℕ) (n k : ℕ) → IsSummed words summary n → has words k ≡ true → k < n
 has_within words summary n k h some = ⊎_elim (λ lt. lt) (λ ge. absurd (false≢true (sym (h.clean k ge) ∙ some))) (cases_lt k n)
 

@@ -1,4 +1,4 @@
--- Bits of words, one change after another, and the next bit.
+-- Bits of words after each change, and the next bit.
 use Rattle.std.proofs.Common.{◌≡◌, ◌≢◌, ℕ, ◌+◌, ◌-◌, ◌*◌, ◌/◌, ◌%◌, ◌^◌, ◌<◌, ◌≤◌, true, false, not, eqb, length, set, List, bit_and, bit_or, w64, refl, sym}
 use Rattle.std.proofs.Common.{ap, ◌∙◌, ⊎_elim, arith, shr-shr}
 use Rattle.std.specs.Int.{bit_at, bit_not, trailing_zeros}
@@ -97,12 +97,12 @@ has_without_other words k i h ne =
     (λ (other : i / 64 ≢ k / 64). has_out words (k / 64) (bit_and (word_at words (k / 64)) (bit_not w64 (1 * 2 ^ (k % 64) % 2 ^ 64))) i other)
     (cases_eq (i / 64) (k / 64))
 
--- a word that was given a bit isn't 0
+-- a word with a bit set isn't 0
 pub word_with : (words : List ℕ) (k : ℕ) → k / 64 < length words → eqb (word_at (with_bit words k) (k / 64)) 0 ≡ false
 word_with words k h =
     ne_eqb (word_at (with_bit words k) (k / 64)) 0 (λ zero. false≢true (sym (has_zero (with_bit words k) k zero) ∙ has_with_same words k h))
 
--- a word that isn't 0 after a bit was taken wasn't 0 before
+-- a word that isn't 0 after a bit is cleared wasn't 0 before
 pub word_without : (words : List ℕ) (k : ℕ) → k / 64 < length words → word_at (without_bit words k) (k / 64) ≢ 0 → word_at words (k / 64) ≢ 0
 word_without words k h some none =
     let new = bit_and (word_at words (k / 64)) (bit_not w64 (1 * 2 ^ (k % 64) % 2 ^ 64)) in
@@ -111,7 +111,7 @@ word_without words k h some none =
 
 -- ---- the next number
 
--- bit k of word w, where words have no number from p up to `from` of word w
+-- bit k of word w is the next, if no bit is set from p up to bit `from` of word w
 pub next_in : (words : List ℕ) (p w from k : ℕ) → p ≤ 64 * w + from → k < 64 → ((i : ℕ) → p ≤ i → i < 64 * w + from → has words i ≡ false)
     → IsNext (is_one (word_at words w)) from k → IsNext (has words) p (64 * w + k)
 next_in words p w from k start small past next =
@@ -132,7 +132,7 @@ next_in words p w from k start small past next =
           (cases_lt i (64 * w + from));
     }
 
--- the same of a word without a bit
+-- the same, if the rest of word w has no bit
 pub none_in : (words : List ℕ) (p w from : ℕ) → from ≤ 64 → ((i : ℕ) → p ≤ i → i < 64 * w + from → has words i ≡ false)
     → ((i : ℕ) → from ≤ i → is_one (word_at words w) i ≡ false)
     → (i : ℕ) → p ≤ i → i < 64 * (w + 1) → has words i ≡ false
@@ -145,16 +145,16 @@ none_in words p w from small past none i low high =
     ap (λ v. is_one (word_at words v) (i % 64)) there ∙ none (i % 64) at_least)
     (cases_lt i (64 * w + from))
 
--- ---- with a summary
+-- ---- words with a summary
 
 abbrev Sums : List ℕ → List ℕ → Type 0
 Sums words summary = (w : ℕ) → has summary w ≡ not (eqb (word_at words w) 0)
 
--- a word that the summary lacks is 0
+-- a word without its summary bit is 0
 word_zero : (words summary : List ℕ) (w : ℕ) → Sums words summary → has summary w ≡ false → word_at words w ≡ 0
 word_zero words summary w h none = eqb-true (word_at words w) 0 (not-false (eqb (word_at words w) 0) (sym (h w) ∙ none))
 
--- a word that it has isn't 0
+-- a word with its summary bit isn't 0
 pub word_some : (words summary : List ℕ) (w : ℕ) → Sums words summary → has summary w ≡ true → 0 < word_at words w
 word_some words summary w h some =
     let ne : word_at words w ≢ 0 = λ zero. false≢true (sym (h w ∙ ap not (eq-eqb (word_at words w) 0 zero)) ∙ some) in
@@ -165,7 +165,7 @@ word_there words summary w h some =
     ⊎_elim (λ lt. lt) (λ ge. absurd (let zero : word_at words w ≡ 0 = get_or_past words w 0 ge in omega (arith, word_some words summary w h some, zero)))
     (cases_lt w (length words))
 
--- no number of words up to v, by the summary
+-- no bit up to word v, by the summary
 pub none_between : (words summary : List ℕ) (p w v : ℕ) → Sums words summary → ((i : ℕ) → p ≤ i → i < 64 * (w + 1) → has words i ≡ false)
     → ((i : ℕ) → w + 1 ≤ i → i < v → has summary i ≡ false) → (i : ℕ) → p ≤ i → i < 64 * v → has words i ≡ false
 none_between words summary p w v h near far i low high =
@@ -182,7 +182,7 @@ pub none_behind : (words summary : List ℕ) (p w : ℕ) → Sums words summary 
 none_behind words summary p w h near far i low =
     none_between words summary p w (i / 64 + 1) h near (λ j from below. far j from) i low (omega arith)
 
--- the same of p in the middle of a word without a bit from there on
+-- the same from p on, if the rest of p's word has no bit
 pub none_near : (words : List ℕ) (p : ℕ) → ((i : ℕ) → p % 64 ≤ i → is_one (word_at words (p / 64)) i ≡ false) → (i : ℕ) → p ≤ i → i < 64 * (p / 64 + 1)
     → has words i ≡ false
 none_near words p none =

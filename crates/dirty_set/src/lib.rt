@@ -1,8 +1,7 @@
-//! Sets of numbers below a count, of which the least member, and the next one above a number, are found in a few steps however
-//! rare members are: words of 64 numbers, a summary with a bit for each word that isn't 0, and a top with a bit for each word of
-//! the summary that isn't 0.
+//! Sets of numbers below a count, as bit sets with two levels of summaries: the least member, and
+//! the next above a number, are found in a few steps however rare members are.
 //!
-//! This crate stands on `std` alone, and knows nothing of what is numbered.
+//! Uses `std` alone. Knows nothing of what the numbers denote.
 #![tactic(auto)]
 
 mod set;

@@ -1,4 +1,4 @@
-//! Sets of numbers in words under two levels of summaries.
+//! Bit sets with two levels of summaries: a summary has a bit for each word, set if that isn't 0.
 ghost use Rattle.std.specs.Prelude.{◌≡◌, ℕ, ◌+◌, ◌<◌, ◌≤◌, ◌^◌, true, false, length, replicate, slice_set, IfOk, IfSome, MatchOption};
 ghost use Rattle.dirty_set.specs.Members.{IsNext, is_member};
 
@@ -6,14 +6,15 @@ use crate::words::{clear_bit, next_layered, set_bit};
 use std::alloc::{AllocError, Global};
 use std::marker::Model;
 
-/// A set of numbers below a count. Contracts see a list that says of each of them whether it is a member.
+/// A set of numbers below a count. Contracts see a list with a Boolean for each number: whether it
+/// is a member.
 #[derive(Drop)]
 pub struct Bits {
     count: u32,
     words: Vec<u64>,
-    // bit w is 1 where word w isn't 0
+    // bit w is 1 if word w isn't 0
     summary: Vec<u64>,
-    // the same of the summary's words
+    // the summary of the summary
     top: Vec<u64>,
 }
 
@@ -29,7 +30,7 @@ impl Model for Bits {
 }
 
 impl Bits {
-    /// The empty set of numbers below a count. Its only error is running out of memory; no later call takes memory.
+    /// The empty set. Its only error is running out of memory; no later call takes memory.
     pub fn new(alloc: Global, count: u32) -> Result<Bits, AllocError>
         ensures { IfOk result (λ bits. bits ≡ replicate count false) }
     {
@@ -44,7 +45,7 @@ impl Bits {
         })
     }
 
-    /// Makes a number a member, which it may be already.
+    /// Adds a number, if it isn't a member already.
     pub fn insert(&mut self, k: u32)
         requires { k < length self.old }
         ensures { self.new ≡ slice_set self.old k true }
@@ -55,7 +56,7 @@ impl Bits {
         set_bit(&mut self.top, k / 64 / 64);
     }
 
-    /// Makes a number no member, which it may not be already.
+    /// Removes a number, if it is a member.
     pub fn remove(&mut self, k: u32)
         requires { k < length self.old }
         ensures { self.new ≡ slice_set self.old k false }
@@ -68,7 +69,7 @@ impl Bits {
         }
     }
 
-    /// The least member: 3 of the numbers 3, 70 and 4,000, and `None` where there is none.
+    /// The least member, or `None`: 3 of the numbers 3, 70 and 4,000.
     pub fn first(&self) -> Option<u32>
         ensures next { MatchOption result ((k : ℕ) → is_member self.now k ≡ false) (λ r. IsNext (is_member self.now) 0 r) }
         ensures within { IfSome result (λ r. r < length self.now) }
@@ -76,7 +77,7 @@ impl Bits {
         self.next_from(0)
     }
 
-    /// The least member above a number: 4,000 above 70 of the numbers 3, 70 and 4,000, and `None` where there is none.
+    /// The least member above a number, or `None`: 4,000 above 70 of the numbers 3, 70 and 4,000.
     pub fn next_after(&self, k: u32) -> Option<u32>
         requires { k < length self.now }
         ensures next { MatchOption result ((i : ℕ) → k < i → is_member self.now i ≡ false) (λ r. IsNext (is_member self.now) (k + 1) r) }
@@ -87,7 +88,7 @@ impl Bits {
         self.next_from(k + 1)
     }
 
-    /// The least member from a number on.
+    /// The least member not below a number.
     pub fn next_from(&self, p: u32) -> Option<u32>
         ensures next { MatchOption result ((k : ℕ) → p ≤ k → is_member self.now k ≡ false) (λ r. IsNext (is_member self.now) p r) }
         ensures within { IfSome result (λ r. (r < length self.now) × (r + 1 < 2 ^ 32)) }
@@ -98,7 +99,7 @@ impl Bits {
         }
     }
 
-    /// Makes the set empty, in steps by its members.
+    /// Removes all members. Takes one step per member, not per number.
     pub fn clear(&mut self)
         ensures { self.new ≡ replicate (length self.old) false }
     {

@@ -1,10 +1,10 @@
-//! Numbers as bits of words: number k is bit k % 64 of word k / 64.
+//! Bit sets as words: number k is bit k % 64 of word k / 64.
 ghost use Rattle.std.specs.Prelude.{◌≡◌, ℕ, ◌*◌, ◌/◌, ◌<◌, ◌≤◌, ◌^◌, ◌==◌, not, false, length, IfSome, MatchOption};
 ghost use Rattle.std.specs.Int.{bit_at};
 ghost use Rattle.dirty_set.specs.Members.{IsNext};
 ghost use Rattle.dirty_set.specs.inner.Words.{has, is_one, word_at, with_bit, without_bit};
 
-// The lowest bit of a word from bit k on.
+// The lowest set bit of a word from bit k on.
 fn lowest_from(word: u64, k: usize) -> Option<usize>
     requires { k < 64 }
     ensures next { MatchOption result ((i : ℕ) → k ≤ i → is_one word i ≡ false) (λ r. IsNext (is_one word) k r) }
@@ -18,7 +18,7 @@ fn lowest_from(word: u64, k: usize) -> Option<usize>
     }
 }
 
-// The first number from p on that words have.
+// The first set bit from p on.
 fn next_one(words: &[u64], p: usize) -> Option<usize>
     requires { length words.now < 2 ^ 32 }
     ensures { MatchOption result ((i : ℕ) → p ≤ i → has words.now i ≡ false) (λ r. IsNext (has words.now) p r) }
@@ -33,7 +33,7 @@ fn next_one(words: &[u64], p: usize) -> Option<usize>
     None
 }
 
-// The lowest bit of a word that isn't 0.
+// The lowest set bit of a word that isn't 0.
 fn lowest(word: u64) -> usize
     requires { 0 < word }
     ensures next { IsNext (is_one word) 0 result }
@@ -42,7 +42,7 @@ fn lowest(word: u64) -> usize
     word.trailing_zeros() as usize
 }
 
-// The first number from p on that words have, of which a summary has each that isn't 0.
+// The first set bit from p on, by means of a summary.
 fn next_summed(words: &[u64], summary: &[u64], p: usize) -> Option<usize>
     requires few { length words.now < 2 ^ 32 }
     requires short { length summary.now < 2 ^ 32 }
@@ -62,8 +62,8 @@ fn next_summed(words: &[u64], summary: &[u64], p: usize) -> Option<usize>
     }
 }
 
-/// The first number from p on that words have, under two levels of summaries. All that grows with the count is the number of the
-/// top's words, one for each 262,144 numbers.
+/// The first set bit from p on, by means of two levels of summaries. Only the scan of the top grows
+/// with the count: it has one word for each 262,144 numbers.
 pub(crate) fn next_layered(words: &[u64], summary: &[u64], top: &[u64], p: usize) -> Option<usize>
     requires few { length words.now < 2 ^ 32 }
     requires short { length summary.now < 2 ^ 32 }
@@ -85,7 +85,7 @@ pub(crate) fn next_layered(words: &[u64], summary: &[u64], top: &[u64], p: usize
     }
 }
 
-/// Gives words a number.
+/// Sets the bit of a number.
 pub(crate) fn set_bit(words: &mut Vec<u64>, k: usize)
     requires { k / 64 < length words.old.items }
     ensures { words.new.items ≡ with_bit words.old.items k }
@@ -93,7 +93,7 @@ pub(crate) fn set_bit(words: &mut Vec<u64>, k: usize)
     words[k / 64] |= 1 << (k % 64);
 }
 
-/// Takes a number from words, and tells whether its word is 0 then.
+/// Clears the bit of a number, and returns whether its word is 0 afterwards.
 pub(crate) fn clear_bit(words: &mut Vec<u64>, k: usize) -> bool
     requires { k / 64 < length words.old.items }
     ensures words { words.new.items ≡ without_bit words.old.items k }
