@@ -1,4 +1,4 @@
--- A text that goes through a buffer is given as one.
+-- A text written through a buffer is given as a whole.
 use Rattle.std.proofs.Common.{◌≡◌, ◌≤◌, ℕ, ◌+◌, length, take, drop, List, [], ◌∷◌, ◌++◌, Option, None, Some, Result, Ok, Err, refl, sym, ◌∙◌, ap, subst}
 use Rattle.std.proofs.Common.{append_assoc, append-nil}
 use Rattle.std.specs.Io.KnownBytes.{append_known}
@@ -36,15 +36,15 @@ extends_by : (before now : Option (List ℕ)) (part : List ℕ) → now ≡ appe
 extends_by None now part is = is
 extends_by (Some bytes) now part is = rw is (ap (λ (l : List ℕ). Some (bytes ++ l)) (sym (drop_front bytes part)))
 
--- a part more was written
+-- another part was written
 pub extends_more : (before mid now : Option (List ℕ)) (part : List ℕ) → Extends before mid → now ≡ append_known mid part → Extends before now
 extends_more before mid now part was is =
     extends_by before now (part_since before mid ++ part) (is ∙ ap (λ known. append_known known part) was
     ∙ append_known-append before (part_since before mid) part)
 
--- ---- bytes that are given from a place on
+-- ---- the bytes from a position on
 
--- so many bytes more of the rest are given
+-- n more bytes of the rest are given
 pub given_more : {S : Type 0} (written : S → Option (List ℕ)) (faults : S → ℕ) (old now new : S) (bytes text : List ℕ) (place n : ℕ)
     → n ≤ length (drop place bytes)
     → Given written faults old now text (drop place bytes) → written new ≡ append_known (written now) (take n (drop place bytes)) → faults new ≡ faults now
@@ -53,7 +53,7 @@ given_more written faults old now new bytes text place n few given more none =
     piece_given written faults old now new text (take n (drop place bytes)) (drop (place + n) bytes) (drop place bytes)
     (sym (take-append-drop n (drop place bytes)) ∙ ap (λ rest. take n (drop place bytes) ++ rest) (drop-drop n place bytes)) given more none
 
--- what is given and what is left make the whole
+-- the given bytes and the rest are the whole text
 pub given_whole : {S : Type 0} (written : S → Option (List ℕ)) (faults : S → ℕ) (old now : S) (text rest : List ℕ) → Given written faults old now text rest
     → append_known (written now) rest ≡ append_known (written old) text
 given_whole written faults old now text rest given =
@@ -79,16 +79,16 @@ pub given_grew : {S : Type 0} (written : S → Option (List ℕ)) (faults : S �
     → written new ≡ written now → Extends before (written old) → Extends before (written new)
 given_grew written faults old now new text rest before given kept was = extends_more before (written old) (written new) given.front was (kept ∙ given.appended)
 
--- the place is at the end
+-- the position is at the end
 pub given_all : {S E : Type 0} (written : S → Option (List ℕ)) (faults : S → ℕ) (old now : S) (text bytes : List ℕ) (place : ℕ) (result : Result (Unit {0}) E)
     → length bytes ≤ place
     → result ≡ Ok tt → Given written faults old now text (drop place bytes) → Gives written faults old now result text
 given_all written faults old now text bytes place result end ok given =
     all_given written faults old now text result tt ok (subst (λ (rest : List ℕ). Given written faults old now text rest) (drop_all place bytes end) given)
 
--- ---- a text that was printed into a buffer, and what was gathered then
+-- ---- a text printed into a buffer, and the gathered rest
 
--- of a text that is written and gathered, what was written and then what is gathered
+-- the text is the part that was given and the part that is gathered
 cut : (bytes : List ℕ) (now : Option (List ℕ)) (rest text : List ℕ) → Extends (Some bytes) now → append_known now rest ≡ Some (bytes ++ text)
     → text ≡ part_since (Some bytes) now ++ rest
 cut bytes now rest text was is =
@@ -99,7 +99,7 @@ cut bytes now rest text was is =
 untold : (old : Option (List ℕ)) (text : List ℕ) → old ≡ None → AppendsPrefix None old text
 untold old text none = record { part = text; rest = []; whole = sym (append-nil text); appended = none }
 
--- a write of what was gathered failed
+-- a write of the gathered bytes failed
 rest_prefix : (old mid new : Option (List ℕ)) (rest text : List ℕ) → Extends old mid → append_known mid rest ≡ append_known old text
     → AppendsPrefix mid new rest → AppendsPrefix old new text
 rest_prefix None mid new rest text was is prefix = untold new text (prefix.appended ∙ ap (λ known. append_known known prefix.part) was)
@@ -119,7 +119,8 @@ gathered_prefix (Some bytes) mid rest text was prefix = record {
   appended = was;
 }
 
--- The text was printed into a new buffer, and what was gathered then was given, or a write of it failed: the text was given, or a prefix of it.
+-- The text was printed into a new buffer, and the gathered bytes were given, or that write failed:
+-- the text was given, or a prefix of it.
 pub through_given : {S T E : Type 0} (written : S → Option (List ℕ)) (faults : S → ℕ) (old before mid new : S) (start first : Option (List ℕ))
     (rest text : List ℕ) (result : Result T E)
     → before ≡ old → first ≡ written old → written old ≡ start → Extends start (written mid) → append_known (written mid) rest ≡ append_known first text
@@ -162,7 +163,8 @@ through_failed written faults old before mid start first rest text result fault 
   counted = subst (λ count. count ≤ faults mid) (ap faults made) counted;
 })
 
--- The text was printed into a new buffer, which was finished then.
+-- The text was printed into a new buffer, which was then finished: the one lemma that callers of
+-- `finish` need.
 pub through_result : {S : Type 0} (written : S → Option (List ℕ)) (faults : S → ℕ) (old before mid new : S) (start first : Option (List ℕ)) (rest text : List ℕ)
     (printed result : Result (Unit {0}) Failed)
     → before ≡ old → first ≡ written old → written old ≡ start → Extends start (written mid)

@@ -1,4 +1,4 @@
--- How many attempts of several fetches in a row failed.
+-- Failed attempts of successive fetches.
 use Rattle.std.proofs.Common.{◌≡◌, ◌+◌, List, [], ◌∷◌, ◌++◌, sym, ◌∙◌, ap, zero-add, add_assoc, if◌then◌else◌}
 use Rattle.m_ports.specs.declared.files.Attempt.{Attempt}
 use Rattle.m_ports.specs.Files.{failed_count}

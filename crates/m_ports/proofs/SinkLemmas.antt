@@ -1,4 +1,4 @@
--- Several writes in a row are one write of all their bytes, also where the last one failed on its way.
+-- Successive writes are one write of all their bytes, also if the last one failed.
 use Rattle.std.proofs.Common.{◌≡◌, ℕ, ◌+◌, ◌-◌, length, arith, length-drop, List, ◌++◌, Option, None, Some, take, drop, refl, sym, ◌∙◌, ap, append_assoc}
 use Rattle.std.specs.Io.KnownBytes.{append_known}
 use Rattle.std.proofs.lemmas.List.{take-append-drop, take_all}
@@ -19,11 +19,11 @@ append_known-take old mid new bytes i n first second =
     ∙ append_known-append old (take i bytes) (take n (drop i bytes))
     ∙ ap (append_known old) (sym (take-add i n bytes))
 
--- the rest of a slice from i on, as its range says it
+-- the rest of a slice from i on, as a range
 pub rest_from : (bytes : List ℕ) (i : ℕ) → take (length bytes - i) (drop i bytes) ≡ drop i bytes
 rest_from bytes i = take_all (length bytes - i) (drop i bytes) (omega (arith, length-drop i bytes))
 
--- what was written of the bytes so far is a prefix of them
+-- what was written of the bytes is a prefix of them
 pub AppendsPrefix-take : (old new : Option (List ℕ)) (bytes : List ℕ) (i : ℕ) → new ≡ append_known old (take i bytes) → AppendsPrefix old new bytes
 AppendsPrefix-take old new bytes i appended = record {
   part = take i bytes;
@@ -43,7 +43,7 @@ AppendsPrefix-after old mid new first second before prefix = record {
       ∙ append_known-append old first prefix.part;
 }
 
--- a prefix of a text is one of a longer text
+-- a prefix of a text is a prefix of a longer text
 pub AppendsPrefix-before : (old new : Option (List ℕ)) (first second : List ℕ) → AppendsPrefix old new first → AppendsPrefix old new (first ++ second)
 AppendsPrefix-before old new first second prefix = record {
   part = prefix.part;

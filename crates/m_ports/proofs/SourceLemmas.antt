@@ -1,10 +1,10 @@
--- Several reads in a row are one read of all their bytes.
+-- Successive reads are one read of all their bytes.
 use Rattle.std.proofs.Common.{◌≡◌, ℕ, ◌+◌, ◌≤◌, length, min, arith, List, ◌++◌, Option, ◌∙◌, ap, length-append, take, length-take}
 use Rattle.std.specs.Io.KnownBytes.{Consumes}
 use Rattle.std.proofs.KnownBytes.{Consumes-trans}
 use Rattle.m_ports.specs.Counts.{RoseByMoved, last_count}
 
--- what was moved, where the count says so
+-- the bytes moved are as many as were counted
 pub rose_by_moved : (old mid new : Option (List ℕ)) (first piece : List ℕ) (n before after : ℕ)
     → Consumes old mid first → Consumes mid new (take n piece) → n ≤ length piece
     → after ≡ min (before + (length first + n)) last_count → RoseByMoved old new before after

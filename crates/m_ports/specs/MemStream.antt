@@ -2,9 +2,9 @@
 use Rattle.std.specs.Prelude.{ℕ, List, ◌++◌, take, drop}
 use Rattle.m_ports.specs.Counts.{counted_up}
 
--- A stream in memory: its bytes, which are those that are left of an input or that were written to
--- an output, the most bytes that a call moves, the numbers of the calls that fail, and how many
--- calls were counted and how many of them failed.
+-- A stream in memory: its bytes (those left of an input, or those written to an output), the most
+-- bytes that a call moves, the numbers of the calls that fail, and the counts of calls and of
+-- failed calls.
 pub record MemStream : Type 0 where
   pub bytes : List ℕ
   pub piece : ℕ
@@ -16,11 +16,11 @@ pub record MemStream : Type 0 where
 abbrev pub new_stream : List ℕ → ℕ → List ℕ → MemStream
 new_stream bytes piece failing = record { bytes = bytes; piece = piece; failing = failing; calls = 0; faults = 0 }
 
--- the stream after a call that failed
+-- the stream after a failed call
 abbrev pub after_fault : MemStream → MemStream
 after_fault stream = record stream { calls = counted_up stream.calls; faults = counted_up stream.faults }
 
--- the input after a call that moved the first n of its bytes
+-- the input after a call that moved its first n bytes
 abbrev pub after_take : MemStream → ℕ → MemStream
 after_take stream n = record stream { bytes = drop n stream.bytes; calls = counted_up stream.calls }
 

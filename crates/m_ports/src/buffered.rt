@@ -1,4 +1,5 @@
-//! An output that gathers what is written in a room of a fixed size, and gives it to another output when the room is full.
+//! An output that gathers bytes in a buffer of a fixed size, and gives them to another output when
+//! the buffer is full.
 ghost use Rattle.std.specs.Prelude.{◌≡◌, ℕ, ◌≤◌, ◌<◌, ◌+◌, ◌-◌, ◌++◌, List, Option, IfOk, OnOk, OnErr, IsOk, length, min, take, drop};
 ghost use Rattle.std.specs.Borrow.{GName};
 ghost use Rattle.std.specs.Io.KnownBytes.{append_known};
@@ -9,12 +10,15 @@ ghost use Rattle.m_ports.specs.Buffers.{Extends, free_place, gathered, with_gath
 use crate::{Failed, Sink};
 use std::marker::{Brand, PhantomData};
 
-/// Which output a buffer gives to, and what was written to that when the buffer was made. A caller picks them where it passes `Brand`.
+/// Ghost data that identifies the output of a buffer, and what was written to it when the buffer
+/// was made. Nothing is known of a reference that a function keeps once the function returns; so
+/// whoever makes a buffer gets the reference back from `finish`, and proves by its name that it is
+/// the same one. A caller passes `Brand`, and picks the values there.
 pub trait Origin {
     /// The name of the reference to the output.
     ghost name: { GName };
 
-    /// What was written, where that is told.
+    /// What was written, if it is known.
     ghost start: { Option (List ℕ) };
 }
 
@@ -26,24 +30,25 @@ impl Origin for Brand {
     ghost start = { None };
 }
 
-/// An output after a text was printed to it, and how that ended.
+/// An output after a text was printed to it, and the result.
 #[derive(Drop)]
 pub struct Printed<'a, K> {
     /// The output.
     pub out: &'a mut K,
-    /// `Failed` where a write failed.
+    /// `Failed` if a write failed.
     pub result: Result<(), Failed>,
 }
 
-/// An output that gathers what is written in a room of at least one byte. Where the room is full and a further byte comes, all of the room
-/// is given to another output, and `finish` gives the rest: a text is given by as many calls as its bytes fill rooms, where the output takes
-/// all that a call gives. What counts as written is what was given and then what is gathered; a write that fails leaves that as it was. No call
-/// takes memory. What is gathered is lost where `finish` isn't called.
+/// An output that gathers bytes in a buffer of at least one byte. When the buffer is full and
+/// another byte arrives, the whole buffer is given to the output; `finish` gives the rest. So a
+/// text takes one call per full buffer, if the output accepts all bytes of a call. The written
+/// bytes are those given followed by those gathered; a failed write doesn't change them. No call
+/// takes memory. Gathered bytes are lost if `finish` isn't called.
 #[derive(Drop)]
 pub struct BufferedSink<'a, K: Sink, O: Origin> {
     out: &'a mut K,
     room: &'a mut [u8],
-    // The room has `filled` bytes, of which the first `given` are given.
+    // The buffer has `filled` bytes, of which the first `given` are given.
     given: usize,
     filled: usize,
     origin: PhantomData<O>,
@@ -55,7 +60,7 @@ pub struct BufferedSink<'a, K: Sink, O: Origin> {
 }
 
 impl<'a, K: Sink, O: Origin> BufferedSink<'a, K, O> {
-    /// A buffer before an output, with nothing gathered.
+    /// A buffer for an output, with nothing gathered.
     pub fn new(out: &'a mut K, room: &'a mut [u8]) -> BufferedSink<'a, K, O>
         requires name { out.ghost_name ≡ O.name }
         requires start { K.written out.old ≡ O.start }
@@ -75,7 +80,7 @@ impl<'a, K: Sink, O: Origin> BufferedSink<'a, K, O> {
         }
     }
 
-    /// Gives what is gathered still, where all before was printed, and hands the output back.
+    /// Gives the gathered bytes, if everything before was printed, and returns the output.
     pub fn finish(self, printed: Result<(), Failed>) -> Printed<'a, K>
         ensures name { result.out.ghost_name ≡ self.entry.out.ghost_name }
         ensures gives { OnOk printed (Gives K.written K.faults self.entry.out.now result.out.now result.result
@@ -91,7 +96,8 @@ impl<'a, K: Sink, O: Origin> BufferedSink<'a, K, O> {
         Printed { out, result }
     }
 
-    // Gives what is gathered. On a failure a prefix of it was given, and the rest stays.
+    // Gives the gathered bytes. On a failure a prefix of them was given, and the rest stays
+    // gathered.
     fn flush(&mut self) -> Result<(), Failed>
         ensures gives { Gives K.written K.faults self.old.out.now self.new.out.now result (gathered self.old.given self.old.filled self.old.room.now) }
         ensures written { with_gathered (K.written self.new.out.now) self.new.given self.new.filled self.new.room.now
@@ -107,7 +113,7 @@ impl<'a, K: Sink, O: Origin> BufferedSink<'a, K, O> {
         result
     }
 
-    // How many bytes the room has place for.
+    // The size of the buffer.
     fn size(&self) -> usize
         ensures { result ≡ length self.now.room.now }
     {
@@ -120,8 +126,8 @@ impl<'a, K: Sink, O: Origin> Sink for BufferedSink<'a, K, O> {
 
     ghost faults = { λ s. K.faults s.out.now };
 
-    /// Gathers as many bytes of the piece as the room has place for. Nothing is given where it has place, and where it has none all of it is given
-    /// before.
+    /// Gathers as many bytes of the piece as the buffer has space for. Only if it is full, all of
+    /// it is given first.
     fn give(&mut self, piece: &[u8]) -> Result<usize, Failed>
         ensures count { IfOk result (λ n. n ≡ min (length piece.now) (free_place self.old.filled (length self.old.room.now))) }
         ensures waits { self.old.filled < length self.old.room.now → IsOk result × (self.new.out.now ≡ self.old.out.now) }
@@ -150,7 +156,7 @@ impl<'a, K: Sink, O: Origin> Sink for BufferedSink<'a, K, O> {
     }
 }
 
-// Gives the bytes of a room from a place to another, and moves the first place as far as they were given.
+// Gives the bytes of a buffer between two positions, and moves the first to the end of those given.
 fn give_room<K: Sink>(
     out: &mut K,
     room: &mut [u8],
@@ -169,7 +175,7 @@ fn give_room<K: Sink>(
     give_from(out, &room[..filled], given)
 }
 
-// The same of a text from a place on.
+// The same for a text, from a position to its end.
 fn give_from<K: Sink>(out: &mut K, text: &[u8], given: &mut usize) -> Result<(), Failed>
     requires { given.old ≤ length text.now }
     ensures gives { Gives K.written K.faults out.old out.new result (drop given.old text.now) }
@@ -184,7 +190,7 @@ fn give_from<K: Sink>(out: &mut K, text: &[u8], given: &mut usize) -> Result<(),
     Ok(())
 }
 
-// Puts a piece into a room after the bytes that it has.
+// Copies a piece into a buffer after its first `filled` bytes.
 fn put(room: &mut [u8], filled: usize, piece: &[u8])
     requires { filled + length piece.now ≤ length room.old }
     ensures size { length room.new ≡ length room.old }

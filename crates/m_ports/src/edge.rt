@@ -1,6 +1,6 @@
-//! What stands between the adapters and the system: an opener, a reader and a writer, each of which may tell its bytes and count its
-//! faults. Those of the system do neither, so what an adapter does with them is proved for all that might. The calls here that reach
-//! the system are trusted: one line each.
+//! The edge between the adapters and the system: an opener, a reader and a writer, whose contents
+//! and counts of failures may be known. Those of the system have neither, so what is proved of an
+//! adapter holds for all. The calls here that reach the system are trusted; each is one line.
 ghost use Rattle.std.specs.Prelude.{◌≡◌, ℕ, ◌<◌, List, Option, length, IfOk, OnOk, OnErr};
 ghost use Rattle.std.specs.Io.{ReadsAtMost, WritesAtMost};
 ghost use Rattle.std.specs.Io.KnownBytes.{ReadConsumes, WriteAppends};
@@ -11,12 +11,12 @@ use std::fs::File;
 use std::io::{self, Read, Write};
 use std::rt;
 
-/// A reader. Each `Read` is one that counts nothing.
+/// A reader. Each `Read` is one, with unknown contents.
 pub trait Reader {
-    /// The bytes that are left, where it tells them.
+    /// The bytes that are left, if they are known.
     ghost remaining: { Self → Option (List ℕ) };
 
-    /// How many of its calls gave an error, where it counts them.
+    /// The number of calls that returned an error, if it is counted.
     ghost failures: { Self → Option ℕ };
 
     /// As `Read::read`.
@@ -39,12 +39,13 @@ impl<R: Read> Reader for R {
     }
 }
 
-/// A writer. Each `Write` is one that counts nothing.
+/// A writer. Each `Write` is one, with unknown contents.
 pub trait Writer {
-    /// The bytes that it holds, where it tells them.
+    /// The bytes that it contains, if they are known.
     ghost contents: { Self → Option (List ℕ) };
 
-    /// How many of its calls gave an error, or took nothing of bytes that were there, where it counts them.
+    /// The number of calls that returned an error, or accepted none of at least one byte, if it is
+    /// counted.
     ghost failures: { Self → Option ℕ };
 
     /// As `Write::write`.
@@ -69,25 +70,25 @@ impl<W: Write> Writer for W {
     }
 }
 
-/// What opens files by their paths, and reads the one that is open.
+/// Opens files by their paths, one at a time, and reads the open one.
 pub trait Opener {
-    /// What each path holds, where it tells it. A missing path holds nothing.
+    /// The files' contents by path, if they are known; none for a missing path.
     ghost known_files: { Self → Option (List ℕ → Option (List ℕ)) };
 
-    /// The bytes that are left of the open file, where it tells them.
+    /// The bytes that are left of the open file, if they are known.
     ghost remaining: { Self → Option (List ℕ) };
 
-    /// How many of its calls gave an error, where it counts them.
+    /// The number of calls that returned an error, if it is counted.
     ghost failures: { Self → Option ℕ };
 
-    /// Opens the file of this path, in the place of the one that was open.
+    /// Opens the file of this path in place of the one that was open.
     fn open(&mut self, path: &str) -> io::Result<()>
         ensures opened { OnOk result (Opens (known_files self.old) path.now (remaining self.new)) }
         ensures failed { OnErr result (failures self.new ≡ after_failure (failures self.old)) }
         ensures faultless { OnOk result (failures self.new ≡ failures self.old) }
         ensures same { known_files self.new ≡ known_files self.old };
 
-    /// Reads from the file that is open, as `Read::read`.
+    /// Reads from the open file, as `Read::read`.
     fn read_open(&mut self, piece: &mut [u8]) -> io::Result<usize>
         ensures bound { ReadsAtMost result piece.new }
         ensures bytes { ReadConsumes (remaining self.old) (remaining self.new) result piece.new }
@@ -95,13 +96,14 @@ pub trait Opener {
         ensures faultless { OnOk result (failures self.new ≡ failures self.old) }
         ensures same { known_files self.new ≡ known_files self.old };
 
-    /// Closes the file that is open.
+    /// Closes the open file.
     fn close(&mut self)
         ensures faultless { failures self.new ≡ failures self.old }
         ensures same { known_files self.new ≡ known_files self.old };
 }
 
-/// The files of the system, by their paths. It tells and counts nothing.
+/// The files of the system, by their paths. Their contents aren't known, and failures aren't
+/// counted.
 #[derive(Drop)]
 pub struct Disk<'a, H: rt::Files> {
     rt: &'a H,

@@ -1,6 +1,7 @@
-//! Files that are fetched whole by their names.
+//! Files that are fetched whole by name.
 //!
-//! A fetch names a limit and is noted down as an attempt, so that a caller's contract can say which
+//! A fetch has a limit and is recorded as an attempt, so a caller's contract can state which names
+//! were fetched and which fetches failed, even if the files' contents aren't known.
 //! names were fetched and which of them failed, also where nothing is known of what files hold.
 ghost use Rattle.std.specs.Prelude.{◌≡◌, ℕ, ◌+◌, ◌<◌, ◌≤◌, List, ◌++◌, Option, length, IfOk, IsErrOf, vec_len, vec_capacity};
 ghost use Rattle.m_ports.specs.declared.files.Attempt.{Attempt};
@@ -14,11 +15,11 @@ use std::alloc::{AllocError, AllocFailed, Global};
 /// Why a file was not fetched.
 #[derive(Clone, Copy, Debug, PartialEq, Eq)]
 pub enum FetchFault {
-    /// It could not be opened or read, or there is none of that name.
+    /// It couldn't be opened or read, or doesn't exist.
     Failed,
     /// It has more bytes than the limit.
     TooLong,
-    /// There was no memory for it.
+    /// Out of memory.
     Memory,
 }
 
@@ -38,7 +39,7 @@ impl<T: Drop> From<AllocFailed<T>> for FetchFault {
     }
 }
 
-/// One fetch: the name that was asked for, and whether opening or reading the file failed.
+/// A fetch: the requested name, and whether opening or reading the file failed.
 #[derive(Drop)]
 pub struct Attempt {
     pub name: Name,
@@ -47,19 +48,19 @@ pub struct Attempt {
 
 /// Files that are fetched by name.
 pub trait Files {
-    /// What each name holds, where the object tells it. A missing name holds nothing.
+    /// The files' contents by name, if they are known; none for a missing name.
     ghost known_files: { Self → Option (List ℕ → Option (List ℕ)) };
 
-    /// The fetches so far, in order. The object's count of faults is the number of those that failed.
+    /// The fetches so far, in order. The count of faults is the number of failed ones.
     ghost attempts: { Self → List Attempt };
 
-    /// How many bytes were taken from files so far, up to the last number that the object can count to.
+    /// The number of bytes taken from files so far, saturating.
     ghost taken: { Self → ℕ };
 
-    /// All the bytes of the file of this name, if it has at most `limit` of them.
+    /// All bytes of the file of this name, if it has at most `limit`.
     fn fetch(&mut self, alloc: Global, name: &Name, limit: u64) -> Result<Vec<u8>, FetchFault>
-        // Each fetch is one attempt, which failed exactly where the answer says so. A fetch that
-        // is refused for memory is none.
+        // Each fetch is one attempt, which failed exactly if the result is `Failed`. A fetch that
+        // ran out of memory is none.
         ensures attempt { attempts self.new ≡ attempts self.old ++ attempt_of name.now result }
 
         ensures whole { IfOk result (λ bytes. Holds (known_files self.old) name.now bytes.items) }
@@ -71,16 +72,16 @@ pub trait Files {
 
         ensures same { known_files self.new ≡ known_files self.old }
 
-        // What is given was taken: the count of taken bytes rose by the file's length at least.
+        // The returned bytes were taken: the count rose by at least the file's length.
         ensures counted_whole { IfOk result (λ bytes. RoseBy (length bytes.items) (taken self.old) (taken self.new)) }
 
-        // No more is taken than shows that a file is too long, whatever the answer is.
+        // Whatever the result, at most one byte past the limit is taken.
         ensures counted { taken self.old ≤ taken self.new }
         ensures bounded { taken self.new ≤ taken self.old + (limit + 1) };
 }
 
-/// Notes down the attempt that a fetch of this name with this answer is. There is room for it, so it takes no memory: the
-/// room is made before the fetch, and a fetch that was made keeps its answer.
+/// Records the attempt of a fetch with this result. The caller reserves space before the fetch, so
+/// this takes no memory, and the result of a completed fetch isn't lost.
 pub fn note(attempts: &mut Vec<Attempt>, name: Name, answer: &Result<Vec<u8>, FetchFault>)
     requires { vec_len attempts.old < vec_capacity attempts.old }
     ensures { attempts.new.items ≡ attempts.old.items ++ attempt_of name answer.now }

@@ -1,4 +1,4 @@
-//! A text of a fixed room.
+//! A text of a fixed capacity.
 ghost use Rattle.std.specs.Prelude.{◌≡◌, ◌+◌, ◌<◌, ◌≤◌, [], ◌++◌, length, IfOk, OnOk, OnErr};
 ghost use Rattle.m_ports.specs.Counts.{Rose};
 ghost use Rattle.m_ports.specs.Texts.{no_text_in};
@@ -7,10 +7,12 @@ use crate::{Failed, Sink};
 use std::alloc::{AllocError, Global};
 use std::marker::Model;
 
-/// A text in memory of a fixed room, which is taken when it is made: a call of `give` takes the whole piece where it has room,
-/// and else it fails and the text is as it was. Contracts see the text, the room and how often a call failed.
+/// A text in memory whose capacity is allocated at its creation: `give` appends the whole piece if
+/// there is room for it, and otherwise fails and leaves the text unchanged. Contracts see the text,
+/// the capacity and the count of failed calls.
 ///
-/// A printer that is handed one needs no memory. Where its lines have no room, it prints to the output itself.
+/// Printing to it takes no memory, so a worker can print in parallel; lines without room are
+/// printed to the output itself.
 #[derive(Drop)]
 pub struct FixedText {
     text: Vec<u8>,
@@ -30,7 +32,8 @@ impl Model for FixedText {
 }
 
 impl FixedText {
-    /// An empty text with room for so many bytes. Its only error is running out of memory, and no later call takes memory.
+    /// An empty text with room for this many bytes. Its only error is running out of memory, and no
+    /// later call takes memory.
     pub fn new(alloc: Global, room: usize) -> Result<FixedText, AllocError>
         ensures { IfOk result (λ text. text ≡ no_text_in room) }
     {
@@ -63,7 +66,7 @@ impl Sink for FixedText {
 
     ghost faults = { λ t. t.faults };
 
-    /// Appends the whole piece where there is room for it, and fails exactly where there is none. Takes no memory.
+    /// Appends the whole piece, and fails exactly if there is no room for it. Takes no memory.
     fn give(&mut self, piece: &[u8]) -> Result<usize, Failed>
         ensures count { IfOk result (λ n. n ≡ length piece.now) }
         ensures fits { OnOk result (length self.old.bytes + length piece.now ≤ self.old.room) }

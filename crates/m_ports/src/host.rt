@@ -1,8 +1,10 @@
-//! Real files and streams as files, inputs and outputs: thin adapters over an opener, a reader and a writer.
+//! Real files and streams: thin adapters over an opener, a reader and a writer.
 //!
-//! Each of those may tell its bytes and count its faults. The adapters tell the bytes of an opener alone, and each counts a fault exactly
-//! where a call of what it stands over failed. What a real file, pipe or terminal holds and does is known to no contract, so the calls
-//! of `edge` that reach the system are trusted. Every error that the system gives is a fault, also one that std's own loops would try again.
+//! The contents of an opener's files may be known, and then those of `HostFiles` are; the streams'
+//! contents never are. Each adapter counts a fault exactly if a call of its opener, reader or
+//! writer failed. No contract states what a real file, pipe or terminal contains or does: the calls
+//! of `edge` that reach the system are trusted. Every error of the system is a fault, even one
+//! after which std's own loops would retry.
 ghost use Rattle.std.specs.Prelude.{◌≡◌, ◌<◌, ◌≤◌, ◌+◌, [], ◌++◌, true, false, length, IfOk, IfSome, OnOk, OnErr, IsErrOf};
 ghost use Rattle.std.specs.Str.{is_utf8};
 ghost use Rattle.std.specs.Io.KnownBytes.{ReadConsumes, WriteAppends};
@@ -18,10 +20,10 @@ use m_places::Name;
 use std::alloc::Global;
 use std::rt;
 
-/// How many bytes a file is read at a time.
+/// The most bytes that are read from a file at a time.
 const PIECE: usize = 8192;
 
-/// Files that an opener opens by their names. A name that isn't UTF-8 is that of no file.
+/// The files that an opener opens by name. No file has a name that isn't UTF-8.
 #[derive(Drop)]
 pub struct HostFiles<O> {
     opener: O,
@@ -30,7 +32,7 @@ pub struct HostFiles<O> {
 }
 
 impl<'a, H: rt::Files> HostFiles<Disk<'a, H>> {
-    /// The files that this runtime opens. It takes no memory.
+    /// The files that this runtime opens. Takes no memory.
     pub fn new(alloc: Global, rt: &'a H) -> HostFiles<Disk<'a, H>>
         ensures attempts { ⟦<HostFiles<Disk<'a, H>> as Files>⟧.attempts result ≡ [] }
         ensures taken { ⟦<HostFiles<Disk<'a, H>> as Files>⟧.taken result ≡ 0 }
@@ -40,7 +42,7 @@ impl<'a, H: rt::Files> HostFiles<Disk<'a, H>> {
 }
 
 impl<O: Opener> HostFiles<O> {
-    /// The files of this opener. It takes no memory.
+    /// The files of this opener. Takes no memory.
     pub fn over(alloc: Global, opener: O) -> HostFiles<O>
         ensures opener { result.opener ≡ opener }
         ensures attempts { ⟦<HostFiles<O> as Files>⟧.attempts result ≡ [] }
@@ -54,8 +56,8 @@ impl<O: Opener> HostFiles<O> {
     }
 }
 
-/// How many bytes to read next, where there is room for so many more: a piece, or one byte past the
-/// room, which shows that there are too many.
+/// The number of bytes to read next, if `room` more are allowed: a piece, or one byte more than
+/// allowed, which detects a file that is too long.
 fn next_piece(room: u64) -> usize
     ensures some { 0 < result }
     ensures within { result ≤ PIECE }
@@ -68,8 +70,8 @@ fn next_piece(room: u64) -> usize
     }
 }
 
-/// Reads the file that is open to its end, or one byte past the limit. Where the opener tells what is left, `Ok` gives all of that. It fails
-/// only where a call of the opener did, which is then the last.
+/// Reads the open file to its end, or one byte past the limit. If its contents are known, `Ok` is
+/// all of them. It fails only if a call of the opener failed, and makes no call after that.
 pub fn read_whole<O: Opener>(
     opener: &mut O,
     alloc: Global,
@@ -107,7 +109,8 @@ pub fn read_whole<O: Opener>(
     }
 }
 
-/// Opens the file of this name, reads it and closes it. Each fault of the opener is told, and nothing else is.
+/// Opens the file of this name, reads it and closes it. It fails only if a call of the opener
+/// failed, or the name isn't UTF-8.
 fn read_file<O: Opener>(
     opener: &mut O,
     alloc: Global,
@@ -148,7 +151,7 @@ impl<O: Opener> Files for HostFiles<O> {
     ghost taken = { λ s. s.taken };
 
     /// Opens the file of this path and reads it to its end, or one byte past the limit. A name that
-    /// isn't UTF-8 is refused, and nothing is opened.
+    /// isn't UTF-8 fails, and nothing is opened.
     fn fetch(&mut self, alloc: Global, name: &Name, limit: u64) -> Result<Vec<u8>, FetchFault>
         ensures attempt { self.new.attempts.items ≡ self.old.attempts.items ++ attempt_of name.now result }
         ensures whole { IfOk result (λ bytes. Holds (O.known_files self.old.opener) name.now bytes.items) }
@@ -177,8 +180,8 @@ impl<O: Opener> Files for HostFiles<O> {
     }
 }
 
-/// An input that is read from a reader. Its count of faults is how many reads failed. It tells nothing
-/// of content; where the reader tells what is left, each call moves that reader's next bytes.
+/// An input over a reader. Its count of faults is the number of failed reads. Its own contents are
+/// unknown; if the reader's are known, each call moves its next bytes.
 #[derive(Drop)]
 pub struct HostSource<R> {
     reader: R,
@@ -186,7 +189,7 @@ pub struct HostSource<R> {
 }
 
 impl<R: Reader> HostSource<R> {
-    /// The input that this reader gives. It takes no memory.
+    /// The input over this reader. Takes no memory.
     pub fn new(reader: R) -> HostSource<R>
         ensures reader { result.reader ≡ reader }
         ensures faults { ⟦<HostSource<R> as Source>⟧.faults result ≡ 0 }
@@ -223,9 +226,9 @@ impl<R: Reader> Source for HostSource<R> {
     }
 }
 
-/// An output that is written to a writer, which should hold nothing back. Its count of faults is how
-/// many writes failed, or took nothing of bytes that were there. It tells nothing of content; where the
-/// writer tells what it holds, each call appends to that.
+/// An output over a writer, which should not buffer. Its count of faults is the number of writes
+/// that failed, or accepted none of at least one byte. Its own contents are unknown; if the
+/// writer's are known, each call appends to them.
 #[derive(Drop)]
 pub struct HostSink<W> {
     writer: W,
@@ -233,7 +236,7 @@ pub struct HostSink<W> {
 }
 
 impl<W: Writer> HostSink<W> {
-    /// The output that this writer takes. It takes no memory.
+    /// The output over this writer. Takes no memory.
     pub fn new(writer: W) -> HostSink<W>
         ensures writer { result.writer ≡ writer }
         ensures faults { ⟦<HostSink<W> as Sink>⟧.faults result ≡ 0 }

@@ -1,7 +1,9 @@
-//! The outside: files that are fetched by name, an input that is taken and an output that is given to, each as a trait that says what may
-//! be relied on, with a version in memory for tests; and what stands before an output: pieces of a text, a text of a fixed room, and a buffer.
+//! Input and output: files fetched by name, an input read piece by piece and an output written
+//! piece by piece, each as a trait whose contract states what a caller may rely on, with an
+//! implementation for the system and one in memory for tests; and printing helpers: pieces of a
+//! text, a text of a fixed capacity, and a buffer.
 //!
-//! This crate stands on names and texts, and knows nothing of what the bytes mean.
+//! Uses names of `m_places` and texts of `m_text`. Knows nothing of what the bytes mean.
 #![tactic(auto)]
 
 mod buffered;

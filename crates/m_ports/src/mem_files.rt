@@ -1,4 +1,4 @@
-//! Files in memory, for tests: they tell their bytes, and fail at the fetches that they are told.
+//! Files in memory, for tests: their contents are known, and chosen fetches fail.
 ghost use Rattle.std.specs.Prelude.{◌≡◌, ◌+◌, ◌≤◌, ◌++◌, [], length, min, option_map};
 ghost use Rattle.m_ports.specs.Counts.{last_count};
 ghost use Rattle.m_ports.specs.Files.{attempt_of};
@@ -10,10 +10,10 @@ use crate::{Attempt, FetchFault, Files};
 use m_places::Name;
 use std::alloc::Global;
 
-/// Files in memory. If several have one name, the first counts.
+/// Files in memory. Of several with one name the first counts.
 #[derive(Drop)]
 pub struct MemFiles {
-    /// The files, each with its name and its bytes.
+    /// The files: names and contents.
     pub files: Vec<(Name, Vec<u8>)>,
     /// The numbers of the fetches that fail, from 1.
     pub failing: Vec<u64>,
@@ -23,7 +23,7 @@ pub struct MemFiles {
 
 impl MemFiles {
     /// These files. The fetches whose numbers, from 1, are in `failing` fail, and so do those of
-    /// missing names; a fetch that is refused for memory has no number. It takes no memory.
+    /// missing names; a fetch that runs out of memory isn't numbered. Takes no memory.
     pub fn new(alloc: Global, files: Vec<(Name, Vec<u8>)>, failing: Vec<u64>) -> MemFiles
         ensures files { result.files ≡ files }
         ensures failing { result.failing ≡ failing }
@@ -56,7 +56,7 @@ fn find<'a>(files: &'a [(Name, Vec<u8>)], name: &[u8]) -> Option<&'a [u8]>
         .map(|(_, bytes)| bytes.as_slice())
 }
 
-/// How many bytes a fetch with this answer took, or the last value of a count if that is more.
+/// The number of bytes that a fetch with this result took, saturating.
 fn taken_by(answer: &Result<Vec<u8>, FetchFault>, limit: u64) -> u64
     ensures { result ≡ min (bytes_taken answer.now limit) last_count }
 {
@@ -97,7 +97,7 @@ impl Files for MemFiles {
 
     ghost taken = { λ s. s.taken };
 
-    /// Fails exactly where the number of the fetch is listed or the name is missing.
+    /// Fails exactly if the number of the fetch is listed or the name is missing.
     fn fetch(&mut self, alloc: Global, name: &Name, limit: u64) -> Result<Vec<u8>, FetchFault>
         ensures answer { Answers result (fetched (is_failing self.old.failing.items (length self.old.attempts.items))
             (content_of self.old.files.items name.now) limit) }

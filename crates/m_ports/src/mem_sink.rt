@@ -1,4 +1,4 @@
-//! An output in memory, for tests: it tells what was written, and fails at the calls that it is told.
+//! An output in memory, for tests: its contents are known, and chosen calls fail.
 ghost use Rattle.std.specs.Prelude.{◌≡◌, ◌<◌, ◌≤◌, ◌-◌, ◌↔◌, ◌⊎◌, [], min, length, IfOk, OnOk, OnErr, IsErr, IsTrue};
 ghost use Rattle.m_ports.specs.Counts.{is_failing};
 ghost use Rattle.m_ports.specs.MemStream.{new_stream, after_fault, after_give};
@@ -8,11 +8,11 @@ use crate::{Failed, Sink};
 use std::alloc::{AllocError, Global};
 use std::marker::Model;
 
-/// How many bytes an output in memory has room for.
+/// The capacity of an output in memory, in bytes.
 pub const ROOM: usize = 1_048_576;
 
-/// An output in memory, which has room for `ROOM` bytes. Contracts see the bytes that were written,
-/// and its counts.
+/// An output in memory of `ROOM` bytes, allocated at its creation because `give` takes no memory.
+/// Contracts see the written bytes and the counts.
 #[derive(Drop)]
 pub struct MemSink {
     content: Vec<u8>,
@@ -35,9 +35,9 @@ impl Model for MemSink {
 }
 
 impl MemSink {
-    /// An empty output, of which each call appends at most `piece` bytes. The calls with bytes to
-    /// give whose numbers, from 1, are in `failing` fail. Its only error is running out of memory, and no
-    /// later call takes memory.
+    /// An empty output whose calls append at most `piece` bytes each. The calls whose numbers are
+    /// in `failing` fail; calls with at least one byte are numbered from 1. Its only error is
+    /// running out of memory, and no later call takes memory.
     pub fn new(alloc: Global, piece: usize, failing: Vec<u64>) -> Result<MemSink, AllocError>
         requires { 1 ≤ piece }
         ensures { IfOk result (λ sink. sink ≡ new_stream [] piece failing.items) }
@@ -51,7 +51,7 @@ impl MemSink {
         })
     }
 
-    /// The bytes that were written. Takes no memory.
+    /// The written bytes. Takes no memory.
     pub fn written(&self) -> &[u8]
         ensures { result.now ≡ self.now.bytes }
     {
@@ -66,9 +66,9 @@ impl Sink for MemSink {
 
     ghost faults = { λ s. s.faults };
 
-    /// A piece without bytes is given at once, and not counted. Any other fails exactly where the
-    /// number of the call is listed or the room is full, and else as many of its bytes are appended
-    /// as its piece, this piece and the room allow.
+    /// An empty piece is accepted and not counted. Any other call fails exactly if its number is
+    /// listed or the capacity is reached, and otherwise appends as many bytes as the limit of a
+    /// call, the piece and the capacity allow.
     fn give(&mut self, piece: &[u8]) -> Result<usize, Failed>
         ensures empty { piece.now ≡ [] → (result ≡ Ok 0) × (self.new ≡ self.old) }
         ensures fails { 0 < length piece.now →

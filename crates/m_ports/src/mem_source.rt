@@ -1,4 +1,4 @@
-//! An input in memory, for tests: it tells its bytes, and fails at the calls that it is told.
+//! An input in memory, for tests: its contents are known, and chosen calls fail.
 ghost use Rattle.std.specs.Prelude.{◌≡◌, ◌<◌, ◌≤◌, ◌↔◌, [], min, length, take, IfOk, OnErr, IsErr, IsTrue};
 ghost use Rattle.m_ports.specs.Counts.{is_failing};
 ghost use Rattle.m_ports.specs.MemStream.{new_stream, after_fault, after_take};
@@ -7,7 +7,7 @@ use crate::counts::{count_up, is_failing};
 use crate::{Failed, Source};
 use std::marker::Model;
 
-/// An input in memory. Contracts see the bytes that are left, and its counts.
+/// An input in memory. Contracts see the bytes that are left, and the counts.
 #[derive(Drop)]
 pub struct MemSource {
     content: Vec<u8>,
@@ -30,8 +30,8 @@ impl Model for MemSource {
 }
 
 impl MemSource {
-    /// An input of these bytes, of which each call moves at most `piece`. The calls whose numbers,
-    /// from 1, are in `failing` fail. It takes no memory.
+    /// An input of these bytes whose calls move at most `piece` bytes each. The calls whose
+    /// numbers, from 1, are in `failing` fail. Takes no memory.
     pub fn new(bytes: Vec<u8>, piece: usize, failing: Vec<u64>) -> MemSource
         requires { 1 ≤ piece }
         ensures { result ≡ new_stream bytes.items piece failing.items }
@@ -46,7 +46,7 @@ impl MemSource {
         }
     }
 
-    /// How many bytes are left.
+    /// The number of bytes that are left.
     pub fn left(&self) -> usize
         ensures { result ≡ length self.now.bytes }
     {
@@ -61,8 +61,8 @@ impl Source for MemSource {
 
     ghost faults = { λ s. s.faults };
 
-    /// Fails exactly where the number of the call is listed, and else moves as many bytes as its
-    /// piece, this piece and what is left allow.
+    /// Fails exactly if the number of the call is listed, and otherwise moves as many bytes as the
+    /// limit of a call, the piece and the input allow.
     fn take(&mut self, piece: &mut [u8]) -> Result<usize, Failed>
         requires { 0 < length piece.old }
 

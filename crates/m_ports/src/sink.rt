@@ -1,4 +1,4 @@
-//! An output that is given to piece by piece, and `give_all`, which gives it all.
+//! An output that is written piece by piece, and `give_all`, which writes all of a text.
 ghost use Rattle.std.specs.Prelude.{◌≡◌, ℕ, ◌<◌, ◌≤◌, List, Option, length, take, IfOk, OnOk, OnErr};
 ghost use Rattle.std.specs.Io.KnownBytes.{append_known};
 ghost use Rattle.m_ports.specs.Counts.{Rose};
@@ -6,16 +6,16 @@ ghost use Rattle.m_ports.specs.Sink.{AppendsPrefix};
 
 use crate::Failed;
 
-/// An output, which grows at its end.
+/// An output; bytes are appended to its end.
 pub trait Sink {
-    /// The bytes that were written, where the object tells them.
+    /// The written bytes, if they are known.
     ghost written: { Self → Option (List ℕ) };
 
-    /// How often the object has failed, up to the last number that it can count to.
+    /// The number of failures so far, saturating.
     ghost faults: { Self → ℕ };
 
-    /// Appends the first bytes of the piece, at least one where it has any, and answers how many.
-    /// It can't fail for lack of memory.
+    /// Appends a prefix of the piece, of at least one byte if it has any, and returns its length.
+    /// It never fails for lack of memory.
     fn give(&mut self, piece: &[u8]) -> Result<usize, Failed>
         ensures within { IfOk result (λ n. n ≤ length piece.now) }
         ensures some { IfOk result (λ n. 0 < length piece.now → 0 < n) }
@@ -24,13 +24,13 @@ pub trait Sink {
         ensures failed { OnErr result (Rose (faults self.old) (faults self.new)) }
         ensures kept { OnErr result (written self.new ≡ written self.old) }
 
-        // A failure is never kept back: where the answer is none, none was counted.
+        // Every failure is reported: if the call succeeds, none was counted.
         ensures faultless { OnOk result (faults self.new ≡ faults self.old) }
         ensures counted { faults self.old ≤ faults self.new };
 }
 
-/// Gives all the bytes, by as many pieces as the output needs. On a failure a prefix of them was
-/// appended. It can't fail for lack of memory.
+/// Gives all the bytes, in as many calls as the output needs. On a failure a prefix of them was
+/// appended. It never fails for lack of memory.
 pub fn give_all<K: Sink>(out: &mut K, bytes: &[u8]) -> Result<(), Failed>
     ensures all { OnOk result (K.written out.new ≡ append_known (K.written out.old) bytes.now) }
 

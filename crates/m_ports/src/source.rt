@@ -1,22 +1,24 @@
-//! An input that is taken piece by piece.
+//! An input that is read piece by piece.
 ghost use Rattle.std.specs.Prelude.{◌≡◌, ℕ, ◌<◌, ◌≤◌, List, Option, length, take, IfOk, OnOk, OnErr};
 ghost use Rattle.std.specs.Io.KnownBytes.{prepend_known, IsAtEnd};
 ghost use Rattle.m_ports.specs.Counts.{Rose};
 
-/// A read or a write failed. What is known of the failure is that the object's count of faults rose.
+/// A read or a write failed. The object's count of faults rose; nothing else is known of the
+/// failure.
 #[derive(Clone, Copy, Debug, PartialEq, Eq)]
 pub struct Failed;
 
-/// An input, which is taken from its start.
+/// An input; bytes are taken from its start.
 pub trait Source {
-    /// The bytes that are left, where the object tells them.
+    /// The bytes that are left, if they are known.
     ghost left: { Self → Option (List ℕ) };
 
-    /// How often the object has failed, up to the last number that it can count to.
+    /// The number of failures so far, saturating.
     ghost faults: { Self → ℕ };
 
-    /// Moves the first bytes that are left into the start of the piece, and answers how many; 0 is
-    /// the end of the input. What stands after them in the piece is left open. It can't fail for lack of memory.
+    /// Moves the first bytes that are left to the start of the piece, and returns how many; 0 means
+    /// the end of the input. The rest of the piece is unspecified. It never fails for lack of
+    /// memory.
     fn take(&mut self, piece: &mut [u8]) -> Result<usize, Failed>
         requires { 0 < length piece.old }
 
@@ -27,7 +29,7 @@ pub trait Source {
         ensures failed { OnErr result (Rose (faults self.old) (faults self.new)) }
         ensures kept { OnErr result (left self.new ≡ left self.old) }
 
-        // A failure is never kept back: where the answer is none, none was counted.
+        // Every failure is reported: if the call succeeds, none was counted.
         ensures faultless { OnOk result (faults self.new ≡ faults self.old) }
         ensures counted { faults self.old ≤ faults self.new };
 }
