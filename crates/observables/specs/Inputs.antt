@@ -36,7 +36,7 @@ IsValueOf kind (Num z) = IsAmount z × IsTrue (is_of_type kind z)
 IsValueOf kind Over = ⊥
 
 -- The lists of values that a program with these inputs accepts: for each input, in order, a value
--- that it admits. Optimized programs answer as the source does for these lists only, which need not
--- be the values of a household.
+-- that it admits. Optimized programs are proved equal to the source on these lists, and may differ
+-- on others.
 abbrev pub AreValuesOf : List Coded → List Value → Type 0
 AreValuesOf inputs values = AllZip (λ input value. IsValueOf input.kind value) inputs values
