@@ -2,7 +2,6 @@
 //!
 //! A fetch has a limit and is recorded as an attempt, so a caller's contract can state which names
 //! were fetched and which fetches failed, even if the files' contents aren't known.
-//! names were fetched and which of them failed, also where nothing is known of what files hold.
 ghost use Rattle.std.specs.Prelude.{◌≡◌, ℕ, ◌+◌, ◌<◌, ◌≤◌, List, ◌++◌, Option, length, IfOk, IsErrOf, vec_len, vec_capacity};
 ghost use Rattle.m_ports.specs.declared.files.Attempt.{Attempt};
 ghost use Rattle.m_ports.specs.declared.files.FetchFault.TheVariants.{Memory};
