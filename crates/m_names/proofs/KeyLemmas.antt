@@ -9,7 +9,7 @@ use Rattle.std.proofs.lemmas.Bool.{false≢true}
 use Rattle.m_names.specs.Names.{index_of, has}
 use Rattle.m_names.proofs.NameLemmas.{index_of-none}
 
--- the index in a list that is longer by one in front
+-- the index in a list with one more name before it
 shifted : (b c : Bool) (i : ℕ) → b ≡ c → cond b (Some (1 + i)) None ≡ option_map (λ j. j + 1) (cond c (Some i) None)
 shifted true true i e = ap Some (omega arith)
 shifted false false i e = refl
