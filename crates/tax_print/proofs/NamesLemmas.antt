@@ -3,7 +3,7 @@ use Rattle.std.proofs.Common.{◌≡◌, ℕ, ◌+◌, ◌<◌, ◌≤◌, lengt
 use Rattle.std.proofs.lemmas.List.{drop_more, drop_all}
 use Rattle.tax_print.specs.FaultLines.{names_text}
 
--- it begins with a space and the name that stands there
+-- it begins with a space and the name at this index
 pub names_at : (names : List (List ℕ)) (i : ℕ) (name d : List ℕ) (rest : List ℕ) → i < length names → name ≡ get_or names i d
     → names_text (drop i names) ++ rest ≡ (32 ∷ (name ++ [])) ++ (names_text (drop (i + 1) names) ++ rest)
 names_at names i name d rest h is =
@@ -12,6 +12,6 @@ names_at names i name d rest h is =
     ∙ ap (λ bytes. 32 ∷ bytes) (append_assoc (get_or names i d) behind rest
     ∙ ap (λ bytes. bytes ++ (behind ++ rest)) (sym is ∙ sym (append-nil name)))
 
--- after the last there is nothing
+-- after the last name it is empty
 pub names_end : (names : List (List ℕ)) (i : ℕ) (rest : List ℕ) → length names ≤ i → names_text (drop i names) ++ rest ≡ rest
 names_end names i rest h = ap (λ left. names_text left ++ rest) (drop_all i names h)

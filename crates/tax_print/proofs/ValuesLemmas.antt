@@ -15,9 +15,9 @@ use Rattle.observables.specs.Answers.{reported_note, reported_notes}
 use Rattle.observables.specs.Outputs.{are_named, names_of, notes_of, notes_stand_first, verif_at}
 use Rattle.tax_print.specs.Lines.{label_lines, notes_lines, output_lines, outputs_lines, value_line, values_lines}
 
--- ---- from one of them on
+-- ---- from one output on
 
--- they begin with the lines of the one that stands there
+-- they begin with the lines of the output at this index
 pub outputs_at : (labels : List FaceLabel) (outputs : List FaceOutput) (vs : List Value) (k : ℕ) (output e : FaceOutput) (v d : Value) → k < length outputs
     → k < length vs
     → output ≡ get_or outputs k e → v ≡ get_or vs k d
@@ -32,12 +32,12 @@ no_outputs : (labels : List FaceLabel) (outputs : List FaceOutput) → outputs_l
 no_outputs labels [] = refl
 no_outputs labels (output ∷ outputs) = refl
 
--- after the last value there is nothing
+-- after the last value they are empty
 pub outputs_end : (labels : List FaceLabel) (outputs : List FaceOutput) (vs : List Value) (k : ℕ) → length vs ≤ k
     → outputs_lines labels (drop k outputs) (drop k vs) ≡ []
 outputs_end labels outputs vs k h = ap (λ left. outputs_lines labels (drop k outputs) left) (drop_all k vs h) ∙ no_outputs labels (drop k outputs)
 
--- ---- outputs in their order are notes, and then names
+-- ---- outputs are notes, followed by names
 
 no_values : (names : List (List ℕ)) → values_lines names [] ≡ []
 no_values [] = refl

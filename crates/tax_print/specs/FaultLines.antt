@@ -1,4 +1,4 @@
--- The line of each fault, with its line feed.
+-- The line of each error, with its line feed.
 use Rattle.std.specs.Prelude.{ℕ, List, [], ◌∷◌, ◌++◌, codes, decimal}
 use Rattle.m_text.specs.Pieces.{new_line, joined}
 use Rattle.m_places.specs.declared.place.Place.{Place}
@@ -15,12 +15,13 @@ use Rattle.tax_print.specs.declared.fault.ReportFault.{ReportFault}
 use Rattle.tax_print.specs.declared.fault.CodeFault.{CodeFault}
 use Rattle.tax_print.specs.FaultWords.{place_words, name_words, driver_words, driver_name_words, row_words, code_words, report_words}
 
--- a space before each name: of `f` and `g` the text ` f g`
+-- each name after a space: `f` and `g` are the text ` f g`
 abbrev pub names_text : List (List ℕ) → List ℕ
 names_text [] = []
 names_text (name ∷ names) = 32 ∷ name ++ names_text names
 
--- where a fault stands, and after it what it is: `refused a.m line 1 byte 43: ` and then `open string`
+-- the position of an error before its description: `refused a.m line 1 byte 43: ` before
+-- `open string`
 abbrev pub place_pieces : List ℕ → Place → List (List ℕ) → List (List ℕ)
 place_pieces file place behind =
     codes "refused " ∷ file ∷ codes " line " ∷ decimal place.line ∷ codes " byte " ∷ decimal place.byte ∷ codes ": " ∷ behind
@@ -94,8 +95,8 @@ unreadable_line name = joined (codes "unreadable " ∷ name ∷ new_line ∷ [])
 abbrev pub unreadable_input_line : List ℕ
 unreadable_input_line = joined (codes "unreadable input" ∷ new_line ∷ [])
 
--- The line of a fault: of a bad second line of the list `refused list line 2`. The definitions above
--- are for those who speak of one fault alone.
+-- The line of an error: for a bad second line of the list `refused list line 2`. The definitions
+-- above are for contracts about one error alone.
 abbrev pub fault_line : Fault → List ℕ
 fault_line Usage = usage_line
 fault_line (ListLine line) = list_line line

@@ -1,4 +1,4 @@
--- The words of each fault.
+-- The description of each error, as it is printed.
 use Rattle.std.specs.Prelude.{ℕ, List, codes}
 use Rattle.tax_print.specs.declared.fault.PlaceFault.{PlaceFault}
 use Rattle.tax_print.specs.declared.fault.PlaceFault.TheVariants as Places
@@ -15,7 +15,7 @@ use Rattle.tax_print.specs.declared.fault.ReportFault.TheVariants as Reports
 use Rattle.tax_print.specs.declared.fault.CodeFault.{CodeFault}
 use Rattle.tax_print.specs.declared.fault.CodeFault.TheVariants as Codes
 
--- the words of a fault at a place in a rule file
+-- the description of an error at a position in a rule file
 abbrev pub place_words : PlaceFault → List ℕ
 place_words Places.BadByte = codes "bad byte"
 place_words Places.OpenString = codes "open string"
@@ -29,7 +29,7 @@ place_words Places.LoopTooLarge = codes "loop too large"
 place_words Places.UnboundIndex = codes "unbound index"
 place_words Places.TooManyParts = codes "too many parts"
 
--- the words of a fault at a place in a rule file, before the name that it is about
+-- the description of an error at a position in a rule file, before the name that it concerns
 abbrev pub name_words : NameFault → List ℕ
 name_words Names.DeclaredTwice = codes "declared twice "
 name_words Names.AliasTwice = codes "alias twice "
@@ -40,19 +40,19 @@ name_words Names.BadTarget = codes "bad target "
 name_words Names.DefinedTwice = codes "defined twice "
 name_words Names.UnknownError = codes "unknown error "
 
--- the words of a fault in a line of the driver
+-- the description of an error in a line of the driver
 abbrev pub driver_words : DriverFault → List ℕ
 driver_words Drivers.BadToken = codes "bad token"
 driver_words Drivers.TooDeep = codes "too deep"
 driver_words Drivers.Syntax = codes "syntax"
 
--- the words of a fault in a line of the driver, before the name that it is about
+-- the description of an error in a line of the driver, before the name that it concerns
 abbrev pub driver_name_words : DriverNameFault → List ℕ
 driver_name_words DriverNames.FunctionTwice = codes "function twice "
 driver_name_words DriverNames.Unknown = codes "unknown "
 driver_name_words DriverNames.BadTarget = codes "bad target "
 
--- the words of a fault in a record of a household or a table
+-- the description of an error in a record of a household or a table
 abbrev pub row_words : RowFault → List ℕ
 row_words Rows.BadRow = codes "bad row"
 row_words Rows.UnknownCode = codes "unknown code"
@@ -62,12 +62,12 @@ row_words Rows.NotOfType = codes "not of its type"
 row_words Rows.UnknownOutput = codes "unknown output"
 row_words Rows.BadExpected = codes "bad expected"
 
--- the words of a fault in a line of a report
+-- the description of an error in a line of a report
 abbrev pub report_words : ReportFault → List ℕ
 report_words Reports.BadLine = codes "bad line"
 report_words Reports.NotSound = codes "not sound"
 
--- the words of a fault in a line of a code file
+-- the description of an error in a line of a code file
 abbrev pub code_words : CodeFault → List ℕ
 code_words Codes.BadLine = codes "bad line"
 code_words Codes.ReadBeforeWrite = codes "read before write"

@@ -9,8 +9,8 @@ use m_places::Name;
 use m_ports::{Failed, Sink, give_pieces};
 use observables::{Answer, Face, FaceLabel, FaceOutput};
 
-/// Writes the lines of an answer: those of each output, in order, or those of what ended the run. On a
-/// failure a prefix of the lines was appended. It takes no memory.
+/// Writes the lines of an answer: those of each output, in order, or those of what stopped the run.
+/// On a failure a prefix of the lines was appended. Takes no memory.
 pub fn print_answer<K: Sink>(face: &Face, answer: &Answer, out: &mut K) -> Result<(), Failed>
     requires { AnswerIsWithin face.now answer.now }
     ensures { Gives K.written K.faults out.old out.new result (answer_lines face.now answer.now) }
@@ -26,8 +26,8 @@ pub fn print_answer<K: Sink>(face: &Face, answer: &Answer, out: &mut K) -> Resul
     }
 }
 
-/// Writes the lines of a household of a table: `household dupont`, and then those of its answer. On a
-/// failure a prefix of the lines was appended. It takes no memory.
+/// Writes the lines of a household of a table: `household dupont`, and then those of its answer. On
+/// a failure a prefix of the lines was appended. Takes no memory.
 pub fn print_household<K: Sink>(
     label: &Name,
     face: &Face,

@@ -1,53 +1,56 @@
-//! Why there is no answer, as it is told.
+//! Errors that are reported in place of an answer.
 use m_places::{Name, Place};
 
-/// What is told on a line in place of an answer. Names of files, variables and functions are lent, so
-/// that a fault can be told where there is no memory. Lines count from 1, and bytes from 0.
+/// An error that is reported on a line in place of an answer. Names of files, variables and
+/// functions are borrowed, so reporting takes no memory. Lines count from 1, bytes from 0. Variants
+/// are grouped by the contents of their lines: a position, a position and a name, a line of the
+/// driver, a record.
 #[derive(Clone, Copy)]
 pub enum Fault<'a> {
-    /// The words are no command: `usage: m_tax run|serve ..`.
+    /// The command line isn't a command: `usage: m_tax run|serve ..`.
     Usage,
     /// A bad line of the list: `refused list line 2`.
     ListLine(u32),
     /// More rule files than a list may have: `refused too many files`.
     TooManyFiles,
-    /// A file of this name past its limit: `refused file too long a.m`.
+    /// A file of this name exceeds its limit: `refused file too long a.m`.
     FileTooLong(&'a [u8]),
-    /// A fault at a place in the rule file of this name: `refused a.m line 1 byte 43: open string`.
+    /// An error at a position in the rule file of this name:
+    /// `refused a.m line 1 byte 43: open string`.
     AtPlace(&'a [u8], Place, PlaceFault),
-    /// A fault at a place in the rule file of this name, and the name that it is about:
+    /// An error at a position in the rule file of this name, and the name that it concerns:
     /// `refused b.m line 5 byte 154: unknown name REVC`.
     AtName(&'a [u8], Place, NameFault, &'a [u8]),
-    /// Cells that read each other in a ring: `refused cycle IRN TOT`.
+    /// Cells that depend on each other in a cycle: `refused cycle IRN TOT`.
     Cycle(&'a [Name]),
-    /// A fault in a line of the driver: `refused driver line 3: syntax`.
+    /// An error in a line of the driver: `refused driver line 3: syntax`.
     DriverLine(u32, DriverFault),
-    /// A fault in a line of the driver, and the name that it is about:
+    /// An error in a line of the driver, and the name that it concerns:
     /// `refused driver line 3: unknown REVC`.
     DriverName(u32, DriverNameFault, &'a [u8]),
     /// A driver without the function `main`: `refused driver: no main`.
     NoMain,
-    /// Functions that call each other in a ring: `refused driver recursion f g`.
+    /// Functions that call each other in a cycle: `refused driver recursion f g`.
     DriverRecursion(&'a [Name]),
-    /// A driver of this weight, past the limit: `refused driver too large 4000001`.
+    /// A driver of this weight, above the limit: `refused driver too large 4000001`.
     DriverTooLarge(u64),
     /// A bad line of the requests: `refused requests line 2`.
     RequestLine(u32),
-    /// More requests than there may be: `refused too many requests`.
+    /// More requests than the limit: `refused too many requests`.
     TooManyRequests,
     /// A household or a table without its first record: `refused household: bad header`.
     HouseholdHeader,
-    /// A household or a table of more rows than it may have: `refused household: too many rows`.
+    /// A household or a table with more rows than the limit: `refused household: too many rows`.
     TooManyRows,
-    /// A fault in a record of a household or a table: `refused household line 2: bad amount`.
+    /// An error in a record of a household or a table: `refused household line 2: bad amount`.
     HouseholdLine(u32, RowFault),
     /// A code file without its first line: `refused code: bad header`.
     CodeHeader,
-    /// A fault in a line of a code file: `refused code line 7: read before write`.
+    /// An error in a line of a code file: `refused code line 7: read before write`.
     CodeLine(u32, CodeFault),
-    /// A fault in a line of a report: `refused report line 2: not sound`.
+    /// An error in a line of a report: `refused report line 2: not sound`.
     ReportLine(u32, ReportFault),
-    /// An input past its limit: `refused input too long`.
+    /// An input above its limit: `refused input too long`.
     InputTooLong,
     /// A file of this name that can't be read: `unreadable c.m`.
     Unreadable(&'a [u8]),
@@ -55,7 +58,7 @@ pub enum Fault<'a> {
     UnreadableInput,
 }
 
-/// A fault at a place in a rule file.
+/// An error at a position in a rule file.
 #[derive(Clone, Copy)]
 pub enum PlaceFault {
     /// `bad byte`
@@ -82,7 +85,7 @@ pub enum PlaceFault {
     TooManyParts,
 }
 
-/// A fault at a place in a rule file that is about a name, which its line ends with.
+/// An error at a position in a rule file that concerns a name, printed at the end of its line.
 #[derive(Clone, Copy)]
 pub enum NameFault {
     /// `declared twice N`
@@ -103,7 +106,7 @@ pub enum NameFault {
     UnknownError,
 }
 
-/// A fault in a line of the driver.
+/// An error in a line of the driver.
 #[derive(Clone, Copy)]
 pub enum DriverFault {
     /// `bad token`
@@ -114,7 +117,7 @@ pub enum DriverFault {
     Syntax,
 }
 
-/// A fault in a line of the driver that is about a name, which its line ends with.
+/// An error in a line of the driver that concerns a name, printed at the end of its line.
 #[derive(Clone, Copy)]
 pub enum DriverNameFault {
     /// `function twice N`
@@ -125,7 +128,7 @@ pub enum DriverNameFault {
     BadTarget,
 }
 
-/// A fault in a record of a household or a table.
+/// An error in a record of a household or a table.
 #[derive(Clone, Copy)]
 pub enum RowFault {
     /// `bad row`
@@ -144,7 +147,7 @@ pub enum RowFault {
     BadExpected,
 }
 
-/// A fault in a line of a report.
+/// An error in a line of a report.
 #[derive(Clone, Copy)]
 pub enum ReportFault {
     /// `bad line`
@@ -153,7 +156,7 @@ pub enum ReportFault {
     NotSound,
 }
 
-/// A fault in a line of a code file.
+/// An error in a line of a code file.
 #[derive(Clone, Copy)]
 pub enum CodeFault {
     /// `bad line`

@@ -1,4 +1,4 @@
-//! Faults as lines on an output.
+//! Printing of error lines.
 ghost use Rattle.std.specs.Prelude.{◌∷◌, [], codes, decimal};
 ghost use Rattle.m_ports.specs.Giving.{Gives};
 ghost use Rattle.m_text.specs.Pieces.{joined};
@@ -10,12 +10,12 @@ use itoa::Buffer;
 use m_places::{Name, Place};
 use m_ports::{Failed, Sink, give_all, give_pieces};
 
-/// What is printed where the words are no command.
+/// The line that is printed if the command line isn't a command.
 const USAGE: &[u8] =
     b"usage: m_tax run|serve LIST DRIVER REQUESTS HOUSEHOLD, batch LIST DRIVER REQUESTS TABLE, compile LIST DRIVER REQUESTS, exec CODEFILE HOUSEHOLD, large N, check LIST HOUSEHOLD REPORT, lint LIST DRIVER REQUESTS, cases LIST DRIVER REQUESTS TABLE";
 
-/// Gives the line of a fault, with its line feed: `Fault::ListLine(2)` gives `refused list line 2`. On
-/// a failure a prefix of the line was appended. It takes no memory.
+/// Writes the line of an error, with its line feed: `Fault::ListLine(2)` gives
+/// `refused list line 2`. On a failure a prefix of the line was appended. Takes no memory.
 pub fn give_fault<K: Sink>(fault: Fault<'_>, out: &mut K) -> Result<(), Failed>
     ensures { Gives K.written K.faults out.old out.new result (fault_line fault.entry) }
 {
@@ -62,7 +62,7 @@ fn give_words<K: Sink>(out: &mut K, words: &[u8], name: &[u8]) -> Result<(), Fai
     give_pieces(out, &[words, name, b"\n"])
 }
 
-// A line that ends with a number.
+// A line with a number at its end.
 fn give_number<K: Sink>(out: &mut K, words: &[u8], number: u64) -> Result<(), Failed>
     ensures { Gives K.written K.faults out.old out.new result (joined (words.now ∷ decimal number ∷ new_line ∷ [])) }
 {
@@ -71,7 +71,7 @@ fn give_number<K: Sink>(out: &mut K, words: &[u8], number: u64) -> Result<(), Fa
     give_words(out, words, digits)
 }
 
-// A line with a line's number, and after it what its fault is.
+// A line with a line number, and then the error's description.
 fn give_cause<K: Sink>(out: &mut K, words: &[u8], line: u32, cause: &[u8]) -> Result<(), Failed>
     ensures { Gives K.written K.faults out.old out.new result
         (joined (words.now ∷ decimal line ∷ codes ": " ∷ cause.now ∷ new_line ∷ [])) }
@@ -156,7 +156,7 @@ fn give_at<'a, K: Sink>(
     )
 }
 
-// A line that ends with names, with a space before each.
+// A line with names at its end, each after a space.
 fn give_names<K: Sink>(out: &mut K, words: &[u8], names: &[Name]) -> Result<(), Failed>
     ensures { Gives K.written K.faults out.old out.new result (joined (words.now ∷ names_text names.now ∷ new_line ∷ [])) }
 {

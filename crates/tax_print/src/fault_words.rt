@@ -1,4 +1,4 @@
-//! The words of each fault.
+//! The description of each error, as it is printed.
 ghost use Rattle.std.specs.Prelude.{◌≡◌};
 ghost use Rattle.tax_print.specs.FaultWords.{place_words, name_words, driver_words, driver_name_words, row_words, code_words, report_words};
 

@@ -1,8 +1,9 @@
-//! What is printed, as lines, byte for byte and without memory: what a household is told, and the line of each error that stands in place of
-//! an answer.
+//! The lines that the program prints, byte for byte and without memory: the notes, values and stops
+//! of a household, and the line of each error.
 //!
-//! Each crate has its own faults, and what prints one of them says which `Fault` it is. This crate knows the lines, and neither files nor
-//! commands, nor what a fault means.
+//! Uses the outputs of `m_ports` and the answers and interfaces of `observables`. Knows nothing of
+//! files or commands, nor of what an error means: each crate maps its own errors to a `Fault`, for
+//! which one definition, `fault_line`, gives the line.
 #![tactic(auto)]
 
 mod answer;

@@ -1,4 +1,4 @@
-//! Verifications after a word: those that failed, and those that are noted.
+//! Lines of verifications: failed ones and noted ones.
 ghost use Rattle.std.specs.Prelude.{◌∷◌, [], ◌≡◌, codes, option_copied};
 ghost use Rattle.std.specs.Option.{option_map_or};
 ghost use Rattle.m_ports.specs.Giving.{Gives};
@@ -12,8 +12,8 @@ use m_places::{ErrorKind, Label};
 use m_ports::{Failed, Sink, give_pieces};
 use observables::FaceLabel;
 
-/// Writes the lines of what a note with this value tells, by the number of its label: `noted 2000 A20 discordance`, and the
-/// error's text in a line of its own, or nothing.
+/// Writes the lines of a note with this value and this label number: `noted 2000 A20 discordance`,
+/// and then the error's text; nothing if the note isn't reported.
 pub(crate) fn print_note<K: Sink>(
     labels: &[FaceLabel],
     number: u32,
@@ -28,7 +28,7 @@ pub(crate) fn print_note<K: Sink>(
     }
 }
 
-// The verification that a note with this value tells, if it tells one.
+// The verification that a note with this value reports, if any.
 fn reported_note(labels: &[FaceLabel], number: u32, value: Value) -> Option<&Label>
     ensures { option_copied result ≡ reported_note labels.now number value }
 {
@@ -49,7 +49,7 @@ fn is_reported(value: Value) -> bool
     }
 }
 
-// The verification that the label with this number tells, if it tells one.
+// The verification of the label with this number, if there is one.
 fn verif_at(labels: &[FaceLabel], number: u32) -> Option<&Label>
     ensures { option_copied result ≡ verif_at labels.now number }
 {
@@ -60,7 +60,8 @@ fn verif_at(labels: &[FaceLabel], number: u32) -> Option<&Label>
     }
 }
 
-/// Writes the two lines of a verification after a word: `failed 2000 A20 anomalie`, and the error's text.
+/// Writes the two lines of a verification after a word: `failed 2000 A20 anomalie`, and then the
+/// error's text.
 pub(crate) fn print_label<K: Sink>(word: &[u8], label: &Label, out: &mut K) -> Result<(), Failed>
     ensures { Gives K.written K.faults out.old out.new result (label_lines word.now label.now) }
 {

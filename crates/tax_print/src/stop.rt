@@ -11,9 +11,9 @@ use m_places::Label;
 use m_ports::{Failed, Sink, give_pieces};
 use observables::{Face, FaceLabel, Stop};
 
-/// Writes the lines of what ended a run: `failed 2000 A20 anomalie` and the error's text in a line of its
-/// own, `over verification 2000 A20`, or `over driver line 2`. On a failure a prefix of the lines was
-/// appended. It takes no memory.
+/// Writes the lines of what stopped a run: `failed 2000 A20 anomalie` and then the error's text,
+/// `over verification 2000 A20`, or `over driver line 2`. On a failure a prefix of the lines was
+/// appended. Takes no memory.
 pub fn print_stop<K: Sink>(face: &Face, stop: Stop, out: &mut K) -> Result<(), Failed>
     requires { label_number stop < length face.now.labels }
     ensures { Gives K.written K.faults out.old out.new result (stop_lines face.now.labels stop) }

@@ -10,9 +10,9 @@ use m_fixed::{Amount, Value, write_amount};
 use m_ports::{Failed, Sink, give_pieces};
 use observables::{Face, FaceLabel, FaceOutput};
 
-/// Writes the lines of the output with this number, which has this value: of a name `IRN = 1500.5`,
-/// `IRN undefined` or `IRN over`, with its line feed, and of a note those of what it tells, if it tells anything. On a failure
-/// a prefix of the lines was appended. It takes no memory.
+/// Writes the lines of the output with this number and this value: for a named one `IRN = 1500.5`,
+/// `IRN undefined` or `IRN over`, and for a note those of its verification, if it is reported. On a
+/// failure a prefix of the lines was appended. Takes no memory.
 pub fn print_values<K: Sink>(face: &Face, k: u32, v: Value, out: &mut K) -> Result<(), Failed>
     requires { k < length face.now.outputs }
     ensures { Gives K.written K.faults out.old out.new result (output_line face.now k v) }
@@ -40,7 +40,7 @@ pub(crate) fn print_output<K: Sink>(
     }
 }
 
-/// Writes the line of a name and its value.
+/// Writes the line of a named value.
 pub(crate) fn print_value<K: Sink>(name: &[u8], value: Value, out: &mut K) -> Result<(), Failed>
     ensures { Gives K.written K.faults out.old out.new result (value_line name.now value) }
 {
