@@ -1,10 +1,10 @@
--- What is spelled is read so: tools.
+-- Completeness of parsers: tools. What the grammar derives, the parser returns.
 use Rattle.std.proofs.Common.{◌≡◌, ◌≤◌, ◌<◌, ℕ, zero, suc, List, [], ◌∷◌, ◌++◌, length, Option, Some, None, refl, ap, ◌∙◌, append_assoc, arith}
 use Rattle.std.proofs.lemmas.List.{append-nil}
 use Rattle.m_lexer.specs.Chains.{First, first, Chain, ended, further}
 use Rattle.m_lexer.specs.inner.Chains.{open_at, chain_at}
 
--- R before what S allows is what p reads
+-- p parses each derivation of R that is followed by tokens in S
 abbrev pub Complete : {T A : Type 0} → (List T → Type 0) → (A → List T → List T → Type 0) → (List T → Option (A × List T)) → Type 0
 Complete {T} {A} S R p = (x : A) (ts rest : List T) → R x ts rest → S rest → p ts ≡ Some (x, rest)
 
@@ -19,7 +19,8 @@ module _ {T A B X : Type 0} (opens : T → Option B) (made : B → A → X) (R :
   chain_shrinks ended = omega arith
   chain_shrinks (further o d c) = omega (arith, shrinks _ _ _ d, chain_shrinks c)
 
-  -- a further one may stand after an R, and so may what stands after all of them, which opens none
+  -- An operand R may be followed by another link, and by whatever may follow the chain, which opens
+  -- no link.
   module _ (p : List T → Option (A × List T)) (S E : List T → Type 0) (complete : Complete S R p) (binds : (t : T) (b : B) (ts : List T) → opens t ≡ Some b
       → S (t ∷ ts)) (weaker : (ts : List T) → E ts → S ts) (closed : (ts : List T) → E ts → open_at opens ts ≡ None) where
     pub chain_binds : {xs : List X} {ts rest : List T} → Chain opens made R xs ts rest → E rest → S ts

@@ -1,10 +1,10 @@
--- What is read is spelled so: tools, for readers of anything at the start of tokens.
+-- Soundness of parsers: tools, for any kind of token. What the parser returns, the grammar derives.
 use Rattle.std.proofs.Common.{◌≡◌, ℕ, zero, suc, List, [], ◌∷◌, ◌++◌, Option, Some, None, refl, sym, ◌∙◌, append_assoc}
 use Rattle.std.proofs.lemmas.List.{append-nil}
 use Rattle.m_lexer.specs.Chains.{First, first, Chain, ended, further}
 use Rattle.m_lexer.specs.inner.Chains.{open_at, chain_at, choose, ◌>>=◌}
 
--- P of what is there
+-- P of the value, if there is one
 pub data Each {A : Type 0} (P : A → Type 0) : Option A → Type 0 where
   absent : Each P None
   here : {x : A} → P x → Each P (Some x)
@@ -30,7 +30,7 @@ open_each {T} {B} table (t ∷ ts) = go (table t) refl
     go None e = absent
     go (Some b) e = here (first e)
 
--- the token that stands first
+-- the first token
 pub opened : {T B : Type 0} {table : T → Option B} {b : B} {ts rest : List T} → First table b ts rest → (t : T) × (table t ≡ Some b) × (ts ≡ t ∷ rest)
 opened (first {t = t} e) = (t, e, refl)
 

@@ -1,9 +1,9 @@
--- A loop over a chain: what is done, and what the rest adds, is the whole.
+-- The loop of a chain's parser: the links parsed and those of the rest are the whole chain.
 use Rattle.std.proofs.Common.{◌≡◌, ◌≤◌, ◌<◌, ℕ, zero, suc, List, [], ◌∷◌, ◌++◌, length, Option, Some, None, refl, sym, ◌∙◌, arith}
 use Rattle.m_lexer.specs.inner.Chains.{open_at, chain_at}
 
 module _ {T A B X : Type 0} (opens : T → Option B) (made : B → A → X) (p : List T → Option (A × List T)) where
-  -- with these done at ts, the chain gives the whole
+  -- after the links `done`, with the tokens ts left, the chain is `whole`
   pub record Going (whole : Option (List X × List T)) (done : List X) (ts : List T) : Type 0 where
     pub left : ℕ
     pub enough : length ts ≤ left

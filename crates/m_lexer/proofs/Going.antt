@@ -1,4 +1,4 @@
--- From one place of a file to a later one: by a gap, or by a token.
+-- From one position of a file to a later one: over a gap, or over a token.
 use Rattle.std.proofs.Common.{◌≡◌, ◌≢◌, ◌==◌, ℕ, ◌+◌, ◌<◌, cond, List, [], ◌∷◌, ◌++◌, length, get_or, drop, count_by, refl, sym, ap, ◌∙◌, subst, arith, inl}
 use Rattle.std.proofs.Common.{inr}
 use Rattle.std.specs.List.{AllByRecursion}
@@ -21,7 +21,7 @@ use Rattle.m_lexer.specs.Tokens.{Longest, IsGap, Spells, text, sign, Lexes, gap,
 use Rattle.m_text.proofs.Fronts.{part, parts, length-part, all_part, stops_part, all_weaker, all_both}
 use Rattle.m_lexer.proofs.Pieces.{longest_blank, longest_comment, longest_quoted, longest_word_or_number, longest_two, longest_one, no_piece, NoTwo}
 
--- by nothing, by a gap, by a token, and by one step after another
+-- over nothing, over a gap, over a token, and transitively
 pub stays : (bytes : List ℕ) (p : Place) → GoesOn bytes p [] p
 stays bytes p = record { lists = λ tokens d. d; faults = λ fault d. d }
 
@@ -44,7 +44,7 @@ then bytes p q r ts us a b = record {
   faults = λ fault d. a.faults fault (b.faults fault d);
 }
 
--- a later place is the one after the text between the two
+-- a later position is the one after the text between the two
 place_behind : (p : Place) (t : List ℕ) (b n : ℕ) → b ≡ p.byte + length t → n ≡ count_by (λ x. x == line_feed) t → further p b n ≡ behind t p
 place_behind p t b n e f = λ i. record { file = p.file; byte = e i; line = p.line + f i }
 
@@ -91,7 +91,7 @@ sign_line_feeds Semicolon = refl
 sign_line_feeds Colon = refl
 sign_line_feeds Range = refl
 
--- what is left at a place begins with its byte
+-- the rest of the file at a position begins with its byte
 left_is : (bytes : List ℕ) (p : Place) (b : ℕ) → p.byte < length bytes → byte_at bytes p ≡ b → left bytes p ≡ b ∷ drop (p.byte + 1) bytes
 left_is bytes p b h e = drop_more bytes p.byte 0 h ∙ ap (λ x. x ∷ drop (p.byte + 1) bytes) e
 
@@ -158,7 +158,7 @@ bad_byte_there bytes p h ng nw nq ns =
     let none : NoPiece (a ∷ rest) = no_piece a rest (λ b. ng (inl b)) (λ e. ng (inr e)) nq nw ns.one (no_two bytes p ns.two) in
     subst (λ x. FirstFault p x (BadByte p)) (sym (left_is bytes p a h refl)) (bad_byte nq none)
 
--- a word or a number
+-- over a word or a number
 pub word_or_number_goes : (bytes : List ℕ) (p : Place) (end : ℕ) (k : Kind) → LongestBetween bytes p.byte end → Spells (part bytes p.byte end) k
     → TokenBetween bytes p k (further p end 0)
 word_or_number_goes bytes p end k l s =
@@ -169,7 +169,7 @@ word_or_number_goes bytes p end k l s =
     by_token bytes p (further p end 0) t k (longest_word_or_number bytes p.byte end l) s
     (place_behind p t end 0 byte (sym (no_line_feeds t (word_or_number_line_feeds t l.longest.piece))))
 
--- a text, closed and open
+-- over a quoted text; and an unclosed one
 pub text_goes : (bytes : List ℕ) (p : Place) (end : ℕ) → p.byte < length bytes → byte_at bytes p ≡ quote → RunsTo (λ b. b ≢ quote) bytes (p.byte + 1) end
     → end < length bytes → TokenBetween bytes p (kinds.Text (part bytes (p.byte + 1) end))
     (further p (end + 1) (count_by (λ x. x == line_feed) (part bytes (p.byte + 1) end)))

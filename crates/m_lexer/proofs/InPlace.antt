@@ -1,4 +1,4 @@
--- Each token and the first fault stand where their places say.
+-- Each token and the first error are at their positions.
 use Rattle.std.proofs.Common.{◌≡◌, ◌==◌, ℕ, ◌+◌, cond, List, [], ◌∷◌, ◌++◌, length, count_by, refl, sym, ap, ◌∙◌, subst, arith}
 use Rattle.std.specs.List.{AllByRecursion, All}
 use Rattle.std.proofs.lemmas.List.{append_assoc, length-append}
@@ -10,7 +10,7 @@ use Rattle.m_lexer.specs.declared.fault.LexFault.{LexFault}
 use Rattle.m_text.specs.Bytes.{line_feed}
 use Rattle.m_lexer.specs.Tokens.{Lexes, end, gap, token, FirstFault, bad_byte, open_string, too_great, IsTokenOf, IsFaultAt, behind}
 
--- after one text and then another is after both
+-- the position after two texts
 behind_both : (t u : List ℕ) (p : Place) → behind u (behind t p) ≡ behind (t ++ u) p
 behind_both t u p =
     let n = length-append t u in

@@ -1,4 +1,4 @@
--- No two signs and no two reserved words are spelled alike.
+-- Signs and reserved words have distinct spellings.
 use Rattle.std.proofs.Common.{◌≡◌, List, [], ◌∷◌, ℕ, cond, refl, sym, ap, ◌∙◌}
 use Rattle.std.specs.Str.{bytes_eq}
 use Rattle.m_lexer.specs.declared.token.Sign.{Sign}
@@ -7,7 +7,7 @@ use Rattle.m_lexer.specs.declared.token.Key.{Key}
 use Rattle.m_lexer.specs.declared.token.Key.TheVariants as keys
 use Rattle.m_lexer.specs.Spellings.{sign_spelling, key_spelling}
 
--- the first of a table that is spelled so, or another one
+-- the first row of a table with this spelling, or `other`
 abbrev spelled_in : {T : Type 0} → (T → List ℕ) → T → List T → List ℕ → T
 spelled_in spelling other [] t = other
 spelled_in spelling other (row ∷ rows) t = cond (bytes_eq t (spelling row)) row (spelled_in spelling other rows t)

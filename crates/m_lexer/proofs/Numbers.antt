@@ -1,4 +1,4 @@
--- A number of M is of the form of an amount.
+-- A number of M has the form of an amount.
 use Rattle.std.proofs.Common.{◌≡◌, ℕ, ℤ, pos, Bool, true, false, cond, List, [], ◌∷◌, Option, Some, None, Ok, Err, nat_le, unsigned_abs, length, refl, sym, ap}
 use Rattle.std.proofs.Common.{◌∙◌, arith, inl, inr}
 use Rattle.std.specs.Char.{is_ascii_digit}
@@ -32,7 +32,7 @@ read_some (Some y) z e f = either (nat_le (unsigned_abs y) most) f
     either true g = cc
     either false g = cc
 
--- what isn't read of a number is too great
+-- a number that isn't read as an amount is too great
 pub too_great_only : (t : List ℕ) (f : AmountFault) → IsNumber t → Err f ≡ amount_read (text_value t) → amount_read (text_value t) ≡ Err TooGreat
 too_great_only t NotAnAmount h e = absurd (let n = number_some t h in read_some (text_value t) (pos n.0) (text_value-number t n.0 n.1) e)
 too_great_only t TooGreat h e = sym e

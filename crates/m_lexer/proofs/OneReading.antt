@@ -1,4 +1,4 @@
--- A file has one list of tokens or one first fault, and not both.
+-- A file has either a unique list of tokens or a unique first error.
 use Rattle.std.proofs.Common.{◌≡◌, ◌≢◌, ◌⊎◌, ℕ, List, [], ◌∷◌, ◌++◌, refl, sym, ap, ◌∙◌, subst, arith, inl, inr}
 use Rattle.std.specs.List.{AllByRecursion}
 use Rattle.std.proofs.lemmas.List.{same_from_push}
@@ -41,7 +41,7 @@ word_or_number : (t : List ℕ) → IsWord t → IsNumber t → ⊥
 word_or_number t h (inl k) = h.1 k.1
 word_or_number t h (inr k) = point_is_none (all_right IsWordByte k.0 (point ∷ k.1) (subst (AllByRecursion IsWordByte) k.4 h.0)).0
 
--- one text spells one kind
+-- a text is the spelling of at most one kind of token
 one_kind : (t : List ℕ) (k l : Kind) → Spells t k → Spells t l → k ≡ l
 one_kind t k l (word h none) (word h' none') = refl
 one_kind t k l (word h none) (key {k = w} h' e) = absurd (none w e)
@@ -79,7 +79,8 @@ great_or_token t k g (number h e) = cc
 great_or_token t k g (text {inside = i} h) = let a = number_first t g.0 in let b = quoted_first t i h in omega arith
 great_or_token t k g (sign {s = s} e) = let a = number_first t g.0 in let b = sign_first t s e in omega arith
 
--- at the end of the file, at a byte of no piece and at an open text there is no longest piece
+-- at the end of the file, at a byte that begins no piece and at an unclosed text there is no
+-- longest piece
 no_longest : (bytes t rest : List ℕ) → NoPiece bytes → Longest bytes t rest → ⊥
 no_longest bytes t rest none l = none t rest l.parts l.piece
 

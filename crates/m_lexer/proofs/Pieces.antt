@@ -1,4 +1,4 @@
--- What the first byte of a piece says of it, and which pieces are the longest.
+-- The kind of a piece by its first byte, and the longest pieces.
 use Rattle.std.proofs.Common.{◌≡◌, ◌≢◌, ◌⊎◌, ℕ, ◌≤◌, List, [], ◌∷◌, ◌++◌, length, drop, refl, sym, ap, ◌∙◌, subst, arith, lit≤, inl, inr}
 use Rattle.std.specs.List.{AllByRecursion}
 use Rattle.m_lexer.specs.declared.token.Sign.{Sign}
@@ -13,7 +13,7 @@ use Rattle.m_text.proofs.Fronts.{Stops, one_front, not_next, part, all_right}
 use Rattle.m_text.proofs.Longest.{longest_from, longest_among}
 use Rattle.m_text.proofs.Spelled.{first, first_append, word_first, number_first}
 
--- the bytes that signs begin with
+-- the first bytes of signs
 abbrev pub IsMark : ℕ → Type 0
 IsMark b = (b ≡ 33) ⊎ (((40 ≤ b) × (b ≤ 47)) ⊎ (((58 ≤ b) × (b ≤ 62)) ⊎ ((b ≡ 91) ⊎ (b ≡ 93))))
 
@@ -69,7 +69,7 @@ sign_length Range = lit≤ tt
 pub sign_first : (t : List ℕ) (s : Sign) → t ≡ sign_spelling s → IsMark (first t)
 sign_first t s e = subst IsMark (sym (ap first e)) (mark_first s)
 
--- what begins with a quote is a text
+-- a piece that begins with a quote is a text
 pub after_quote : (t : List ℕ) → IsPiece t → first t ≡ quote → (inside : List ℕ) × IsQuoted t inside
 after_quote t (blank h) e = let k = (blank_first t h).0 in absurd (omega arith)
 after_quote t (comment h) e = let k = comment_first t h in absurd (omega arith)
@@ -78,7 +78,7 @@ after_quote t (number h) e = let k = number_first t h in absurd (omega arith)
 after_quote t (text inside h) e = (inside, h)
 after_quote t (sign s h) e = let k = sign_first t s h in absurd (omega arith)
 
--- what begins with `#` is a comment
+-- a piece that begins with `#` is a comment
 pub after_hash : (t : List ℕ) → IsPiece t → first t ≡ hash → IsComment t
 after_hash t (blank h) e = let k = (blank_first t h).0 in absurd (omega arith)
 after_hash t (comment h) e = h
@@ -87,7 +87,7 @@ after_hash t (number h) e = let k = number_first t h in absurd (omega arith)
 after_hash t (text inside h) e = let k = quoted_first t inside h in absurd (omega arith)
 after_hash t (sign s h) e = let k = sign_first t s h in absurd (omega arith)
 
--- what begins with a blank byte is that byte
+-- a piece that begins with a blank byte is that byte
 pub after_blank : (t : List ℕ) → IsPiece t → IsBlankByte (first t) → IsBlank t
 after_blank t (blank h) e = h
 after_blank t (comment h) e = let k = comment_first t h in absurd (omega arith)
@@ -96,7 +96,7 @@ after_blank t (number h) e = let k = number_first t h in absurd (omega arith)
 after_blank t (text inside h) e = let k = quoted_first t inside h in absurd (omega arith)
 after_blank t (sign s h) e = let k = sign_first t s h in absurd (omega arith)
 
--- what begins with a mark is a sign
+-- a piece that begins with a mark is a sign
 pub after_mark : (t : List ℕ) → IsPiece t → IsMark (first t) → (s : Sign) × (t ≡ sign_spelling s)
 after_mark t (blank h) e = let k = (blank_first t h).0 in absurd (omega arith)
 after_mark t (comment h) e = let k = comment_first t h in absurd (omega arith)
@@ -105,7 +105,7 @@ after_mark t (number h) e = let k = number_first t h in absurd (omega arith)
 after_mark t (text inside h) e = let k = quoted_first t inside h in absurd (omega arith)
 after_mark t (sign s h) e = (s, h)
 
--- what begins with a letter, a digit or `_` is a word or a number
+-- a piece that begins with a letter, a digit or `_` is a word or a number
 pub after_word_byte : (t : List ℕ) → IsPiece t → IsWordByte (first t) → IsWordOrNumber t
 after_word_byte t (blank h) e = let k = (blank_first t h).0 in absurd (omega arith)
 after_word_byte t (comment h) e = let k = comment_first t h in absurd (omega arith)
@@ -114,7 +114,7 @@ after_word_byte t (number h) e = inr h
 after_word_byte t (text inside h) e = let k = quoted_first t inside h in absurd (omega arith)
 after_word_byte t (sign s h) e = let k = sign_first t s h in absurd (omega arith)
 
--- a piece has a byte
+-- a piece isn't empty
 pub not_empty : IsPiece [] → ⊥
 not_empty (blank h) = let k = (blank_first [] h).0 in omega arith
 not_empty (comment h) = let k = comment_first [] h in omega arith
@@ -152,7 +152,8 @@ longest_quoted bytes inside rest e h = longest_from IsPiece bytes (quote ∷ (in
         let x = q.1 in
         cc
 
--- the longest word or number is the longest piece: what begins with its first byte is a word or a number too
+-- the longest word or number is the longest piece, because every piece with its first byte is a
+-- word or a number
 pub longest_word_or_number : (bytes : List ℕ) (from end : ℕ) → LongestBetween bytes from end → Longest (drop from bytes) (part bytes from end) (drop end bytes)
 longest_word_or_number bytes from end l = longest_among IsWordOrNumber IsPiece (drop from bytes) t (drop end bytes) l.longest (piece t l.longest.piece) same
   where
@@ -186,7 +187,7 @@ longest_two bytes a b rest s e h = longest_from IsPiece bytes (a ∷ b ∷ []) r
         let k = sign_length w.0 in
         omega arith
 
--- no sign is spelled by a byte and the byte after it
+-- no sign consists of this byte and the one after it
 abbrev pub NoTwo : ℕ → List ℕ → Type 0
 NoTwo a rest = (c : ℕ) (more : List ℕ) → rest ≡ c ∷ more → (s : Sign) → sign_spelling s ≡ a ∷ c ∷ [] → ⊥
 
@@ -205,7 +206,7 @@ longest_one bytes a rest s e h short = longest_from IsPiece bytes (a ∷ []) res
         let w = after_mark (a ∷ c ∷ more) p (subst IsMark (ap first h) (mark_first s)) in
         two c more v f w.0 w.1
 
--- no piece begins with a byte of no kind
+-- no piece begins with a byte of none of the kinds
 pub no_piece : (a : ℕ) (rest : List ℕ) → (IsBlankByte a → ⊥) → a ≢ hash → a ≢ quote → (IsWordByte a → ⊥) → ((s : Sign) → sign_spelling s ≡ a ∷ [] → ⊥)
     → NoTwo a rest → NoPiece (a ∷ rest)
 no_piece a rest nb nh nq nw one two [] others e p = not_empty p

@@ -1,4 +1,5 @@
--- What gaps and tokens are spelled by, as lists of bytes. Words, numbers, quoted texts and comments are those of m_text.
+-- The spellings of gaps and tokens, as lists of bytes. Words, numbers, quoted texts and comments
+-- are those of m_text.
 use Rattle.std.specs.Prelude.{◌≡◌, ℕ, List, [], ◌∷◌, codes}
 use Rattle.m_text.specs.Bytes.{IsBlankByte}
 use Rattle.m_text.specs.Words.{IsComment, IsNumber, IsQuoted, IsWord}
@@ -73,8 +74,8 @@ key_spelling Discordance = codes "discordance"
 key_spelling Informative = codes "informative"
 key_spelling X = codes "X"
 
--- What stands in a file, piece by piece: a gap, or what is spelled as a token is. A reserved word is
--- a word here, and a number is one however great it is.
+-- A piece of a file: a gap or the spelling of a token. A reserved word is a word here, and a number
+-- of any size is one.
 pub data IsPiece : List ℕ → Type 0 where
   blank : {t : List ℕ} → IsBlank t → IsPiece t
   comment : {t : List ℕ} → IsComment t → IsPiece t

@@ -1,4 +1,4 @@
--- The tokens of a file, and its first fault.
+-- The tokens of a file, and its first error.
 use Rattle.std.specs.Prelude.{◌≡◌, ◌≢◌, ◌⊎◌, ◌==◌, ℕ, ℤ, Ok, Err, ◌+◌, List, [], ◌∷◌, ◌++◌, length, count_by}
 use Rattle.std.specs.List.{AllByRecursion}
 use Rattle.m_fixed.specs.Text.{text_value, amount_read}
@@ -15,30 +15,30 @@ use Rattle.m_text.specs.Bytes.{quote, line_feed}
 use Rattle.m_text.specs.Words.{IsComment, IsWord, IsNumber, IsQuoted, LongestOf}
 use Rattle.m_lexer.specs.Spellings.{IsPiece, IsBlank, sign_spelling, key_spelling}
 
--- where a file begins: at byte 0, on line 1
+-- the start of a file: byte 0, line 1
 abbrev pub start_of : ℕ → Place
 start_of file = record { file = file; byte = 0; line = 1 }
 
--- The place after a text: as many bytes on as it has, and a line for each line feed in it. After
--- two bytes of which one is a line feed, the start of a file becomes byte 2, line 2.
+-- The position after a text: its length in bytes further, and one line further for each of its line
+-- feeds. After two bytes, one of them a line feed, the start of a file becomes byte 2, line 2.
 abbrev pub behind : List ℕ → Place → Place
 behind t p = record { file = p.file; byte = p.byte + length t; line = p.line + count_by (λ b. b == line_feed) t }
 
--- t is the longest piece at the start of bytes, and rest stands after it: of `sinon 1` it is
--- `sinon`, with ` 1` after it
+-- t is the longest piece at the start of bytes, and rest follows it: in `sinon 1` it is `sinon`,
+-- and ` 1` follows it
 abbrev pub Longest : List ℕ → List ℕ → List ℕ → Type 0
 Longest bytes t rest = LongestOf IsPiece bytes t rest
 
--- what stands between tokens
+-- the text between tokens: a blank byte or a comment
 abbrev pub IsGap : List ℕ → Type 0
 IsGap t = IsBlank t ⊎ IsComment t
 
--- a number that, rounded at the sixth decimal, is above the greatest amount
+-- a number that is above the greatest amount after rounding at the sixth decimal
 abbrev pub IsTooGreat : List ℕ → Type 0
 IsTooGreat t = IsNumber t × (amount_read (text_value t) ≡ Err TooGreat)
 
--- The text spells a token of the kind: a word that is reserved or not, a number with the amount that
--- is read of it, a text with the bytes between its quotes, or a sign.
+-- The text spells a token of this kind: a word that isn't reserved, a reserved word, a number with
+-- its amount, a text with the bytes between its quotes, or a sign.
 pub data Spells : List ℕ → Kind → Type 0 where
   word : {t : List ℕ} → IsWord t → ((k : Key) → t ≢ key_spelling k) → Spells t (kinds.Word t)
   key : {t : List ℕ} {k : Key} → IsWord t → t ≡ key_spelling k → Spells t (kinds.Key k)
@@ -46,8 +46,8 @@ pub data Spells : List ℕ → Kind → Type 0 where
   text : {t inside : List ℕ} → IsQuoted t inside → Spells t (kinds.Text inside)
   sign : {t : List ℕ} {s : Sign} → t ≡ sign_spelling s → Spells t (kinds.Sign s)
 
--- The bytes from a place to the end of the file are gaps and tokens by turns, each the longest
--- piece that begins where it stands. These are the tokens, each with its place.
+-- The bytes from a position to the end of the file are a sequence of gaps and tokens, each the
+-- longest piece at its start; these are the tokens, with their positions.
 pub data Lexes : Place → List ℕ → List Token → Type 0 where
   end : {p : Place} → Lexes p [] []
   gap : {p : Place} {bytes t rest : List ℕ} {tokens : List Token} → Longest bytes t rest → IsGap t →
@@ -55,12 +55,12 @@ pub data Lexes : Place → List ℕ → List Token → Type 0 where
   token : {p : Place} {bytes t rest : List ℕ} {kind : Kind} {tokens : List Token} → Longest bytes t rest → Spells t kind →
       Lexes (behind t p) rest tokens → Lexes p bytes (record { kind = kind; place = p } ∷ tokens)
 
--- no piece begins here, however far it would go
+-- no piece of any length begins here
 abbrev pub NoPiece : List ℕ → Type 0
 NoPiece bytes = (t others : List ℕ) → bytes ≡ t ++ others → IsPiece t → ⊥
 
--- The first fault from a place on: after gaps and tokens by turns comes a byte at which no piece
--- begins, a quote with no other after it, or a number that is too great.
+-- The first error from a position on: after gaps and tokens there is a byte at which no piece
+-- begins, a quote that isn't closed, or a number that is too great.
 pub data FirstFault : Place → List ℕ → LexFault → Type 0 where
   bad_byte : {p : Place} {b : ℕ} {bytes : List ℕ} → b ≢ quote → NoPiece (b ∷ bytes) → FirstFault p (b ∷ bytes) (BadByte p)
   open_string : {p : Place} {bytes : List ℕ} (inside : List ℕ) → bytes ≡ quote ∷ inside → AllByRecursion (λ b. b ≢ quote) inside
@@ -71,8 +71,8 @@ pub data FirstFault : Place → List ℕ → LexFault → Type 0 where
   token : {p : Place} {bytes t rest : List ℕ} {kind : Kind} {fault : LexFault} → Longest bytes t rest → Spells t kind →
       FirstFault (behind t p) rest fault → FirstFault p bytes fault
 
--- A token stands where its place says: a spelling of it is there, and its place is the one after
--- all that comes before.
+-- A token is at its position: its spelling is there, and the position is the one after the text
+-- before it.
 pub record IsTokenOf (p : Place) (bytes : List ℕ) (token : Token) : Type 0 where
   pub before : List ℕ
   pub spelling : List ℕ
@@ -81,7 +81,7 @@ pub record IsTokenOf (p : Place) (bytes : List ℕ) (token : Token) : Type 0 whe
   pub spells : Spells spelling token.kind
   pub placed : token.place ≡ behind before p
 
--- a fault of the file at a place
+-- the error is one of the file, at this position
 abbrev pub IsFaultAt : Place → LexFault → Type 0
 IsFaultAt p (BadByte q) = q ≡ p
 IsFaultAt p (OpenString q) = q ≡ p

@@ -1,3 +1,3 @@
--- What the contracts of inner functions speak of. Those of the public calls need none of it.
+-- Definitions for the contracts of inner functions. Those of public functions use none of them.
 pub mod Steps
 pub mod Chains

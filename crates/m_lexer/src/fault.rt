@@ -1,4 +1,4 @@
-//! Why a file has no tokens.
+//! Lexical errors.
 
 ghost use Rattle.std.specs.Prelude.{◌≡◌};
 ghost use Rattle.m_lexer.specs.declared.fault.LexFault.TheVariants.{Memory};
@@ -6,14 +6,14 @@ ghost use Rattle.m_lexer.specs.declared.fault.LexFault.TheVariants.{Memory};
 use m_places::Place;
 use std::alloc::{AllocError, AllocFailed};
 
-/// Why a file has no tokens: its first fault.
+/// Why a file has no tokens: its first error.
 #[derive(Clone, Copy, Debug, PartialEq, Eq)]
 pub enum LexFault {
     /// A byte at which no token begins.
     BadByte(Place),
-    /// The opening quote of a text that isn't closed before the end of the file.
+    /// The opening quote of a text that isn't closed.
     OpenString(Place),
-    /// A number above 10000000000000 after it is rounded at the sixth decimal.
+    /// A number above 10000000000000 after rounding at the sixth decimal.
     NumberTooGreat(Place),
     /// Out of memory.
     Memory,

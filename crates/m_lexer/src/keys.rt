@@ -7,7 +7,7 @@ ghost use Rattle.m_lexer.specs.Spellings.{key_spelling};
 use crate::token::Key;
 
 impl Key {
-    /// How the word is spelled.
+    /// The spelling of the word.
     pub(crate) fn spelling(self) -> &'static [u8]
         ensures { result.now ≡ key_spelling self }
     {
@@ -51,7 +51,7 @@ impl Key {
     }
 }
 
-// The reserved words that begin with a byte.
+// The reserved words that begin with this byte.
 fn keys_from(first: u8) -> &'static [Key]
     ensures { (k : Key) → slice_index (key_spelling k) 0 ≡ first → Contains result.now k }
 {
@@ -83,7 +83,7 @@ fn keys_from(first: u8) -> &'static [Key]
     }
 }
 
-/// The reserved word that a text spells.
+/// The reserved word with this spelling.
 pub fn key_of(word: &[u8]) -> Option<Key>
     requires { 0 < length word.now }
     ensures { MatchOption result

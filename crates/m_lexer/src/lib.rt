@@ -1,8 +1,9 @@
-//! The tokens of M: the words, numbers, texts and signs that a rule file is made of, each with its
-//! place, or the first fault of the file.
+//! The lexer of M: from the bytes of a rule file to its tokens, each with its position, or to its
+//! first error.
 //!
-//! This crate stands on names and places, and on amounts for the values of numbers. It knows
-//! nothing of files on a disk or of M's grammar.
+//! Uses names and places, texts of `m_text`, and amounts for the values of numbers. Knows nothing
+//! of files on a disk or of M's grammar. Tokens own their names, so they can go to other threads
+//! and outlive the file; ranges of the file would take less time and memory (`bench/lexer`).
 #![tactic(auto)]
 
 mod fault;

@@ -1,4 +1,4 @@
-//! The scan of a file: gaps and tokens by turns.
+//! The scan of a file: a sequence of gaps and tokens.
 
 ghost use Rattle.std.specs.Prelude.{◌≡◌, ◌≤◌, ◌<◌, ◌+◌, [], IfOk, IfSome, MatchOption, length};
 ghost use Rattle.m_places.specs.Refusals.{Outcome};
@@ -19,11 +19,11 @@ use m_places::{Name, Place};
 use m_text::{WordOrNumber, is_word_byte, line_end, line_feeds, quote_end, word_or_number};
 use std::alloc::{AllocError, Global};
 
-/// The tokens of a rule file, whose number in the list is `file`, or its first fault.
+/// The tokens of a rule file, or its first error; `file` is its number in the list.
 ///
-/// `REV + 1` gives the word `REV` at byte 0, the sign `+` at byte 4 and the number 1 at byte 6,
-/// all on line 1. `REV + "` gives `OpenString` at byte 6, line 1. Memory is taken for the tokens
-/// and their names alone.
+/// `REV + 1` gives the word `REV` at byte 0, the sign `+` at byte 4 and the number 1 at byte 6, all
+/// on line 1. `REV + "` gives `OpenString` at byte 6, line 1. Memory is taken only for the tokens
+/// and their names.
 pub fn lex(alloc: Global, bytes: &[u8], file: u32) -> Result<Vec<Token>, LexFault>
     requires { length bytes.now ≤ FILE_BYTES }
     ensures outcome { Outcome Memory result
@@ -47,7 +47,7 @@ pub fn lex(alloc: Global, bytes: &[u8], file: u32) -> Result<Vec<Token>, LexFaul
     Ok(tokens)
 }
 
-// The first place from here on at which no gap stands.
+// The first position from here on at which no gap begins.
 fn after_gaps(bytes: &[u8], from: Place) -> Place
     requires small { length bytes.now ≤ FILE_BYTES }
     requires here { IsPlaceIn bytes.now from }
@@ -63,7 +63,7 @@ fn after_gaps(bytes: &[u8], from: Place) -> Place
     place
 }
 
-// The place after the gap that stands here: one blank byte, or a comment.
+// The position after the gap at this position, if there is one: one blank byte, or a comment.
 fn after_gap(bytes: &[u8], place: Place) -> Option<Place>
     requires small { length bytes.now ≤ FILE_BYTES }
     requires here { IsPlaceIn bytes.now place }
@@ -85,7 +85,7 @@ fn after_gap(bytes: &[u8], place: Place) -> Option<Place>
     }
 }
 
-// A later place of the file, with so many line feeds between the two.
+// A later position, with the number of line feeds between the two.
 fn further(place: Place, byte: usize, lines: usize) -> Place
     requires byte { byte ≤ FILE_BYTES }
     requires lines { place.line + lines ≤ byte + 1 }
@@ -98,7 +98,7 @@ fn further(place: Place, byte: usize, lines: usize) -> Place
     }
 }
 
-// The token that begins here, and the place after it.
+// The token at this position, and the position after it.
 fn kind_at(alloc: Global, bytes: &[u8], place: Place) -> Result<(Kind, Place), LexFault>
     requires small { length bytes.now ≤ FILE_BYTES }
     requires here { IsPlaceIn bytes.now place }
@@ -123,7 +123,7 @@ fn kind_at(alloc: Global, bytes: &[u8], place: Place) -> Result<(Kind, Place), L
     }
 }
 
-// The word or number that begins here.
+// The word or number at this position.
 fn word_or_number_at(alloc: Global, bytes: &[u8], place: Place) -> Result<(Kind, Place), LexFault>
     requires small { length bytes.now ≤ FILE_BYTES }
     requires here { IsPlaceIn bytes.now place }
@@ -148,7 +148,7 @@ fn word_or_number_at(alloc: Global, bytes: &[u8], place: Place) -> Result<(Kind,
     }
 }
 
-// What a word is: reserved, or not.
+// The kind of a word: reserved or not.
 fn word_kind(alloc: Global, text: &[u8]) -> Result<Kind, AllocError>
     requires { IsWord text.now }
     ensures { IfOk result (Spells text.now) }
@@ -159,7 +159,7 @@ fn word_kind(alloc: Global, text: &[u8]) -> Result<Kind, AllocError>
     }
 }
 
-// What a number is: its amount and its spelling.
+// The kind of a number: its amount and its spelling.
 fn number_kind(alloc: Global, text: &[u8], place: Place) -> Result<Kind, LexFault>
     requires { IsNumber text.now }
     ensures outcome { Outcome Memory result
@@ -172,7 +172,7 @@ fn number_kind(alloc: Global, text: &[u8], place: Place) -> Result<Kind, LexFaul
     }
 }
 
-// The text whose opening quote stands here.
+// The text whose opening quote is at this position.
 fn text_at(alloc: Global, bytes: &[u8], place: Place) -> Result<(Kind, Place), LexFault>
     requires small { length bytes.now ≤ FILE_BYTES }
     requires here { IsPlaceIn bytes.now place }
@@ -194,7 +194,7 @@ fn text_at(alloc: Global, bytes: &[u8], place: Place) -> Result<(Kind, Place), L
     Ok((kind, further(place, end + 1, line_feeds(inside))))
 }
 
-// The sign that begins here, of two bytes where they spell one.
+// The sign at this position; two bytes take precedence over one.
 fn sign_at(bytes: &[u8], place: Place) -> Option<(Sign, Place)>
     requires small { length bytes.now ≤ FILE_BYTES }
     requires here { IsPlaceIn bytes.now place }

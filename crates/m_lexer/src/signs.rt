@@ -6,7 +6,7 @@ ghost use Rattle.m_lexer.specs.Spellings.{sign_spelling};
 
 use crate::token::Sign;
 
-/// The sign that two bytes spell.
+/// The sign with this spelling of two bytes.
 pub fn two_byte_sign(first: u8, second: u8) -> Option<Sign>
     ensures { MatchOption result
         ((s : Sign) → sign_spelling s ≢ first ∷ second ∷ [])
@@ -21,7 +21,7 @@ pub fn two_byte_sign(first: u8, second: u8) -> Option<Sign>
     }
 }
 
-/// The sign that one byte spells.
+/// The sign with this spelling of one byte.
 pub fn one_byte_sign(byte: u8) -> Option<Sign>
     ensures { MatchOption result
         ((s : Sign) → sign_spelling s ≢ byte ∷ [])

@@ -64,12 +64,12 @@ pub enum Sign {
     Range,
 }
 
-/// What a token is.
+/// The kind of a token, with its value.
 #[derive(Drop)]
 pub enum Kind {
     /// A word that isn't reserved, as spelled.
     Word(Name),
-    /// A number, rounded at the sixth decimal, and its spelling.
+    /// A number: its amount, rounded at the sixth decimal, and its spelling.
     Number(Amount, Name),
     /// The bytes between the quotes of a text.
     Text(Name),
