@@ -1,5 +1,5 @@
--- What a list of items declares, in the order of the file: its variables and errors, and of these
--- the names, codes and kinds.
+-- The declarations in a list of items, in the order of the file: variables and errors, with the
+-- names, codes and kinds of variables.
 use Rattle.std.specs.Prelude.{ℕ, Bool, true, false, List, Option, Some, None}
 use Rattle.std.specs.List.{filter_map}
 use Rattle.m_ast.specs.declared.item.Item.{Item}
@@ -25,7 +25,7 @@ variables_of = filter_map variable_in
 abbrev pub errors_of : List Item → List ErrorItem
 errors_of = filter_map error_in
 
--- the code of an input, as 1AJ
+-- the code of an input, as `1AJ`
 abbrev pub code_in : Role → Option (List ℕ)
 code_in (Input code) = Some code
 code_in (Computed size) = None
@@ -47,7 +47,7 @@ is_constant (Input code) = false
 is_constant (Computed size) = false
 is_constant (Constant amount) = true
 
--- how many cells a variable has: a table as many as its size, every other variable one
+-- the number of cells of a variable: the size of a table, and 1 for any other
 abbrev pub cells_in : Option ℕ → ℕ
 cells_in (Some size) = size
 cells_in None = 1

@@ -1,4 +1,4 @@
--- Members of a membership that are single: both ends are one.
+-- Single members of a membership: both ends are equal.
 use Rattle.std.specs.Prelude.{ℤ, ℕ, Bool, true, false, ◌||◌, List, Option, None, Some, if◌then◌else◌}
 use Rattle.std.specs.Str.{bytes_eq}
 use Rattle.std.specs.Ordering.{int_eq}
@@ -18,7 +18,7 @@ abbrev pub amount_of : Syntax → Option ℤ
 amount_of (lit v) = amount_in v
 amount_of _ = None
 
--- the amount of a literal that stands alone
+-- the amount, if the only argument is a literal
 abbrev pub only_amount : Terms → Option ℤ
 only_amount no_terms = None
 only_amount (a_term a no_terms) = amount_of a
@@ -28,12 +28,12 @@ abbrev pub is_negation : Op → Bool
 is_negation Neg = true
 is_negation _ = false
 
--- the amount of a literal after a minus
+-- the amount of a negated literal, without the minus
 abbrev pub opposite_of : Syntax → Option ℤ
 opposite_of (apply op all) = if is_negation op then only_amount all else None
 opposite_of _ = None
 
--- the word that a term is
+-- the word, if the term is one
 abbrev pub word_of : Syntax → Option (List ℕ)
 word_of (named w p) = Some w
 word_of _ = None
@@ -48,8 +48,8 @@ is_same_word (Some a) (Some b) = bytes_eq a b
 is_same_word (Some a) None = false
 is_same_word None b = false
 
--- Whether a member with these ends is a single one: both are one number, one number after a minus, or one word. `3..3.0` is
--- single, and `-0..0` is a range.
+-- Whether a member is a single value: both ends are the same amount, the same negated amount, or
+-- the same word. `3..3.0` is single, and `-0..0` is a range.
 abbrev pub is_single : Syntax → Syntax → Bool
 is_single low high =
     is_same_amount (amount_of low) (amount_of high)

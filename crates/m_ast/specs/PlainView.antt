@@ -1,4 +1,4 @@
--- The syntax that a node without loops stands for, and that lists of its parts stand for.
+-- The syntax of a node without loops, and of lists of its parts.
 use Rattle.std.specs.Prelude.{List, [], ◌∷◌}
 use Rattle.m_ast.specs.declared.plain_term.PNode.{PNode}
 use Rattle.m_ast.specs.declared.plain_term.PNode.TheVariants.{Lit, Named, X, Cell, Apply, Chain, Among}

@@ -1,4 +1,4 @@
--- What contracts see of a term: its syntax. Two terms are equal where these are.
+-- The syntax of terms, as contracts see them: terms are equal if their syntax is.
 use Rattle.std.specs.Prelude.{ℕ, ◌+◌, Bool, List}
 use Rattle.m_fixed.specs.declared.amount.Value.{Value}
 use Rattle.m_fixed.specs.declared.operator.Op.{Op}
@@ -25,17 +25,17 @@ mutual
     no_terms : Terms
     a_term : Syntax → Terms → Terms
 
-  -- what a chain adds to its first operand, from left to right
+  -- the operands of a chain after the first, from left to right
   pub data Links : Type 0 where
     no_links : Links
     a_link : Op → Syntax → Links → Links
 
-  -- low and high ends
+  -- pairs of a low and a high end
   pub data Members : Type 0 where
     no_members : Members
     a_member : Syntax → Syntax → Members → Members
 
--- how many nodes a term has: a measure for recursion
+-- the number of nodes of a term: a measure for recursion
 abbrev mutual
   pub nodes : Syntax → ℕ
   nodes (lit v) = 1

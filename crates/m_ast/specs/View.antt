@@ -1,4 +1,4 @@
--- The syntax that a node stands for, and that lists of its parts stand for.
+-- The syntax of a node, and of lists of its parts.
 use Rattle.std.specs.Prelude.{List, [], ◌∷◌}
 use Rattle.m_ast.specs.declared.term.Node.{Node}
 use Rattle.m_ast.specs.declared.term.Node.TheVariants.{Lit, Named, X, Cell, Apply, Chain, Among, Loop}

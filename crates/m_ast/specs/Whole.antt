@@ -1,4 +1,4 @@
--- Whole trees, as the reader of rule files gives them, and terms without loops.
+-- Well-formed trees, as the parser makes them, and terms without loops.
 use Rattle.std.specs.Prelude.{◌≢◌, []}
 use Rattle.std.specs.Prelude.{All}
 use Rattle.m_ast.specs.declared.header.Header.{Header}
@@ -14,12 +14,12 @@ use Rattle.m_ast.specs.Syntax.{no_members, a_member}
 abbrev pub IsWholeIndex : Index → Type 0
 IsWholeIndex index = index.values ≢ []
 
--- a header has an index, and each index a value: `i = 1..3` and `i = A ; j = 1` have
+-- A header has an index, and each index a value, as in `i = 1..3` and `i = A ; j = 1`.
 pub record IsWholeHeader (header : Header) : Type 0 where
   pub some_index : header.indexes ≢ []
   pub each_index : All IsWholeIndex header.indexes
 
--- each chain has two operands at least, each membership a member, and each header is whole
+-- each chain has at least two operands, each membership a member, and each header is whole
 abbrev mutual
   pub IsWhole : Syntax → Type 0
   IsWhole (lit v) = Unit {0}
@@ -58,7 +58,7 @@ IsWholeItem (Verif v) = All IsWholeCheck v.checks
 IsWholeItem (Error e) = Unit {0}
 IsWholeItem (Silent p) = Unit {0}
 
--- no loop stands in a term
+-- a term contains no loop
 abbrev mutual
   pub HasNoLoop : Syntax → Type 0
   HasNoLoop (lit v) = Unit {0}

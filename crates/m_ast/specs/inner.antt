@@ -1,4 +1,4 @@
--- How the logic stores a term and sees that its parts are smaller. No contract speaks of it.
+-- The logic's encoding of terms, and its proof that parts are smaller. Contracts don't use it.
 pub mod Coding
 pub mod Falls
 pub mod PlainFalls

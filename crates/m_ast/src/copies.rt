@@ -1,12 +1,12 @@
-//! Lists of copies.
+//! Copies of lists.
 ghost use Rattle.std.specs.Prelude.{◌≡◌, IfOk};
 
 use m_places::{Name, Seq};
 use std::alloc::{AllocError, Global};
 
-/// What an equal second one can be made of.
+/// Types with a fallible copy.
 pub trait Duplicate: Sized {
-    /// An equal one. Its only error is running out of memory.
+    /// An equal value. Its only error is running out of memory.
     fn duplicate(&self, alloc: Global) -> Result<Self, AllocError>
         ensures { IfOk result (λ t. t ≡ self.now) };
 }
@@ -17,7 +17,7 @@ impl Duplicate for Name {
     }
 }
 
-/// An equal list, with room for its elements and no more.
+/// An equal list, with no more capacity than its length. Its only error is running out of memory.
 pub fn copy_all<T: Duplicate + Drop>(alloc: Global, list: &[T]) -> Result<Seq<T>, AllocError>
     ensures { IfOk result (λ s. s ≡ list.now) }
 {

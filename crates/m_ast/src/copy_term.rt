@@ -15,7 +15,7 @@ impl Term {
     }
 }
 
-// A node in a box.
+// A boxed term.
 fn boxed(alloc: Global, node: Node) -> Result<Box<Term>, AllocError>
     ensures { IfOk result (λ t. t.value ≡ syntax_of node) }
 {

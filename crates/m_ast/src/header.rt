@@ -1,29 +1,29 @@
-//! What stands before the colon of a loop.
+//! Headers of loops.
 ghost use Rattle.std.specs.Prelude.{◌≡◌, IfOk};
 
 use crate::copies::{Duplicate, copy_all};
 use m_places::{Name, Place, Seq};
 use std::alloc::{AllocError, Global};
 
-/// Consecutive values of an index, as they are spelled: `08..10` is from `08` to `10`. A single
-/// value has it at both ends.
+/// Consecutive values of an index, as they are spelled: `08..10` is from `08` to `10`. The ends of
+/// a single value are equal.
 #[derive(Drop)]
 pub struct Span {
     pub from: Name,
     pub to: Name,
 }
 
-/// A letter of a loop and the values that it takes, in the order in which they are written.
+/// An index of a loop: a letter and the values that it takes, in the order of the source.
 #[derive(Drop)]
 pub struct Index {
-    /// A letter from a to z.
+    /// The letter, from a to z.
     pub letter: u8,
     /// The place of the letter.
     pub place: Place,
     pub values: Seq<Span>,
 }
 
-/// The header of a `pour` or a `somme`: its indexes, of which the first is the slowest.
+/// The header of a `pour` or a `somme`: its indexes, of which the first varies slowest.
 #[derive(Drop)]
 pub struct Header {
     /// The place of the first letter.

@@ -1,4 +1,4 @@
-//! Rules, verifications, errors, and items of every kind.
+//! Items of rule files: rules, verifications and errors, and their union with the other kinds.
 ghost use Rattle.std.specs.Prelude.{◌≡◌, IfOk};
 
 use crate::copies::{Duplicate, copy_all};
@@ -6,7 +6,7 @@ use crate::{Header, Term, VariableItem};
 use m_places::{ErrorKind, Name, Place, Seq};
 use std::alloc::{AllocError, Global};
 
-/// Which cells of its target a formula sets.
+/// The cells of its target that a formula sets.
 #[derive(Clone, Copy, Debug, PartialEq, Eq)]
 pub enum Slot {
     /// The target is written without an index.
@@ -17,10 +17,10 @@ pub enum Slot {
     Every,
 }
 
-/// What a rule sets a variable to, once for each instance of its loops.
+/// A formula: a target and the term that it is set to, once for each instance of its loops.
 #[derive(Drop)]
 pub struct Formula {
-    /// The headers of `pour`, of which the first is the outermost.
+    /// The headers of `pour`, the outermost first.
     pub loops: Seq<Header>,
     pub target: Name,
     pub slot: Slot,
@@ -29,10 +29,10 @@ pub struct Formula {
     pub place: Place,
 }
 
-/// A rule: which applications it counts in, and its formulas.
+/// A rule: the applications that it belongs to, and its formulas.
 #[derive(Drop)]
 pub struct RuleItem {
-    /// The number of the rule as it is spelled.
+    /// The rule's number, as spelled.
     pub number: Name,
     /// The place of its first token.
     pub place: Place,
@@ -42,7 +42,7 @@ pub struct RuleItem {
     pub formulas: Seq<Formula>,
 }
 
-/// A check of a verification: it fails where the condition is a number other than 0.
+/// A check of a verification. It fails if the condition is a number other than 0.
 #[derive(Drop)]
 pub struct CheckItem {
     pub condition: Term,
@@ -52,10 +52,10 @@ pub struct CheckItem {
     pub place: Place,
 }
 
-/// A verification: which applications it counts in, and its checks.
+/// A verification: the applications that it belongs to, and its checks.
 #[derive(Drop)]
 pub struct VerifItem {
-    /// The number of the verification as it is spelled.
+    /// The verification's number, as spelled.
     pub number: Name,
     /// The place of its first token.
     pub place: Place,
@@ -63,14 +63,14 @@ pub struct VerifItem {
     pub checks: Seq<CheckItem>,
 }
 
-/// The declaration of an error that checks raise.
+/// The declaration of an error, which checks refer to.
 #[derive(Drop)]
 pub struct ErrorItem {
     pub name: Name,
     /// The place of the name.
     pub place: Place,
     pub kind: ErrorKind,
-    /// Its texts in order, four or five.
+    /// Its four or five texts, in order.
     pub texts: Seq<Name>,
 }
 
@@ -81,7 +81,7 @@ pub enum Item {
     Rule(RuleItem),
     Verif(VerifItem),
     Error(ErrorItem),
-    /// An `application` or `enchaineur` item, which has no effect. The place is that of its first
+    /// An `application` or `enchaineur` item, which has no effect, and the place of its first
     /// token.
     Silent(Place),
 }

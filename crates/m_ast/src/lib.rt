@@ -1,8 +1,9 @@
-//! The trees of M: what the items of a rule file are once they are read, and rules without loops, which are what formulas and checks come to
-//! once every `pour`, every `somme` and every `T[X] = ..` of a declared table is replaced by its instances.
+//! The trees of M: the items of a rule file, and rules without loops, in which every `pour`, every
+//! `somme` and every `T[X] = ..` of a declared table is replaced by its instances.
 //!
-//! Contracts see a `Term` and a `PTerm` as a `Syntax` of `specs/`, a pure data type, so `≡` on trees is equality of syntax. This crate knows
-//! nothing of tokens, of cells, nor of what a tree is worth.
+//! Uses amounts and names. Knows nothing of tokens or cells, nor of the values of terms. Contracts
+//! see a `Term` and a `PTerm` as a `Syntax`, plain data, so equality of trees is equality of
+//! syntax.
 #![tactic(auto)]
 
 mod copies;

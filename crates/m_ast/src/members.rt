@@ -1,4 +1,4 @@
-//! Members of a membership that are single.
+//! Single members of a membership.
 ghost use Rattle.std.specs.Prelude.{◌≡◌, option_copied};
 ghost use Rattle.m_ast.specs.View.{terms_of};
 ghost use Rattle.m_ast.specs.Members as spec;
@@ -6,8 +6,8 @@ ghost use Rattle.m_ast.specs.Members as spec;
 use crate::{Node, Term};
 use m_fixed::{Amount, Op, Value};
 
-/// Whether a member with these ends is a single one: both are one number, one number after a minus, or one word. `3..3.0` is
-/// single, and `-0..0` is a range. Takes no memory.
+/// Whether a member is a single value: both ends are the same amount, the same negated amount, or
+/// the same word. `3..3.0` is single, and `-0..0` is a range. Takes no memory.
 pub fn is_single(low: &Term, high: &Term) -> bool
     ensures { result ≡ spec.is_single low.now high.now }
 {
@@ -54,7 +54,7 @@ fn amount_of(term: &Term) -> Option<Amount>
     }
 }
 
-// The amount of a literal after a minus.
+// The amount of a negated literal, without the minus.
 fn opposite_of(term: &Term) -> Option<Amount>
     ensures { result ≡ spec.opposite_of term.now }
 {
@@ -92,7 +92,7 @@ fn only_amount(arguments: &[Term]) -> Option<Amount>
     }
 }
 
-// The word that a term is.
+// The word, if the term is one.
 fn word_of(term: &Term) -> Option<&[u8]>
     ensures { option_copied result ≡ spec.word_of term.now }
 {

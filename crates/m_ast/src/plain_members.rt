@@ -1,4 +1,4 @@
-//! Members of a membership without loops that are single.
+//! Single members of a membership, in terms without loops.
 ghost use Rattle.std.specs.Prelude.{◌≡◌, option_copied};
 ghost use Rattle.m_ast.specs.View.{terms_of};
 ghost use Rattle.m_ast.specs.Members as spec;
@@ -7,7 +7,7 @@ use crate::members::{is_negation, is_same_amount, is_same_word};
 use crate::plain_term::{PNode, PTerm};
 use m_fixed::{Amount, Value};
 
-/// Whether a member with these ends is a single one, as `is_single` says it of terms of `m_ast`. Takes no memory.
+/// Whether a member is a single value, as by `is_single`. Takes no memory.
 pub fn is_plain_single(low: &PTerm, high: &PTerm) -> bool
     ensures { result ≡ spec.is_single low.now high.now }
 {
@@ -32,7 +32,7 @@ fn amount_of(term: &PTerm) -> Option<Amount>
     }
 }
 
-// The amount of a literal after a minus.
+// The amount of a negated literal, without the minus.
 fn opposite_of(term: &PTerm) -> Option<Amount>
     ensures { result ≡ spec.opposite_of term.now }
 {
@@ -63,7 +63,7 @@ fn only_amount(arguments: &[PTerm]) -> Option<Amount>
     }
 }
 
-// The word that a term is.
+// The word, if the term is one.
 fn word_of(term: &PTerm) -> Option<&[u8]>
     ensures { option_copied result ≡ spec.word_of term.now }
 {

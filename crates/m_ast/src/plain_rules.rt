@@ -3,10 +3,10 @@ use crate::Slot;
 use crate::plain_term::PTerm;
 use m_places::{Name, Place, Seq, SharedName};
 
-/// An instance of a formula: what it sets, and to which term.
+/// An instance of a formula: its target and the term that it is set to.
 #[derive(Drop)]
 pub struct Definition {
-    /// The name of the variable, one for all its definitions.
+    /// The name of the variable, shared by all its definitions.
     pub target: SharedName,
     pub slot: Slot,
     pub term: PTerm,
@@ -17,7 +17,7 @@ pub struct Definition {
 /// A check of a verification, without loops.
 #[derive(Drop)]
 pub struct Condition {
-    /// The number of the verification as it is spelled, one for all its checks.
+    /// The verification's number, as spelled, shared by all its checks.
     pub verif: SharedName,
     /// The first word after `erreur`.
     pub error: Name,
@@ -26,7 +26,7 @@ pub struct Condition {
     pub place: Place,
 }
 
-/// The definitions and conditions of an application, each in the order of the source.
+/// The definitions and checks of an application, each in the order of the source.
 #[derive(Drop)]
 pub struct Plain {
     pub definitions: Seq<Definition>,

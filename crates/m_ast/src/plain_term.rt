@@ -6,15 +6,15 @@ use m_fixed::{Op, Value};
 use m_places::{Place, SharedName};
 use std::marker::Model;
 
-/// A term without loops, whose words may be shared: `somme(i = 1..10000 : A)` has one copy of the name `A`. Contracts see it
-/// as a `Syntax`, as they see a term of `m_ast`.
+/// A term without loops. Its words may be shared: `somme(i = 1..10000 : A)` has one copy of the
+/// name `A`. Contracts see it as a `Syntax`, like a `Term`.
 #[cycle(plain_term)]
 #[derive(Drop)]
 pub struct PTerm {
     pub node: PNode,
 }
 
-/// What a term without loops is: the nodes of `m_ast`, but a loop.
+/// The nodes of a term without loops: those of `Node`, except `Loop`.
 #[cycle(plain_term)]
 #[derive(Drop)]
 pub enum PNode {
@@ -27,7 +27,7 @@ pub enum PNode {
     Among(bool, Box<PTerm>, Vec<PMember>),
 }
 
-/// A further operand of a chain, and the operator before it.
+/// An operand of a chain after the first, with the operator before it.
 #[cycle(plain_term)]
 #[derive(Drop)]
 pub struct PLink {
@@ -35,7 +35,7 @@ pub struct PLink {
     pub term: PTerm,
 }
 
-/// What a term is compared with: from a low end to a high one.
+/// A member of a membership: a range from a low end to a high end.
 #[cycle(plain_term)]
 #[derive(Drop)]
 pub struct PMember {

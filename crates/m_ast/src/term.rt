@@ -7,40 +7,41 @@ use m_fixed::{Op, Value};
 use m_places::{Name, Place};
 use std::marker::Model;
 
-/// A term: what a formula sets its target to, a condition, or a part of these. Contracts see it as
-/// a `Syntax`.
+/// A term: the right side of a formula, a condition, or a part of these. It is a struct around an
+/// enum so that contracts see it as plain data, a `Syntax`.
 #[cycle(term)]
 #[derive(Drop)]
 pub struct Term {
     pub node: Node,
 }
 
-/// What a term is.
+/// The kinds of terms. Each form is one case for all proofs: all operators with a fixed number of
+/// arguments are `Apply`, all that join any number of operands are `Chain`.
 #[cycle(term)]
 #[derive(Drop)]
 pub enum Node {
-    /// A value. A conditional without `sinon` has the undefined one there.
+    /// A value. Without `sinon`, the second branch of a conditional is the undefined one.
     Lit(Value),
     /// A word, and its place.
     Named(Name, Place),
-    /// `X`, the number of the cell that a formula of a whole table sets, and its place.
+    /// `X`, the number of the cell that a formula for a whole table sets, and its place.
     X(Place),
-    /// `T[e]`: a table's name, the index, and the place of the name.
+    /// `T[e]`: the table's name, the index, and the place of the name.
     Cell(Name, Box<Term>, Place),
-    /// An operator on its arguments in order: `non`, `-`, a comparison, a function, and a
+    /// An operator and its arguments, in order: `non`, `-`, a comparison, a function, or a
     /// conditional, whose arguments are the condition and its two branches.
     Apply(Op, Vec<Term>),
-    /// Operands joined from the left by operators of one level: `a - b + c` is a, then `- b`, then
-    /// `+ c`. So are products, `et` and `ou`. There is at least one link.
+    /// Left-associative operands of operators of one precedence: `a - b + c` is a, then `- b`, then
+    /// `+ c`. Likewise products, `et` and `ou`. There is at least one link.
     Chain(Box<Term>, Vec<Link>),
-    /// Whether the term is one of the members, or with true whether it is none of them
+    /// Whether the term is among the members, or, if the flag is true, among none of them
     /// (`non dans`). There is at least one member.
     Among(bool, Box<Term>, Vec<Member>),
     /// `somme(header: e)`.
     Loop(Header, Box<Term>),
 }
 
-/// A further operand of a chain, and the operator before it.
+/// An operand of a chain after the first, with the operator before it.
 #[cycle(term)]
 #[derive(Drop)]
 pub struct Link {
@@ -48,8 +49,8 @@ pub struct Link {
     pub term: Term,
 }
 
-/// What a term is compared with: from a low end to a high one. A single value has it at both ends,
-/// and two equal ends are a single value.
+/// A member of a membership: a range from a low end to a high end. The ends of a single value are
+/// equal, and two equal ends are a single value.
 #[cycle(term)]
 #[derive(Drop)]
 pub struct Member {

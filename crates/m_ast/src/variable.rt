@@ -6,14 +6,14 @@ use m_fixed::Amount;
 use m_places::{Name, Place, Seq};
 use std::alloc::{AllocError, Global};
 
-/// What sets a variable.
+/// The source of a variable's value.
 #[derive(Drop)]
 pub enum Role {
-    /// The household sets it, by this code of the form.
+    /// The household, by this code of the form.
     Input(Name),
-    /// Rules set it. A table has this many cells.
+    /// Rules. A table has this many cells.
     Computed(Option<u32>),
-    /// Its declaration sets it.
+    /// The declaration.
     Constant(Amount),
 }
 

@@ -1,5 +1,6 @@
--- Each part of a term has fewer nodes. The `sizes_fall` lemmas answer the measure of a helper over
--- a list of a term's parts, in this crate and above it.
+-- Each part of a term has fewer nodes than the term. The lemmas `sizes_fall_..` discharge the
+-- measure of a helper over a list of a term's parts, as in `proofs/copy_term/+copied`, in this
+-- crate and those that use it.
 use Rattle.std.specs.Prelude.{◌+◌, ◌*◌, ◌≤◌, max, List, [], ◌∷◌}
 use Rattle.std.proofs.Common.{arith}
 use Rattle.m_ast.specs.declared.term.Node.{Node}

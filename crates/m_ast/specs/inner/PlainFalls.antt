@@ -1,5 +1,5 @@
--- Each part of a term has fewer nodes. The `sizes_fall` lemmas answer the measure of a helper over
--- a list of a term's parts, in the crates above.
+-- Each part of a term has fewer nodes than the term. The lemmas `sizes_fall_..` discharge the
+-- measure of a helper over a list of a term's parts, in the crates that use this one.
 use Rattle.std.specs.Prelude.{◌+◌, ◌*◌, ◌≤◌, max, List, [], ◌∷◌}
 use Rattle.std.proofs.Common.{arith}
 use Rattle.m_ast.specs.declared.plain_term.PNode.{PNode}
