@@ -2,9 +2,9 @@
 //!
 //! The contents of an opener's files may be known, and then those of `HostFiles` are; the streams'
 //! contents never are. Each adapter counts a fault exactly if a call of its opener, reader or
-//! writer failed. No contract states what a real file, pipe or terminal contains or does: the calls
-//! of `edge` that reach the system are trusted. Every error of the system is a fault, even one
-//! after which std's own loops would retry.
+//! writer failed, or a file's name isn't UTF-8. No contract states what a real file, pipe or
+//! terminal contains or does: the calls of `edge` that reach the system are trusted. Every error of
+//! the system is a fault, even one after which std's own loops would retry.
 ghost use Rattle.std.specs.Prelude.{◌≡◌, ◌<◌, ◌≤◌, ◌+◌, [], ◌++◌, true, false, length, IfOk, IfSome, OnOk, OnErr, IsErrOf};
 ghost use Rattle.std.specs.Str.{is_utf8};
 ghost use Rattle.std.specs.Io.KnownBytes.{ReadConsumes, WriteAppends};
@@ -71,7 +71,8 @@ fn next_piece(room: u64) -> usize
 }
 
 /// Reads the open file to its end, or one byte past the limit. If its contents are known, `Ok` is
-/// all of them. It fails only if a call of the opener failed, and makes no call after that.
+/// all of them. The error is `Failed` exactly if a call of the opener failed, and no call is made
+/// after that.
 pub fn read_whole<O: Opener>(
     opener: &mut O,
     alloc: Global,
@@ -109,8 +110,8 @@ pub fn read_whole<O: Opener>(
     }
 }
 
-/// Opens the file of this name, reads it and closes it. It fails only if a call of the opener
-/// failed, or the name isn't UTF-8.
+/// Opens the file of this name, reads it and closes it. The error is `Failed` exactly if a call of
+/// the opener failed or the name isn't UTF-8.
 fn read_file<O: Opener>(
     opener: &mut O,
     alloc: Global,
