@@ -6,8 +6,8 @@ use Rattle.m_ast.specs.declared.header.Index.{Index}
 use Rattle.loop_values.specs.Letters.{Letters, bind}
 use Rattle.loop_values.specs.Values.{index_values, is_bad_span}
 
--- The bindings in each instance of indexes, in order: the first index varies slowest. `i = A,B ; j
--- = 1,2` has the instances A1, A2, B1, B2.
+-- The bindings in each instance of indexes, in order: the first index varies slowest.
+-- `i = A,B ; j = 1,2` has the instances A1, A2, B1, B2.
 abbrev pub instances : List Index → Letters → List Letters
 instances [] letters = letters ∷ []
 instances (index ∷ rest) letters = flat_map (λ value. instances rest (bind letters index.letter value)) (index_values index)

@@ -1,5 +1,5 @@
--- The grammar of rule files. The last two arguments of each relation are tokens: `SpellsItem i ts
--- rest` means that a prefix of ts parses as the item i, and rest follows it.
+-- The grammar of rule files. The last two arguments of each relation are tokens:
+-- `SpellsItem i ts rest` means that a prefix of ts parses as the item i, and rest follows it.
 use Rattle.std.specs.Prelude.{List}
 use Rattle.m_lexer.specs.declared.token.Token.{Token}
 use Rattle.m_ast.specs.declared.item.Item.{Item}

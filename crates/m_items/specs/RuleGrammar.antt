@@ -34,8 +34,8 @@ use Rattle.m_items.specs.declared.head.Head.{Head}
 abbrev pub head_of : Place → List ℕ → List (List ℕ) → Head
 head_of p n names = record { number = n; place = p; applications = names }
 
--- ( "regle" | "verif" ) { WORD } WHOLE ":" apps ";" where the words have no meaning: `regle
--- corrective 010 : application : iliad ;`
+-- ( "regle" | "verif" ) { WORD } WHOLE ":" apps ";" where the words have no meaning:
+-- `regle corrective 010 : application : iliad ;`
 pub data SpellsHead (k : AKey) : Head → List Token → List Token → Type 0 where
   head : {p : Place} {words : List (List ℕ)} {n : List ℕ} {names : List (List ℕ)} {ts a b c d e rest : List Token}
       → SpellsKeyAt k p ts a → Many (First word) words a b → First whole n b c → SpellsSign signs.Colon c d →

@@ -20,9 +20,9 @@ use std::alloc::Global;
 ///
 /// `TooDeep` is returned exactly if brackets and conditionals are nested more than 256 deep, with
 /// the first such place. Otherwise `Syntax` is returned exactly if the tokens don't parse as a list
-/// of items. Its place is that of the first token after the longest prefix that does: in `regle 1 :
-/// application : iliad ; A = 1 ; B + 2 ;` it is that of `B`, and if the tokens end after `regle
-/// 11`, it is that of `regle`.
+/// of items. Its place is that of the first token after the longest prefix that does: in
+/// `regle 1 : application : iliad ; A = 1 ; B + 2 ;` it is that of `B`, and if the tokens end after
+/// `regle 11`, it is that of `regle`.
 pub fn parse(alloc: Global, tokens: &[Token]) -> Result<Seq<Item>, ParseFault>
     ensures outcome { Outcome Memory result (λ items. SpellsItems items tokens.now []) (λ fault. IsParseFault tokens.now fault) }
     ensures shallow { OnOk result (IsShallow tokens.now) }
