@@ -1,5 +1,4 @@
--- Termination of the direct evaluator: the measure decreases by more than the nodes of any term
--- with each turn.
+-- Termination of the direct evaluator: a turn adds more to the measure than the nodes of any term.
 use Rattle.std.proofs.Common.{◌≡◌, ℕ, zero, suc, ◌+◌, ◌*◌, ◌-◌, ◌<◌, ◌≤◌, max, true, false, cond, nat_eq, List, [], ◌∷◌, length, get_or, Some, ap, sym, ◌∙◌}
 use Rattle.std.proofs.Common.{arith}
 use Rattle.micro_m.specs.Trees.{Tree, nodes, nodes_all, nodes_along}
