@@ -107,7 +107,7 @@ pub(crate) fn boxed_value(alloc: Global, value: &Value) -> Result<Box<PTerm>, Al
     boxed(alloc, PNode::Lit(*value))
 }
 
-/// The expansion of `X`: a literal if cell is given, `X` otherwise.
+/// The expansion of `X`: a literal if `cell` is given, `X` otherwise.
 #[inline(never)]
 pub(crate) fn boxed_x(
     alloc: Global,

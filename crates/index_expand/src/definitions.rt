@@ -20,7 +20,7 @@ use m_places::Name;
 use m_symbols::Symbols;
 use std::alloc::AllocError;
 
-/// Appends the definitions of one instance of a formula. total is the number of parts so far;
+/// Appends the definitions of one instance of a formula. `total` is the number of parts so far;
 /// returns the number with these.
 #[inline(never)]
 pub(crate) fn take_instance(

@@ -23,9 +23,9 @@ use m_places::{Name, Place};
 use m_symbols::Symbols;
 use std::mem::replace;
 
-/// Appends the definitions of a formula. total is the number of parts so far; returns the number
-/// with these. rule is the place of the formula's rule. All parts are counted before anything is
-/// made.
+/// Appends the definitions of a formula. `total` is the number of parts so far; returns the number
+/// with these. `rule` is the place of the formula's rule. The parts of a definition are counted
+/// before it is made.
 pub(crate) fn take_formula(
     words: &mut Words<'_>,
     letters: &mut [Option<Name>],

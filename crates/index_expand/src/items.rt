@@ -28,7 +28,6 @@ use std::alloc::{AllocError, Global};
 
 /// The rules and verifications of an application without loops, or the error of the items.
 ///
-///
 /// Chained rules and items of other applications are ignored. The items must be whole, which the
 /// parser of rule files ensures, and each table must have a cell, which `declare` ensures.
 pub fn expand(

@@ -20,7 +20,7 @@ use m_places::{Name, Place};
 use std::alloc::AllocError;
 use std::mem::replace;
 
-/// A term after the substitution of its letters, with its loops expanded and `X` replaced by cell,
+/// A term after the substitution of its letters, with its loops expanded and `X` replaced by `cell`,
 /// if it is given. The only error is out of memory.
 pub(crate) fn expanded(
     words: &mut Words<'_>,

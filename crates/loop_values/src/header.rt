@@ -10,7 +10,7 @@ use crate::values::{MANY, index_count};
 use m_ast::{Header, Index};
 use std::alloc::{AllocError, Global};
 
-/// before times the number of instances of the indexes, or `MANY` if it is more.
+/// `before` times the number of instances of the indexes, or `MANY` if it is more.
 pub fn instance_count(before: u64, indexes: &[Index]) -> u64
     requires { before ≤ MANY }
     ensures count { result ≡ min (before * spec.instance_count indexes.now) MANY }
@@ -92,8 +92,8 @@ pub fn joined_indexes(
     Ok(kept)
 }
 
-// Inserts the indexes that are kept of these before kept, which holds those of all inner ones.
-// bound marks the letters that kept binds.
+// Inserts the indexes that are kept of these before `kept`, which holds those of all inner ones.
+// `bound` marks the letters that `kept` binds.
 fn keep_all(
     alloc: Global,
     kept: &mut Vec<Index>,

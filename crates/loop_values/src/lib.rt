@@ -1,7 +1,6 @@
 //! Loops as lists of instances: the values of a header's indexes, the bindings of letters in each
 //! instance, and the substitution of letters in words.
 //!
-//!
 //! Uses the trees of headers. Knows nothing of the bodies of loops.
 #![tactic(auto)]
 

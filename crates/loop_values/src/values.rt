@@ -191,7 +191,7 @@ pub fn number(word: &[u8]) -> u64
     number
 }
 
-// A number, padded with zeros to at least width digits.
+// A number, padded with zeros to at least `width` digits.
 fn number_word(alloc: Global, width: usize, n: u64) -> Result<Name, AllocError>
     ensures { IfOk result (λ word. word ≡ spec.number_word width n) }
 {

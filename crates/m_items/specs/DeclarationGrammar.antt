@@ -1,6 +1,5 @@
 -- The grammar of items without terms: variables, errors, and items without effect.
 --
---
 -- The last two arguments of each relation are tokens: `SpellsVariable v ts rest` means that a
 -- prefix of ts parses as the variable v, and rest follows it. Each premise of a constructor is one
 -- symbol of its production, with the tokens before and after it.

@@ -1,6 +1,5 @@
 -- The grammar of rules and verifications.
 --
---
 -- The last two arguments of each relation are tokens: `SpellsFormula f ts rest` means that a prefix
 -- of ts parses as the formula f, and rest follows it. Each premise of a constructor is one symbol
 -- of its production, with the tokens before and after it.

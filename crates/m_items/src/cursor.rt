@@ -17,7 +17,6 @@ use std::marker::Model;
 
 /// The remaining tokens. Contracts see it as their list.
 ///
-///
 /// Each `take_` takes the next token if it is of its kind, and otherwise leaves the cursor
 /// unchanged.
 #[derive(Drop)]

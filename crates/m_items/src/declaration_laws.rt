@@ -5,12 +5,12 @@ ghost use Rattle.m_ast.specs.declared.item.Item.{Item};
 ghost use Rattle.m_items.specs.DeclarationGrammar.{SpellsDeclaration, SpellsApplications};
 ghost use Rattle.m_items.specs.Standing.{BeginsDeclaration, EndsApplications};
 
-/// At most one declaration is a prefix of the tokens.
+/// The grammar is unambiguous: the prefixes of the tokens parse as at most one declaration.
 pub fn one_declaration()
     ensures { (i j : Item) (ts r s : List Token) → SpellsDeclaration i ts r → SpellsDeclaration j ts s → (i ≡ j) × (r ≡ s) }
 {}
 
-/// At most one list of applications, with no comma after it, is a prefix of the tokens.
+/// The prefixes of the tokens parse as at most one list of applications with no comma after it.
 pub fn one_list_of_applications()
     ensures { (a b : List (List ℕ)) (ts r s : List Token) → SpellsApplications a ts r → EndsApplications r
         → SpellsApplications b ts s → EndsApplications s → (a ≡ b) × (r ≡ s) }

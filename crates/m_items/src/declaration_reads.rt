@@ -16,7 +16,6 @@ use std::alloc::Global;
 /// The declaration at the start of the tokens, and the position after it: a variable, an error, or
 /// an `application` or `enchaineur` item.
 ///
-///
 /// In `SEUIL : const = 1000 ; IRN` it is the first six tokens, and the position is 6. `NoItem` is
 /// returned exactly if no prefix of the tokens parses as a declaration.
 pub fn read_declaration(alloc: Global, tokens: &[Token]) -> Result<(Item, usize), ItemFault>
@@ -29,7 +28,6 @@ pub fn read_declaration(alloc: Global, tokens: &[Token]) -> Result<(Item, usize)
 
 /// The applications at the start of the tokens, and the position after them, at which no comma
 /// follows.
-///
 ///
 /// In `application : iliad , batch ;` they are the first five tokens, and the position is 5.
 /// `NoItem` is returned exactly if no prefix of the tokens parses as applications without a comma

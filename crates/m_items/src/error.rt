@@ -18,7 +18,6 @@ fn is_four_or_five(count: usize) -> bool
 
 /// ":" TEXT ":" TEXT ":" TEXT ":" TEXT [ ":" TEXT ] ";"
 ///
-///
 /// The texts are counted after the whole list is read.
 #[tactic(auto, unfolding(crate::specs::inner::DeclarationReading::error_at))]
 pub fn read_error(

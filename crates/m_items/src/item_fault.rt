@@ -6,7 +6,7 @@ use std::alloc::{AllocError, AllocFailed};
 /// Why no item, or no part of one, was read.
 #[derive(Clone, Copy, Debug, PartialEq, Eq)]
 pub enum ItemFault {
-    /// The tokens here parse as none.
+    /// The tokens don't parse as one.
     NoItem,
     /// Out of memory.
     Memory,

@@ -1,6 +1,5 @@
 //! The parser of rule files: from tokens to the list of items, or the first error and its place.
 //!
-//!
 //! Uses tokens, trees and the readers of terms. Knows nothing of bytes, of files, or of what an
 //! item means. Declarations and rules are separate modules, and neither uses the other.
 #![tactic(auto)]

@@ -17,7 +17,6 @@ use std::alloc::Global;
 
 /// The items of a file, in order: all tokens must parse as items.
 ///
-///
 /// `TooDeep` is returned exactly if brackets and conditionals are nested more than 256 deep, with
 /// the first such place. Otherwise `Syntax` is returned exactly if the tokens don't parse as a list
 /// of items. Its place is that of the first token after the longest prefix that does: in

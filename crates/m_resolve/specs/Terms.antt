@@ -17,7 +17,7 @@ use Rattle.m_ast.specs.Members.{is_single}
 use Rattle.m_resolve.specs.declared.fault.ResolveFault.{ResolveFault}
 use Rattle.m_resolve.specs.declared.fault.ResolveFault.TheVariants.{UnknownName, NotATable, IsATable}
 
--- applies next to a resolved part; an error stays the same
+-- applies `next` to a resolved part; an error stays the same
 abbrev pub if_resolved : {A B : Type 0} → (A → Result B ResolveFault) → Result A ResolveFault → Result B ResolveFault
 if_resolved next (Ok thing) = next thing
 if_resolved next (Err fault) = Err fault

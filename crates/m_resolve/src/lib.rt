@@ -1,7 +1,6 @@
 //! Name resolution: from the rules of an application without loops to its base over numbered cells,
 //! or the first name that can't be resolved.
 //!
-//!
 //! Uses expanded rules, the symbol table and bases. Knows nothing of files or of values.
 #![tactic(auto)]
 

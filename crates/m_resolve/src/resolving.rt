@@ -23,7 +23,6 @@ use std::alloc::{AllocError, Global};
 /// resolved first, in order, and then all conditions; in a definition the target before the term,
 /// and in a condition the term before the error.
 ///
-///
 /// `IRN = REV - 1000` with the input `REV` and the variable `IRN` becomes the definition of cell 1
 /// as cell 0 minus 1000.
 pub fn resolve(alloc: Global, plain: &Plain, symbols: &Symbols) -> Result<Base, ResolveFault>

@@ -34,7 +34,7 @@ pub(crate) fn target(
     target_in(alloc, definition, variable, symbols.cells())
 }
 
-// The cell of a target in this variable. all is the count of cells.
+// The cell of a target in this variable. `all` is the count of cells.
 fn target_in(
     alloc: Global,
     definition: &Definition,

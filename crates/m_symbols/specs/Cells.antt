@@ -75,8 +75,8 @@ cell_by (Some index) (Some size) first = option_and_then (cell_within first size
 abbrev pub named_cell : Declared → List ℕ × Option (List ℕ) → Option ℕ
 named_cell declared parts = option_and_then (λ v. cell_by parts.1 (variable_size v.item) v.first_cell) (variable_named declared parts.0)
 
--- The cell that a request names: `A` is the only cell of a variable that isn't a table, `T[2]` the
--- third of a table.
+-- The cell that a request names: `A` names the only cell of a variable that is not a table, `T[2]`
+-- the third of a table.
 abbrev pub request_cell : Declared → List ℕ → Option ℕ
 request_cell declared text = named_cell declared (split_at_bracket text)
 

@@ -44,7 +44,7 @@ fn cell_without_index(variable: &Variable) -> Option<u32>
     }
 }
 
-// The cell of a table at an index, given the text after `[`. all is the count of cells.
+// The cell of a table at an index, given the text after `[`. `all` is the count of cells.
 fn cell_at_index(variable: &Variable, index: &[u8], all: u32) -> Option<u32>
     requires fits { variable.now.first_cell + variable.now.cells ≤ all }
     requires size { IfSome (variable_size variable.now.item) (λ size. variable.now.cells ≡ size) }
@@ -125,7 +125,7 @@ pub fn returned(alloc: Global, symbols: &Symbols) -> Result<Seq<u32>, AllocError
     Ok(Seq::from_vec(cells))
 }
 
-// Adds the cells of a variable, if it is returned. all is the count of cells.
+// Adds the cells of a variable, if it is returned. `all` is the count of cells.
 fn add_returned(variable: &Variable, all: u32, cells: &mut Vec<u32>) -> Result<(), AllocError>
     requires { variable.now.first_cell + variable.now.cells ≤ all }
     ensures { OnOk result (cells.new.items ≡ cells.old.items ++ returned_by variable.now) }

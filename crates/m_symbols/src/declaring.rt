@@ -20,7 +20,6 @@ use std::alloc::{AllocError, Global};
 /// declaration. Within one declaration the checks are, in order: its name, its code, its size, the
 /// count of cells.
 ///
-///
 /// Variables, cells and inputs are numbered in order of declaration, from 0, in 32 bits. Items are
 /// fewer than 2^32 in every admissible list of rules, since no file has more items than bytes.
 pub fn declare(alloc: Global, items: &[Item]) -> Result<Symbols, DeclareFault>
@@ -95,7 +94,7 @@ fn declare_item(alloc: Global, item: &Item, tables: &mut Tables) -> Result<(), D
     }
 }
 
-// The error of a variable, given the earlier declarations.
+// The fault of a variable, given the earlier declarations.
 fn find_variable_fault(
     alloc: Global,
     variable: &VariableItem,
@@ -146,7 +145,7 @@ fn place_of_code(tables: &Tables, code: &[u8]) -> Option<Place>
     Some(tables.variables[variable as usize].item.place)
 }
 
-// The place of the error with this name.
+// The place of the error item with this name.
 fn place_of_error(tables: &Tables, name: &[u8]) -> Option<Place>
     requires { AreIndexed tables.now }
     ensures { result ≡ paired_place name.now (map placed_error tables.now.errors.items) }
@@ -165,7 +164,7 @@ fn cells_of(role: &Role) -> u32
     }
 }
 
-// Adds a variable that has no error.
+// Adds a valid variable.
 fn add_variable(
     alloc: Global,
     variable: &VariableItem,
@@ -213,7 +212,7 @@ fn add_code(
     Ok(())
 }
 
-// The error of an error item, given the earlier declarations.
+// The fault of an error item, given the earlier declarations.
 fn find_error_fault(alloc: Global, error: &ErrorItem, tables: &Tables) -> Result<(), DeclareFault>
     requires { AreIndexed tables.now }
     ensures outcome { Outcome DeclareFault.Memory result
@@ -227,7 +226,7 @@ fn find_error_fault(alloc: Global, error: &ErrorItem, tables: &Tables) -> Result
     Ok(())
 }
 
-// Adds an error item that has no error.
+// Adds a valid error item.
 fn add_error(alloc: Global, error: &ErrorItem, tables: &mut Tables) -> Result<(), AllocError>
     requires indexed { AreIndexed tables.old }
     requires room { HasRoom tables.old }

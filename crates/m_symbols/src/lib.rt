@@ -1,7 +1,6 @@
 //! The symbol table: declared variables, inputs and errors by name, code and number; cells and
 //! their names; and the cells that a file of requests names.
 //!
-//!
 //! Uses the trees of items and interned names. Knows nothing of rules, of households, or of the
 //! values of cells.
 #![tactic(auto)]

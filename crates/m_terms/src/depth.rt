@@ -10,7 +10,6 @@ use m_places::limits::BRACKET_DEPTH;
 /// The place of the first token at which brackets and conditionals are nested more than 256 deep,
 /// or `None`. Takes no memory.
 ///
-///
 /// `(`, `[` and `si` add one to the depth; `)`, `]`, `finsi` and `erreur` subtract one; `regle` and
 /// `verif` reset it to 0.
 pub fn depth_fault(tokens: &[Token]) -> Option<Place>

@@ -1,7 +1,6 @@
 //! The parser of terms and loop headers: from a position in the tokens to the tree and the position
 //! after it.
 //!
-//!
 //! Uses tokens and trees. Knows nothing of items, or of values.
 #![tactic(auto)]
 

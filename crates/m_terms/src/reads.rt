@@ -25,7 +25,6 @@ use std::alloc::Global;
 /// The term that starts at this position, and the position after it, where one of `;`, `)`, `]`,
 /// `,`, `alors`, `sinon` and `finsi` follows.
 ///
-///
 /// `A + 1 ;` gives `A + 1` and 3. `NoTerm` is returned exactly if no term, with brackets and
 /// conditionals nested at most 256 deep, starts here. It has no place: the caller knows what it
 /// expected.
@@ -42,7 +41,6 @@ pub fn read_term(alloc: Global, tokens: &[Token], from: usize) -> Result<(Term, 
 }
 
 /// The header that starts at this position, and the position after it, where `:` follows.
-///
 ///
 /// `i = V,C :` gives `i = V,C` and 5. `NoTerm` is returned exactly if no header starts here.
 pub fn read_header(

@@ -65,7 +65,7 @@ abbrev mutual
 
 -- ---- the value of a cell
 
--- The value of a cell by recursion at most turns deep: undefined for 0 turns; the environment's
+-- The value of a cell by recursion at most `turns` deep: undefined for 0 turns; the environment's
 -- value for a cell without a definition; otherwise the value of its term, whose cells are evaluated
 -- with one turn less.
 abbrev pub value_in : Base → Environment → ℕ → Environment

@@ -7,7 +7,6 @@ use m_places::{Label, Place, Seq};
 /// The rules of an application over cells numbered from 0: the constants, each definition with the
 /// place of its formula, and each check with the place of its `si`, all in the order of the source.
 ///
-///
 /// `IREV = REV - 1000` with `REV` as cell 0 and `IREV` as cell 1 is a base of two cells with one
 /// definition, of cell 1.
 #[derive(Drop)]

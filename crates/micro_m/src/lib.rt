@@ -1,7 +1,6 @@
 //! The semantics of a base of rules: its terms after name resolution and expansion, and the values
 //! of its cells.
 //!
-//!
 //! Uses values and their operators. Knows nothing of source text, names of variables, files or
 //! printed lines. It defines no order of evaluation: the values are the unique solution of the
 //! definitions, read as equations.

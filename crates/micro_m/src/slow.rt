@@ -11,11 +11,10 @@ use crate::value::value_at;
 use crate::{Base, MNode, MTerm, Step};
 use m_fixed::{Op, Value, apply};
 
-/// The value of a cell by recursion at most turns deep: undefined for 0 turns; the environment's
+/// The value of a cell by recursion at most `turns` deep: undefined for 0 turns; the environment's
 /// value for a cell without a definition; otherwise the value of its term, whose cells are
 /// evaluated with one turn less. If the base has no cycle, one turn more than there are definitions
 /// gives the cell's value.
-///
 ///
 /// Each read evaluates the cell again, so the time may be exponential. Takes no memory.
 pub fn slow_value(base: &Base, env: &[Value], cell: u32, turns: u32) -> Value

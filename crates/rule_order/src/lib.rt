@@ -1,7 +1,6 @@
 //! A topological order of the definitions of a base: each after those that it reads; or a cycle,
 //! which proves that there is none.
 //!
-//!
 //! Uses the semantics of bases. Knows nothing of source text, names of variables or printed lines.
 #![tactic(auto)]
 

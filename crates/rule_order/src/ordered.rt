@@ -24,7 +24,6 @@ pub struct Ordered {
 /// Orders the definitions of a valid base: each comes after all definitions of cells that it reads.
 /// For `A = B` and then `B = 1` the sequence is 1, 0. The base is returned unchanged.
 ///
-///
 /// If there is no order, the error is a cycle: distinct cells, each reading the next and the last
 /// reading the first, beginning with the least number. The time is linear in the parts of the terms
 /// and the number of cells. The depth of recursion doesn't depend on the length of chains of

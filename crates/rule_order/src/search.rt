@@ -38,8 +38,8 @@ pub struct Frame {
     pub next: usize,
 }
 
-/// The state of the search. known has for each cell a number of cells, from it on, that are
-/// settled; so the second read of a table takes one step. sequence has the positions that are
+/// The state of the search. `known` has for each cell a number of cells, from it on, that are
+/// settled; so the second read of a table takes one step. `sequence` has the positions that are
 /// placed.
 #[derive(Drop)]
 pub struct Search {
@@ -254,7 +254,7 @@ fn unsettled_in(run: Run, marks: &[Mark], known: &mut [usize]) -> Option<usize>
 }
 
 /// A number of cells, from the first cell of a run on, that are settled; it ends at an unsettled
-/// cell or covers the run. The first known ones are known to be settled.
+/// cell or covers the run. The first `known` ones are known to be settled.
 fn passed_from(run: Run, known: usize, marks: &[Mark]) -> usize
     requires fits { run.first + run.count ≤ length marks.now }
     requires knows { RunIsSettled marks.now record run { count = known } }

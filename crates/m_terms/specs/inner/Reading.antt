@@ -125,7 +125,7 @@ header_at ts = do
   h ← header_from is.0
   Some (h, is.1)
 
--- Terms, where e reads the content of brackets.
+-- Terms, where `e` reads the content of brackets.
 
 -- an expression and a token after it
 unfoldable pub until_at : (List Token → Option (Syntax × List Token)) → Mark → List Token → Option (Syntax × List Token)

@@ -76,8 +76,8 @@ positions_of frames = map (λ f. f.position) frames
 abbrev pub cells_of : List Frame → List ℕ
 cells_of frames = map (λ f. f.cell) frames
 
--- The invariant, with the positions of the begun definitions in path and of the placed ones in
--- sequence: the marks agree with both, each definition on the path reads the next, and placed
+-- The invariant, with the positions of the begun definitions in `path` and of the placed ones in
+-- `sequence`: the marks agree with both, each definition on the path reads the next, and placed
 -- definitions read only settled cells.
 pub record IsSearch (base : Base) (marks : List Mark) (path sequence : List ℕ) : Type 0 where
   pub size : length marks ≡ base.cells
