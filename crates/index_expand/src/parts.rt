@@ -52,8 +52,8 @@ fn links_parts(first: u64, links: &[Link]) -> u64
     count
 }
 
-// The parts of members joined by `ou`, if the first operand has `first` parts or saturates. The count
-// includes one `ou` too many, so it saturates at `MOST + 1`.
+// The parts of members joined by `ou`, if the first operand has `first` parts or saturates. The
+// count includes one `ou` too many, so it saturates at `MOST + 1`.
 #[cycle(parts)]
 fn members_parts(first: u64, members: &[Member]) -> u64
     requires { first ≤ PARTS }

@@ -20,8 +20,8 @@ use m_places::{Name, Place};
 use std::alloc::AllocError;
 use std::mem::replace;
 
-/// A term after the substitution of its letters, with its loops expanded and `X` replaced by `cell`,
-/// if it is given. The only error is out of memory.
+/// A term after the substitution of its letters, with its loops expanded and `X` replaced by
+/// `cell`, if it is given. The only error is out of memory.
 pub(crate) fn expanded(
     words: &mut Words<'_>,
     letters: &mut [Option<Name>],

@@ -17,8 +17,8 @@ is_capital [] = false
 is_capital (byte ∷ []) = nat_le 65 byte && nat_le byte 90
 is_capital (byte ∷ next ∷ rest) = false
 
--- a number, padded with zeros to at least `width` digits: 8 with width 2 is `08`, 123 with width 2 is
--- `123`
+-- a number, padded with zeros to at least `width` digits: 8 with width 2 is `08`, 123 with width 2
+-- is `123`
 abbrev pub number_word : ℕ → ℕ → List ℕ
 number_word width n = replicate (width - length (decimal n)) 48 ++ decimal n
 

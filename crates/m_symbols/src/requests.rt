@@ -21,7 +21,7 @@ use std::alloc::Global;
 /// The requested cells: those that the lines of a file name, or without a file all returned cells.
 /// Each line that isn't empty names one cell, and a cell may be requested twice.
 ///
-/// The first bad line is reported; if no line is bad, more than 100,000 requests are.
+/// The first bad line is reported; if there is none, that there are more than 100,000 requests.
 pub fn read_requests(
     alloc: Global,
     requests: &Option<Seq<u8>>,

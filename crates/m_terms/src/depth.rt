@@ -10,8 +10,8 @@ use m_places::limits::BRACKET_DEPTH;
 /// The place of the first token at which brackets and conditionals are nested more than 256 deep,
 /// or `None`. Takes no memory.
 ///
-/// `(`, `[` and `si` add one to the depth; `)`, `]`, `finsi` and `erreur` subtract one; `regle` and
-/// `verif` reset it to 0.
+/// `(`, `[` and `si` add one to the depth; `)`, `]`, `finsi` and `erreur` subtract one unless it is
+/// 0; `regle` and `verif` reset it to 0.
 pub fn depth_fault(tokens: &[Token]) -> Option<Place>
     ensures { result ≡ first_too_deep BRACKET_DEPTH 0 tokens.now }
 {

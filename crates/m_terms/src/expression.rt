@@ -17,7 +17,8 @@ use m_lexer::{Key, Kind, Sign};
 use m_places::{Name, Place};
 use std::alloc::{AllocError, Global};
 
-// The content of brackets or conditionals, in which depth - 1 more levels may be opened.
+// The content of brackets or conditionals. `depth` counts this level: inside, `depth - 1` more may
+// be opened.
 #[cycle(read)]
 fn read_inner(alloc: Global, cursor: &mut Cursor<'_>, depth: u32) -> Result<Box<Term>, TermFault>
     ensures reads { GivesBy (λ t. t.value) result (inner_at depth cursor.old) cursor.new }
