@@ -59,13 +59,14 @@ pub fn read_header(
     Ok((header, tokens.len() - cursor.len()))
 }
 
-/// The grammar is unambiguous: the tokens before one that may follow a term parse as at most one
-/// term.
+/// The grammar is unambiguous: at most one prefix of the tokens that is followed by a token that
+/// may follow a term parses as a term, and only as one.
 pub fn one_term()
     ensures { (t u : Syntax) (ts r s : List Token) → SpellsTerm t ts r → BeginsBy follows r → SpellsTerm u ts s → BeginsBy follows s → (t ≡ u) × (r ≡ s) }
 {}
 
-/// The grammar is unambiguous: the tokens before a `:` parse as at most one header.
+/// The grammar is unambiguous: at most one prefix of the tokens that is followed by a `:` parses as
+/// a header, and only as one.
 pub fn one_header()
     ensures { (h k : Header) (ts r s : List Token) → SpellsHeader h ts r → BeginsBy (is_sign Colon) r
         → SpellsHeader k ts s → BeginsBy (is_sign Colon) s → (h ≡ k) × (r ≡ s) }
