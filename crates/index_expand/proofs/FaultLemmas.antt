@@ -1,4 +1,4 @@
--- Faults that are looked at one after the other.
+-- Lists of faults, one fault at a time.
 use Rattle.std.proofs.Common.{◌≡◌, ℕ, suc, ◌+◌, ◌<◌, List, [], ◌∷◌, ◌++◌, length, drop, get_or, Bool, true, false, refl, sym, ap, ◌∙◌, arith}
 use Rattle.std.proofs.Math.Seq.{drop-cons}
 use Rattle.std.specs.Prelude.{Option, filter}
@@ -17,7 +17,7 @@ pub least_append : (first : Option ExpandFault) (xs ys : List ExpandFault) → l
 least_append first [] ys = refl
 least_append first (x ∷ xs) ys = least_append (earlier first x) xs ys
 
--- what is left after some faults were looked at
+-- the least fault after a prefix of the faults
 pub least_next : (first next : Option ExpandFault) (here rest whole : List ExpandFault) (all : Option ExpandFault) → least first whole ≡ all
     → whole ≡ here ++ rest → next ≡ least first here → least next rest ≡ all
 least_next first next here rest whole all inv w e = ap (λ f. least f rest) e ∙ sym (least_append first here rest) ∙ ap (least first) (sym w) ∙ inv

@@ -1,4 +1,4 @@
--- What has no more parts than a base may have has no more conditions.
+-- There are at most as many conditions as parts.
 use Rattle.std.proofs.Common.{◌≡◌, ℕ, ◌+◌, ◌≤◌, Bool, true, false, cond, nat_lt, List, [], ◌∷◌, length, length-append, map, Some, None, Result, Ok, Err, refl}
 use Rattle.std.proofs.Common.{ap, ◌∙◌, arith}
 use Rattle.std.specs.Prelude.{IfOk}
@@ -50,7 +50,7 @@ few_from declared before [] h e = omega arith
 few_from declared before (item ∷ items) h e =
     few_by declared before item items (nat_lt PARTS (before + item_parts declared item)) refl e (few_from declared (before + item_parts declared item) items)
 
--- so an answer has no more conditions than parts
+-- so a result has at most as many conditions as a base has parts
 pub few_answered : (declared : Declared) (items : List Item) (result : Result Plain ExpandFault) (expanded : Plain)
     → expanded.conditions ≡ flat_map item_conditions items
     → Outcome Memory result (λ plain. (too_many declared 0 items ≡ None) × (plain ≡ expanded)) (λ fault. too_many declared 0 items ≡ Some fault)

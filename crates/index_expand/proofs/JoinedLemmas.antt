@@ -1,4 +1,4 @@
--- Terms of one meaning, and sums of one instance that are joined.
+-- Terms of the same meaning, and the joining of sums of one instance.
 use Rattle.std.proofs.Common.{◌≡◌, ℕ, ◌+◌, ◌<◌, List, [], ◌∷◌, ◌++◌, map, length, take, get_or, refl, sym, ap, ◌∙◌, arith}
 use Rattle.std.proofs.lemmas.List.{map-append, append-nil, take_more}
 use Rattle.std.proofs.lemmas.Grind.{flat_map-append}
@@ -22,7 +22,7 @@ use Rattle.index_expand.specs.inner.Operands.{link_expanded, member_expanded}
 use Rattle.index_expand.specs.inner.Meanings.{meaning, link_meaning, member_meaning}
 use Rattle.index_expand.proofs.TermLemmas.{terms_map, links_map, members_map}
 
--- ---- parts of one meaning make terms of one meaning
+-- ---- terms whose parts have the same meaning have the same meaning
 
 read : {A B : Type 0} (f : Option ℕ → Letters → A → B) (k : Option ℕ) (letters : Letters) (xs : List A)
     → map (f k letters) xs ≡ map (λ (m : Option ℕ → Letters → B). m k letters) (map (λ a. λ n ls. f n ls a) xs)
@@ -73,7 +73,7 @@ link_same x y op e = λ i k letters. record { op = op i; term = e i k letters }
 pub member_same : (x y : Member) → meaning x.low ≡ meaning y.low → meaning x.high ≡ meaning y.high → member_meaning x ≡ member_meaning y
 member_same x y low high = λ i k letters. record { low = low i k letters; high = high i k letters }
 
--- one part more
+-- one more part
 pub same_more : {A B : Type 0} (f : A → B) (done next : List A) (xs : List A) (i : ℕ) (x y : A) → i < length xs → x ≡ get_or xs i x
     → map f done ≡ map f (take i xs) → f y ≡ f x → next ≡ done ++ y ∷ [] → map f next ≡ map f (take (i + 1) xs)
 same_more f done next xs i x y l at inv e pushed =

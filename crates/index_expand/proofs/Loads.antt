@@ -1,4 +1,4 @@
--- How much is left to do of a term: a measure for recursion that counts the indexes of loops too.
+-- A measure for recursion over terms that counts the indexes of loops too.
 use Rattle.std.proofs.Common.{ℕ, ◌+◌, ◌*◌, length}
 use Rattle.m_ast.specs.Syntax.{Syntax, lit, named, the_x, cell, apply, chain, among, loop, Terms, no_terms, a_term, Links, no_links, a_link, Members}
 use Rattle.m_ast.specs.Syntax.{no_members, a_member}

@@ -1,4 +1,4 @@
--- A formula with more instances than there may be parts has too many.
+-- A formula with more instances than the maximal number of parts has too many parts.
 use Rattle.std.proofs.Common.{◌≡◌, ◌≢◌, ℕ, zero, suc, ◌+◌, ◌*◌, ◌<◌, ◌≤◌, Bool, true, false, cond, List, [], ◌∷◌, length, length-append, Option, Some, None}
 use Rattle.std.proofs.Common.{refl, min, arith}
 use Rattle.std.specs.Prelude.{All}
@@ -76,6 +76,6 @@ refused declared formula item n tables e h =
     let least = least_each (definitions_at declared formula formula.slot) bounds (λ letters. a_definition declared formula formula.slot letters tables) in
     too_many declared formula item (omega (arith, counted formula n e h, least))
 
--- too many are too many after others
+-- too many parts are too many after any others
 pub later : (parts before : ℕ) (item : Place) (fault : ExpandFault) → IsTooMuch parts 0 item fault → IsTooMuch parts before item fault
 later parts before item fault h = record { reported = h.reported; many = let m = h.many in omega arith }

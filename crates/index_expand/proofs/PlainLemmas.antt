@@ -1,4 +1,5 @@
--- The expansion of whole items is plain: its terms are whole and have no loop, and `T[X]` stands for no declared table.
+-- The expansion of whole items is plain: its terms are whole and have no loop, and no `T[X]` is of
+-- a declared table.
 use Rattle.std.proofs.Common.{◌≡◌, ◌≢◌, ℕ, Bool, true, false, cond, List, [], ◌∷◌, map, refl, sym, subst}
 use Rattle.std.specs.Prelude.{All, Option, Some, None, IfOk, Result, Ok, Err, MatchResult, filter}
 use Rattle.std.specs.List.{flat_map, range_with_len}
@@ -214,7 +215,7 @@ expansion_plain declared application items h =
       conditions = all_flat IsWholeItem IsPlainCondition item_conditions conditions_plain (filter (counts_in application) items) counted;
     }
 
--- what is answered is the expansion, so it is plain
+-- a result is the expansion, so it is plain
 pub answer_plain : (declared : Declared) (r : Result Plain ExpandFault) (A : Type 0) (F : ExpandFault → Type 0) (e : Plain)
     → MatchResult r (λ plain. A × (plain ≡ e)) F → IsPlain declared e → IfOk r (λ plain. IsPlain declared plain)
 answer_plain declared (Ok plain) A F e h p = let P : Plain → Type 0 = λ x. IsPlain declared x in subst P (sym h.1) p

@@ -1,4 +1,4 @@
--- The size of a table, found by the number of its name.
+-- The size of a table, by the number of its name.
 use Rattle.std.proofs.Common.{◌≡◌, ℕ, ◌+◌, List, [], ◌∷◌, Bool, true, false, cond, Option, Some, None, refl, sym, ap, ◌∙◌, add-one}
 use Rattle.std.specs.Prelude.{slice_get}
 use Rattle.std.specs.Option.{option_map}
@@ -15,7 +15,7 @@ step_none true o here rest e f = cc
 step_none false None here rest e f = f refl
 step_none false (Some i) here rest e f = cc
 
--- a name without a number is no table's
+-- a name without a number is not the name of a table
 pub size_none : (name : List ℕ) (variables : List Variable) → index_of name (names_of variables) ≡ None → size_among variables name ≡ None
 size_none name [] e = refl
 size_none name (v ∷ vs) e = step_none (bytes_eq name (name_of v)) (index_of name (names_of vs)) (variable_size v.item) (size_among vs name) e
@@ -37,7 +37,7 @@ step_some false (Some j) here rest i v vs x e at f h =
     let next-is : j + 1 ≡ i = cc in
     f j refl (sym (next v vs j) ∙ ap (slice_get (v ∷ vs)) next-is ∙ at)
 
--- a name with a number has the size of the variable of this number
+-- a name with a number has the size of the variable with the number
 pub size_some : (name : List ℕ) (variables : List Variable) (i : ℕ) (x : Variable) → index_of name (names_of variables) ≡ Some i
     → slice_get variables i ≡ Some x → size_among variables name ≡ variable_size x.item
 size_some name [] i x e at = cc

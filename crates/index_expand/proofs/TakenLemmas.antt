@@ -1,4 +1,4 @@
--- Instances that are put after a list one after the other, and the count of their parts.
+-- Appending instances one at a time, and counting their parts.
 use Rattle.std.proofs.Common.{◌≡◌, ℕ, suc, ◌+◌, ◌*◌, ◌<◌, ◌≤◌, List, [], ◌∷◌, ◌++◌, length, length-append, map, zero, take, drop, get_or, append_assoc, refl}
 use Rattle.std.proofs.Common.{sym, ap, ◌∙◌, arith}
 use Rattle.std.proofs.lemmas.List.{take_more}
@@ -31,7 +31,7 @@ pub too_much_after : {A : Type 0} (a b xs : List A) (m n k s t : ℕ) (item : Pl
     → m + n ≤ k → IsTooMuch k s item fault
 too_much_after a b xs m n k s t item fault x y h = record { reported = y.reported; many = let e = x.sum in let f = y.many in omega arith }
 
--- ---- instances of one weight
+-- ---- instances of equal weight
 
 weighed_append : {A : Type 0} (xs ys : List A) (w : ℕ) → weighed (xs ++ ys) w ≡ weighed xs w + weighed ys w
 weighed_append xs ys w = ap (λ n. n * w) (length-append xs ys) ∙ spread (length xs) (length ys) w
@@ -46,7 +46,7 @@ weighed_both : {A : Type 0} (a b c xs ys : List A) (w s t u : ℕ) → IsTaken a
     → IsTaken a c (xs ++ ys) (weighed (xs ++ ys) w) s u
 weighed_both a b c xs ys w s t u x y = rw (weighed_append xs ys w) (taken_both a b c xs ys (weighed xs w) (weighed ys w) s t u x y)
 
--- those of some values and of one value more
+-- the instances of some values, and of one more value
 flat_more : {A B C : Type 0} (d : B → List C) (g : A → List B) (values : List A) (i : ℕ) (v : A) → i < length values → v ≡ get_or values i v
     → flat_map d (flat_map g (take (i + 1) values)) ≡ flat_map d (flat_map g (take i values)) ++ flat_map d (g v)
 flat_more d g values i v l at =
@@ -62,7 +62,7 @@ pub taken_next : {A B C : Type 0} (d : B → List C) (g : A → List B) (values 
 taken_next d g values i v w s t u a b c l at x y =
     rw (flat_more d g values i v l at) (weighed_both a b c (flat_map d (flat_map g (take i values))) (flat_map d (g v)) w s t u x y)
 
--- all of them are those before a value, those of the value, and more
+-- all of them are those of the values before, those of this value, and those after
 front_and_rest : {A : Type 0} (values : List A) (i : ℕ) → values ≡ take i values ++ drop i values
 front_and_rest [] zero = refl
 front_and_rest [] (suc i) = refl
@@ -114,7 +114,7 @@ cells_too_much f k size w s t a b x item fault h p q =
     too_much_after a b (map f (range_with_len 0 k)) (weighed (map f (range_with_len 0 k)) w) (weighed (x ∷ []) w) (weighed (map f (range_with_len 0 size)) w) s
     t item fault p q (omega (arith, room, one, all))
 
--- ---- one thing after the other, each with parts of its own
+-- ---- one list after another, each with its own parts
 
 each_more : {A C : Type 0} (d : A → List C) (xs : List A) (i : ℕ) (x : A) → i < length xs → x ≡ get_or xs i x
     → flat_map d (take (i + 1) xs) ≡ flat_map d (take i xs) ++ d x

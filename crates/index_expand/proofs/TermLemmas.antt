@@ -1,4 +1,4 @@
--- Terms without loops, element by element.
+-- Terms with their loops expanded, element by element.
 use Rattle.std.proofs.Common.{◌≡◌, ℕ, zero, suc, ◌+◌, ◌<◌, ◌≤◌, List, [], ◌∷◌, ◌++◌, map, length, drop, get_or, append_assoc, refl, sym, ap, ◌∙◌, arith}
 use Rattle.std.proofs.Math.ListN.{set}
 use Rattle.std.proofs.lemmas.List.{map-append, set-set, set-get_or}
@@ -62,7 +62,7 @@ sum_is k body [] = refl
 sum_is k body (b ∷ []) = refl
 sum_is k body (b ∷ c ∷ rest) = ap (chain (expanded k b body)) (links_added k body (c ∷ rest))
 
--- the instances of one value more
+-- the instances of one more value
 pub instances_next : {A B C : Type 0} (f : B → C) (g : A → List B) (values : List A) (i : ℕ) (v : A) (done next all : List C) → i < length values
     → v ≡ get_or values i v → done ++ map f (flat_map g (drop i values)) ≡ all → next ≡ done ++ map f (g v)
     → next ++ map f (flat_map g (drop (i + 1) values)) ≡ all
@@ -79,7 +79,7 @@ pub instances_front : (indexes : List Index) (x : Index) (letters : Letters) →
 instances_front [] x letters h e = absurd (omega arith)
 instances_front (y ∷ ys) x letters h e = ap (λ (z : Index). instances (z ∷ ys) letters) e
 
--- what a letter stood for is put back
+-- the previous binding of a letter is restored
 pub put_back : (letters : Letters) (i : ℕ) (v outer : Option (List ℕ)) (d : Option (List ℕ)) → outer ≡ get_or letters i d
     → set (set letters i v) i outer ≡ letters
 put_back letters i v outer d e = set-set letters i v outer ∙ ap (set letters i) e ∙ set-get_or letters i d

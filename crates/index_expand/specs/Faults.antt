@@ -1,4 +1,4 @@
--- Why the items of an application have no expansion.
+-- The errors of the expansion.
 use Rattle.std.specs.Prelude.{ℕ, ◌+◌, ◌*◌, List, [], ◌∷◌, filter, length, Option, None, Some, nat_lt, if◌then◌else◌}
 use Rattle.std.specs.List.{flat_map, sum_by}
 use Rattle.std.specs.Option.{option_or}
@@ -21,7 +21,7 @@ formula_parts declared formula = length (formula_definitions declared formula) *
 abbrev pub check_parts : CheckItem → ℕ
 check_parts check = parts check.condition + 1
 
--- the parts of an item's definitions and conditions, and one for each
+-- the parts of an item's definitions and conditions, with one for each of these
 abbrev pub item_parts : Declared → Item → ℕ
 item_parts declared (Rule r) = sum_by (formula_parts declared) r.formulas
 item_parts declared (Verif v) = sum_by check_parts v.checks
@@ -35,15 +35,15 @@ item_place (Verif v) = v.place
 item_place (Error e) = e.place
 item_place (Silent p) = p
 
--- the item with which the parts pass 2,000,000, where the items before have so many
+-- the item at which the parts exceed 2,000,000, if the items before have this many
 abbrev pub too_many : Declared → ℕ → List Item → Option ExpandFault
 too_many declared before [] = None
 too_many declared before (item ∷ items) =
     if nat_lt PARTS (before + item_parts declared item) then Some (TooManyParts (item_place item))
     else too_many declared (before + item_parts declared item) items
 
--- Why items have no expansion. Of faulty ranges, loops that are too large and unbound letters the one with the least place is
--- told, and only where there is none, that there are too many parts.
+-- The error of the expansion. Of the faulty ranges, the loops that are too large and the unbound
+-- letters, the one with the least place is reported; too many parts only if there is none of these.
 abbrev pub expand_fault : List Item → List ℕ → Declared → Option ExpandFault
 expand_fault items application declared =
     option_or (least None (flat_map item_faults (filter (counts_in application) items)))

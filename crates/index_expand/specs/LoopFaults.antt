@@ -1,4 +1,4 @@
--- Faults of loops and letters, and which of several is told.
+-- Errors of loops and letters, and which of several is reported.
 use Rattle.std.specs.Prelude.{ℕ, Bool, true, false, ◌&&◌, ◌||◌, ◌==◌, List, [], ◌∷◌, ◌++◌, Option, None, Some, replicate, nat_lt, not, slice_set}
 use Rattle.std.specs.Prelude.{slice_index_or, if◌then◌else◌}
 use Rattle.std.specs.Char.{is_ascii_lowercase}
@@ -17,15 +17,15 @@ use Rattle.loop_values.specs.Values.{is_nothing}
 use Rattle.index_expand.specs.declared.fault.ExpandFault.{ExpandFault}
 use Rattle.index_expand.specs.declared.fault.ExpandFault.TheVariants.{BadRange, LoopTooLarge, UnboundIndex, TooManyParts, Memory}
 
--- which letters the loops round a term bind: a list with a place for each byte
+-- for each byte whether an enclosing loop binds the letter
 abbrev pub Scope : Type 0
 Scope = List Bool
 
--- outside of all loops
+-- the scope outside of all loops
 abbrev pub no_scope : Scope
 no_scope = replicate 256 false
 
--- within a loop over these indexes
+-- the scope within a loop over these indexes
 abbrev pub scope_within : List Index → Scope → Scope
 scope_within [] scope = scope
 scope_within (index ∷ rest) scope = scope_within rest (slice_set scope index.letter true)
@@ -34,16 +34,16 @@ scope_within (index ∷ rest) scope = scope_within rest (slice_set scope index.l
 abbrev pub is_unbound_letter : Scope → ℕ → Bool
 is_unbound_letter scope byte = is_ascii_lowercase byte && not (slice_index_or scope byte false)
 
--- a word that has such a letter is a fault at the word
+-- a word with such a letter has a fault, at the word
 abbrev pub word_faults : Scope → List ℕ → Place → List ExpandFault
 word_faults scope word place = if list_any (is_unbound_letter scope) word then UnboundIndex place ∷ [] else []
 
--- the indexes among these that are faulty in a header
+-- the faulty indexes of a header
 abbrev pub bad_ranges : List Index → List Index → List ExpandFault
 bad_ranges header [] = []
 bad_ranges header (index ∷ rest) = if is_bad_index header index then BadRange index.place ∷ bad_ranges header rest else bad_ranges header rest
 
--- a header without faulty indexes that has more than 10,000 instances is too large
+-- a header without faulty indexes and with more than 10,000 instances is too large
 abbrev pub too_large : Header → List ExpandFault
 too_large header = if nat_lt 10000 (instance_count header.indexes) then LoopTooLarge header.place ∷ [] else []
 
@@ -74,11 +74,11 @@ abbrev mutual
   members_faults scope no_members = []
   members_faults scope (a_member a b rest) = term_faults scope a ++ (term_faults scope b ++ members_faults scope rest)
 
--- within all loops of a formula
+-- the scope within all loops of a formula
 abbrev pub formula_scope : Formula → Scope
 formula_scope formula = scope_within (all_indexes formula.loops) no_scope
 
--- the faults of a formula's headers, of its target, and of its term
+-- the faults of a formula's headers, then of its target, then of its term
 abbrev pub formula_faults : Formula → List ExpandFault
 formula_faults formula =
     flat_map header_faults formula.loops
@@ -92,7 +92,7 @@ item_faults (Rule r) = flat_map formula_faults r.formulas
 item_faults (Verif v) = flat_map check_faults v.checks
 item_faults _ = []
 
--- ---- which fault is told
+-- ---- the reported fault
 
 abbrev pub place_of : ExpandFault → Place
 place_of (BadRange place) = place
@@ -101,16 +101,16 @@ place_of (UnboundIndex place) = place
 place_of (TooManyParts place) = place
 place_of Memory = record { file = 0; byte = 0; line = 0 }
 
--- a place in an earlier file, or earlier in the same file
+-- a place in an earlier file, or at an earlier byte of the same file
 abbrev pub is_before : Place → Place → Bool
 is_before p q = nat_lt p.file q.file || (p.file == q.file && nat_lt p.byte q.byte)
 
--- the one of two faults with the earlier place, where the first of them may be missing
+-- the fault with the lesser place; the first may be missing
 abbrev pub earlier : Option ExpandFault → ExpandFault → Option ExpandFault
 earlier None fault = Some fault
 earlier (Some first) fault = if is_before (place_of fault) (place_of first) then Some fault else Some first
 
--- the one of several faults with the least place
+-- the fault with the least place
 abbrev pub least : Option ExpandFault → List ExpandFault → Option ExpandFault
 least first [] = first
 least first (fault ∷ faults) = least (earlier first fault) faults

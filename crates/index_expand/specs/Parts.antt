@@ -1,12 +1,12 @@
--- How many parts a term has once its loops are replaced by their instances: its literals, names, cells and operators.
+-- The number of parts of an expanded term: its literals, names, cells and operators.
 use Rattle.std.specs.Prelude.{ℕ, ◌+◌, ◌-◌, ◌*◌, Bool, true, false}
 use Rattle.m_ast.specs.Syntax.{Syntax, lit, named, the_x, cell, apply, chain, among, loop, Terms, no_terms, a_term, Links, no_links, a_link, Members}
 use Rattle.m_ast.specs.Syntax.{no_members, a_member}
 use Rattle.m_ast.specs.Members.{is_single}
 use Rattle.loop_values.specs.Headers.{instance_count}
 
--- A member stands for `x = m`, or for `x >= low et x <= high`. So of three terms with one part each the one has 3 parts, and
--- the other 7.
+-- A member is expanded to `x = m`, or to `x >= low et x <= high`. If each of the terms has one
+-- part, these have 3 and 7.
 abbrev pub member_parts : Bool → ℕ → ℕ → ℕ → ℕ
 member_parts true x low high = x + low + 1
 member_parts false x low high = (x + low + 1) + (x + high + 1) + 1
@@ -16,9 +16,10 @@ abbrev pub negation_parts : Bool → ℕ
 negation_parts true = 1
 negation_parts false = 0
 
--- A literal, a name and `X` are one part each, and each operator is one: a cell read counts one beside its index, a list of n
--- operands has n - 1 operators, and members are joined by `ou`. Of `A + T[2] * 3` there are six: A, `+`, the read, 2, `*`, 3.
--- A loop of n instances has n times the parts of its body and n - 1 sums.
+-- A literal, a name and `X` have one part each, and each operator is one: the read of a cell has
+-- one more than its index, a list of n operands has n - 1 operators, and members are joined by
+-- `ou`. `A + T[2] * 3` has six: A, `+`, the read, 2, `*`, 3. A loop of n instances has n times the
+-- parts of its body and n - 1 sums.
 abbrev mutual
   pub parts : Syntax → ℕ
   parts (lit v) = 1

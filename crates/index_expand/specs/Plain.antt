@@ -1,4 +1,4 @@
--- Rules without loops, as expansion leaves them.
+-- Rules without loops: the output of the expansion.
 use Rattle.std.specs.Prelude.{◌≡◌, ℕ, List, All, None}
 use Rattle.m_ast.specs.Whole.{IsWhole, HasNoLoop}
 use Rattle.m_ast.specs.declared.item.Slot.{Slot}
@@ -9,7 +9,7 @@ use Rattle.m_ast.specs.declared.plain_rules.Condition.{Condition}
 use Rattle.m_symbols.specs.Declarations.{Declared}
 use Rattle.m_symbols.specs.TableSizes.{table_size}
 
--- a formula for each cell stands only where its target is no declared table
+-- the target of a formula for each cell is not a declared table
 abbrev pub SlotIsPlain : Declared → List ℕ → Slot → Type 0
 SlotIsPlain declared target Whole = Unit {0}
 SlotIsPlain declared target (Cell k) = Unit {0}
@@ -24,7 +24,8 @@ pub record IsPlainCondition (condition : Condition) : Type 0 where
   pub whole : IsWhole condition.term
   pub loopless : HasNoLoop condition.term
 
--- Rules without loops under these declarations: each term is whole and has no loop, and `T[X]` stands for no declared table.
+-- Under these declarations each term is whole and has no loop, and no `T[X]` is of a declared
+-- table.
 pub record IsPlain (declared : Declared) (plain : Plain) : Type 0 where
   pub definitions : All (IsPlainDefinition declared) plain.definitions
   pub conditions : All IsPlainCondition plain.conditions

@@ -1,4 +1,4 @@
--- A term without its loops, where letters stand for words.
+-- The expansion of a term.
 use Rattle.std.specs.Prelude.{ℕ, ◌*◌, Bool, ◌&&◌, pos, List, [], ◌∷◌, map, length, nat_le, Option, None, Some, if◌then◌else◌}
 use Rattle.std.specs.Str.Parse.{digits_value}
 use Rattle.m_fixed.specs.Text.{is_digits}
@@ -11,7 +11,7 @@ use Rattle.m_ast.specs.Syntax.{no_members, a_member}
 use Rattle.loop_values.specs.Letters.{Letters, replaced}
 use Rattle.loop_values.specs.Headers.{instances}
 
--- a literal of so many whole units
+-- a literal, in whole units
 abbrev pub number_term : ℕ → Syntax
 number_term n = lit (Num (pos (n * unit)))
 
@@ -19,29 +19,30 @@ number_term n = lit (Num (pos (n * unit)))
 abbrev pub is_number_word : List ℕ → Bool
 is_number_word word = is_digits word && nat_le (length word) 12
 
--- A word of a term: one to twelve digits are a number, and any other word is a name. So `i` where i stands for `08` is the number
--- 8, and `REVi` is the name `REV08`.
+-- A word of a term: one to twelve digits are a number, and any other word is a name. So `i` bound
+-- to `08` is the number 8, and `REVi` is the name `REV08`.
 abbrev pub word_term : List ℕ → Place → Syntax
 word_term word place = if is_number_word word then number_term (digits_value 10 word) else named word place
 
--- `X` in the definition of a table's cell is that cell's number, and elsewhere it stays
+-- `X` in the definition of a table's cell is that cell's number; elsewhere it is unchanged
 abbrev pub x_term : Option ℕ → Place → Syntax
 x_term (Some k) place = number_term k
 x_term None place = the_x place
 
--- what further operands of a sum are as its links
+-- further operands of a sum, as links
 abbrev pub added : List Syntax → Links
 added [] = no_links
 added (a ∷ rest) = a_link Add a (added rest)
 
--- the sum of terms in order: one term is that term itself
+-- the sum of terms in order; the sum of one term is that term
 abbrev pub summed : List Syntax → Syntax
 summed [] = lit Undef
 summed (a ∷ []) = a
 summed (a ∷ b ∷ rest) = chain a (added (b ∷ rest))
 
--- A term where letters stand for words, and `X` for the number of a cell, if it does. `somme` is the sum of its instances:
--- `somme(i=1,2: Ti * i)` is `T1 * 1 + T2 * 2`. Places stay.
+-- A term after the substitution of its letters, with `X` replaced by the number of a cell, if one
+-- is given. `somme` is the sum of its instances: `somme(i=1,2: Ti * i)` is `T1 * 1 + T2 * 2`.
+-- Places are unchanged.
 abbrev mutual
   pub expanded : Option ℕ → Letters → Syntax → Syntax
   expanded cell_number letters (lit v) = lit v

@@ -1,5 +1,5 @@
-//! Terms in boxes, each made of its parts. Terms are expanded up to 256 levels deep: what is built or dropped at each level stands here, in functions of
-//! its own, so that the frames of a level are small.
+//! Constructors of boxed terms. The expansion recurses up to 256 levels: what builds or drops terms
+//! is a separate function, never inlined, so that the stack frames of a level stay small.
 ghost use Rattle.std.specs.Prelude.{◌≡◌, ◌∷◌, ◌++◌, [], ◌<◌, ◌≤◌, IfOk, OnOk, IsTrue, length};
 ghost use Rattle.std.specs.Bool.{OnTrue};
 ghost use Rattle.m_fixed.specs.Text.{only_digits};
@@ -16,13 +16,13 @@ use m_fixed::{Amount, Op, Value};
 use m_places::{Name, Place, SharedName};
 use std::alloc::{AllocError, Global};
 
-/// Drops what was made before memory ran out, and answers the error.
+/// Drops a partial result and returns the error.
 #[inline(never)]
 pub(crate) fn without<T: Drop>(_made: T, error: AllocError) -> AllocError {
     error
 }
 
-/// A node in a box. Its only error is running out of memory, as that of all these functions.
+/// A node in a box. The only error of all these functions is out of memory.
 #[inline(never)]
 pub(crate) fn boxed(alloc: Global, node: PNode) -> Result<Box<PTerm>, AllocError>
     ensures { IfOk result (λ t. t.value ≡ syntax_of node) }
@@ -30,7 +30,7 @@ pub(crate) fn boxed(alloc: Global, node: PNode) -> Result<Box<PTerm>, AllocError
     Ok(Box::new(alloc, plain(node))?)
 }
 
-// A literal of so many whole units.
+// A literal, in whole units.
 fn number_node(n: u64) -> PNode
     requires { n < 1000000000000 }
     ensures { syntax_of result ≡ spec.number_term n }
@@ -41,7 +41,7 @@ fn number_node(n: u64) -> PNode
     }
 }
 
-// What a word without letters is.
+// The literal or the name that a word without letters denotes.
 fn word_node(words: &mut Words<'_>, word: &[u8], place: Place) -> Result<PNode, AllocError>
     ensures { IfOk result (λ node. syntax_of node ≡ spec.word_term word.now place) }
 {
@@ -69,7 +69,7 @@ fn x_node(cell: Option<u32>, place: Place) -> PNode
     }
 }
 
-/// A word where letters stand for words.
+/// A word after the substitution of its letters.
 #[inline(never)]
 pub(crate) fn word_with(
     words: &mut Words<'_>,
@@ -83,7 +83,7 @@ pub(crate) fn word_with(
     words.shared(word.bytes())
 }
 
-/// What a word is in a term where letters stand for words: a literal or a name.
+/// The literal or the name that a word denotes after the substitution of its letters.
 #[inline(never)]
 pub(crate) fn boxed_word(
     words: &mut Words<'_>,
@@ -107,7 +107,7 @@ pub(crate) fn boxed_value(alloc: Global, value: &Value) -> Result<Box<PTerm>, Al
     boxed(alloc, PNode::Lit(*value))
 }
 
-/// What `X` is: the number of a cell, if it stands for one.
+/// The expansion of `X`: a literal if `cell` is given, `X` otherwise.
 #[inline(never)]
 pub(crate) fn boxed_x(
     alloc: Global,
@@ -119,7 +119,7 @@ pub(crate) fn boxed_x(
     boxed(alloc, x_node(cell, place))
 }
 
-/// Adds a term at the end.
+/// Appends a term.
 #[inline(never)]
 pub(crate) fn add_term(terms: &mut Vec<PTerm>, term: Box<PTerm>) -> Result<(), AllocError>
     ensures { OnOk result (terms.new.items ≡ terms.old.items ++ term.value ∷ []) }
@@ -128,7 +128,7 @@ pub(crate) fn add_term(terms: &mut Vec<PTerm>, term: Box<PTerm>) -> Result<(), A
     Ok(())
 }
 
-/// Adds an operator and its operand at the end.
+/// Appends an operator and its operand.
 #[inline(never)]
 pub(crate) fn add_link(links: &mut Vec<PLink>, op: Op, term: Box<PTerm>) -> Result<(), AllocError>
     ensures { OnOk result (links.new.items ≡ links.old.items ++ record { op = op; term = term.value } ∷ []) }
@@ -140,7 +140,7 @@ pub(crate) fn add_link(links: &mut Vec<PLink>, op: Op, term: Box<PTerm>) -> Resu
     Ok(())
 }
 
-/// Adds a member from a low to a high end at the end.
+/// Appends a member from a low to a high end.
 #[inline(never)]
 pub(crate) fn add_member(
     members: &mut Vec<PMember>,
@@ -156,7 +156,8 @@ pub(crate) fn add_member(
     Ok(())
 }
 
-/// The sum of terms in order, each of which is a further operand: one term is that term itself.
+/// The sum of terms in order, given as links whose operators are `+`. The sum of one term is that
+/// term.
 #[inline(never)]
 pub(crate) fn summed(alloc: Global, links: Vec<PLink>) -> Result<Box<PTerm>, AllocError>
     ensures { IfOk result (λ t. t.value ≡ links_sum links.items) }
@@ -170,7 +171,7 @@ pub(crate) fn summed(alloc: Global, links: Vec<PLink>) -> Result<Box<PTerm>, All
     with_links(alloc, first, links)
 }
 
-// A chain, or its first operand where there are no more.
+// A chain; without links, its first operand.
 fn with_links(alloc: Global, first: Box<PTerm>, links: Vec<PLink>) -> Result<Box<PTerm>, AllocError>
     ensures { IfOk result (λ t. t.value ≡ chain_of first.value links.items) }
 {

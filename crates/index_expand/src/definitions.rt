@@ -1,4 +1,4 @@
-//! The definitions of an instance of a formula: one, or one for each cell of a table.
+//! The definitions of one instance of a formula: one, or one for each cell of a table.
 ghost use Rattle.std.specs.Prelude.{◌≡◌, ◌+◌, ◌∷◌, ◌≤◌, [], IfOk, OnOk, length, map};
 ghost use Rattle.std.specs.List.{range_with_len};
 ghost use Rattle.m_places.specs.Refusals.{Outcome};
@@ -20,8 +20,8 @@ use m_places::Name;
 use m_symbols::Symbols;
 use std::alloc::AllocError;
 
-/// Puts the definitions of one instance of a formula after definitions, where so many parts were counted before, and answers
-/// how many there are with these.
+/// Appends the definitions of one instance of a formula. `total` is the number of parts so far;
+/// returns the number with these.
 #[inline(never)]
 pub(crate) fn take_instance(
     words: &mut Words<'_>,
@@ -94,7 +94,7 @@ fn take_every(
     }
 }
 
-// A definition for each cell of a table of this size.
+// A definition for each cell of a table with this many cells.
 fn take_cells(
     words: &mut Words<'_>,
     letters: &mut [Option<Name>],
@@ -127,7 +127,7 @@ fn take_cells(
     Ok(count)
 }
 
-// A definition of a formula, where `X` stands for the number of a cell, if it does.
+// A definition of a formula, in which `X` is the number of a cell, if one is given.
 fn take_definition(
     words: &mut Words<'_>,
     letters: &mut [Option<Name>],

@@ -7,16 +7,18 @@ use std::alloc::{AllocError, AllocFailed};
 /// Why items have no expansion.
 #[derive(Clone, Copy, Debug, PartialEq, Eq)]
 pub enum ExpandFault {
-    /// An index with a range whose low point is above its high one, or whose points aren't two
-    /// whole numbers or two letters, or whose letter stands twice in its header: the index.
+    /// An index with a range whose low point is above its high one, or whose points are neither two
+    /// whole numbers nor two letters, or whose letter is bound twice in its header. The place is
+    /// that of the index.
     BadRange(Place),
-    /// A header with more instances than a loop may have: the header.
+    /// A header with more than 10,000 instances. The place is that of the header.
     LoopTooLarge(Place),
-    /// A word with a letter from a to z that no loop round it binds: the word.
+    /// A word with a letter from a to z that no enclosing loop binds. The place is that of the
+    /// word.
     UnboundIndex(Place),
-    /// With this item there are more parts than a base may have: the item.
+    /// With this item there are more parts than a base may have. The place is that of the item.
     TooManyParts(Place),
-    /// There was no memory.
+    /// Out of memory.
     Memory,
 }
 

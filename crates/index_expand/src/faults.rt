@@ -1,4 +1,5 @@
-//! Faults of loops and letters: the one with the least place.
+//! Errors of loops and letters. They are found in the order of the source, and the one with the
+//! least place is reported.
 ghost use Rattle.std.specs.Prelude.{◌≡◌, not};
 ghost use Rattle.std.specs.List.{flat_map, list_any};
 ghost use Rattle.m_ast.specs.Syntax as tree;
@@ -14,8 +15,7 @@ use m_ast::{CheckItem, Formula, Header, Index, Link, Member, Node, Term};
 use m_places::Place;
 use m_places::limits::LOOP_INSTANCES;
 
-/// The first of these faults, or one with an earlier place that an item has. Items other than rules and verifications have
-/// none.
+/// The error so far or one of this formula's, whichever has the least place.
 pub(crate) fn with_formula(first: Option<ExpandFault>, formula: &Formula) -> Option<ExpandFault>
     ensures { result ≡ spec.least first (spec.formula_faults formula.now) }
 {
@@ -32,14 +32,14 @@ pub(crate) fn with_check(first: Option<ExpandFault>, check: &CheckItem) -> Optio
     with_term(first, &no_scope(), &check.condition)
 }
 
-// Outside of all loops.
+// The scope outside of all loops.
 fn no_scope() -> [bool; 256]
     ensures { result ≡ spec.no_scope }
 {
     [false; 256]
 }
 
-// Makes a scope that within a loop over these indexes.
+// Extends the scope by the letters of indexes.
 fn bind_letters(scope: &mut [bool; 256], indexes: &[Index])
     ensures { scope.new ≡ spec.scope_within indexes.now scope.old }
 {
@@ -81,7 +81,7 @@ fn with_header(first: Option<ExpandFault>, header: &Header) -> Option<ExpandFaul
     }
 }
 
-// The fault of a header that is too large.
+// The error of a header that has too many instances.
 fn with_size(first: Option<ExpandFault>, header: &Header) -> Option<ExpandFault>
     ensures { result ≡ spec.least first (spec.too_large header.now) }
 {
@@ -121,7 +121,7 @@ fn with_bad_ranges(
     first
 }
 
-// Whether an index of a header is faulty, where these letters are repeated in the header.
+// Whether an index of a header is faulty, given the letters that are bound twice in the header.
 fn is_bad(header: &[Index], repeated: &[bool; 256], index: &Index) -> bool
     requires { Repeats repeated.now header.now }
     ensures { result ≡ is_bad_index header.now index.now }
@@ -162,7 +162,7 @@ fn is_unbound(scope: &[bool; 256], byte: u8) -> bool
     byte.is_ascii_lowercase() && !scope[byte as usize]
 }
 
-// The one of two faults with the earlier place.
+// The error with the lesser place.
 fn earlier(first: Option<ExpandFault>, fault: ExpandFault) -> Option<ExpandFault>
     ensures { result ≡ spec.earlier first fault }
 {
@@ -224,7 +224,8 @@ fn with_term(first: Option<ExpandFault>, scope: &[bool; 256], term: &Term) -> Op
     }
 }
 
-// The header of a loop, and its body within it. A function of its own, so that a level without a loop has no scope in its frame.
+// The header of a loop, and its body in the extended scope. A separate function, never inlined, so
+// that the frames of other levels hold no scope.
 #[inline(never)]
 #[cycle(with_term)]
 fn with_loop(

@@ -1,4 +1,4 @@
-//! Formulas: the definitions of each instance of their loops.
+//! The definitions of each instance of a formula's loops.
 ghost use Rattle.std.specs.Prelude.{◌≡◌, ◌+◌, ◌∷◌, ◌≤◌, IfSome, OnOk, length};
 ghost use Rattle.std.specs.List.{flat_map};
 ghost use Rattle.m_places.specs.Refusals.{Outcome};
@@ -23,8 +23,9 @@ use m_places::{Name, Place};
 use m_symbols::Symbols;
 use std::mem::replace;
 
-/// Puts the definitions of a formula after definitions, where so many parts were counted before, and answers how many there
-/// are with these. The place is that of the formula's rule.
+/// Appends the definitions of a formula. `total` is the number of parts so far; returns the number
+/// with these. `rule` is the place of the formula's rule. The parts of a definition are counted
+/// before it is made.
 pub(crate) fn take_formula(
     words: &mut Words<'_>,
     letters: &mut [Option<Name>],
@@ -73,7 +74,8 @@ pub(crate) fn take_formula(
     }
 }
 
-// The same, from a term of the same expansions as the formula's, and of a formula with no more instances than there may be parts.
+// The same with a term of the same meaning in place of the formula's term, for a formula whose
+// instances don't exceed the maximal number of parts.
 fn take_from(
     words: &mut Words<'_>,
     letters: &mut [Option<Name>],
@@ -111,8 +113,9 @@ fn take_from(
     )
 }
 
-// The fault of a formula with more instances than there may be parts: each instance is a definition at least, since a table
-// has a cell. So what is looked at further has few indexes with two values or more.
+// The error of a formula with more instances than the maximal number of parts. Each instance gives
+// at least one definition, since each table has a cell. So the other functions meet few indexes of
+// two or more values.
 fn refusal(rule: Place, formula: &Formula) -> Option<ExpandFault>
     ensures { IfSome result (λ fault. (declared : Declared) → TablesHaveCells declared → IsTooMuch (formula_parts declared formula.now) 0 rule fault) }
 {
@@ -123,7 +126,7 @@ fn refusal(rule: Place, formula: &Formula) -> Option<ExpandFault>
     }
 }
 
-// The definitions of the instances of indexes.
+// Appends the definitions of the instances of indexes.
 #[cycle(take_instances)]
 fn take_instances(
     words: &mut Words<'_>,
@@ -155,7 +158,7 @@ fn take_instances(
     }
 }
 
-// The same of an index of one value.
+// The same with an outer index of one value.
 #[cycle(take_instances)]
 fn take_single(
     words: &mut Words<'_>,
@@ -193,7 +196,7 @@ fn take_single(
     )
 }
 
-// The definitions of the instances of an index that is slower than these.
+// The same with an outer index.
 #[cycle(take_instances)]
 fn take_index(
     words: &mut Words<'_>,
@@ -234,7 +237,7 @@ fn take_index(
     Ok(count)
 }
 
-// The definitions of the instances of indexes where a letter stands for a value. What it stood for before is put back.
+// The same with a letter bound to a value. The previous binding is restored.
 #[cycle(take_instances)]
 fn take_bound(
     words: &mut Words<'_>,

@@ -1,4 +1,4 @@
-//! The items of an application.
+//! The expansion of the items of one application.
 ghost use Rattle.std.specs.Prelude.{◌≡◌, ◌∷◌, ◌++◌, ◌≤◌, [], All, None, Some, IfOk, OnOk, filter, length, map};
 ghost use Rattle.std.specs.List.{flat_map, list_any, sum_by};
 ghost use Rattle.std.specs.Str.{bytes_eq};
@@ -26,10 +26,10 @@ use m_places::{Name, Place, Seq, SharedName};
 use m_symbols::Symbols;
 use std::alloc::{AllocError, Global};
 
-/// The rules and verifications of an application without loops, or the fault of the items.
+/// The rules and verifications of an application without loops, or the error of the items.
 ///
-/// The items are whole, as the reader of rule files gives them, and each table has a cell, as `declare` gives them. A chained
-/// rule, and an item of another application, count for nothing.
+/// Chained rules and items of other applications are ignored. The items must be whole, which the
+/// parser of rule files ensures, and each table must have a cell, which `declare` ensures.
 pub fn expand(
     alloc: Global,
     items: &[Item],
@@ -51,7 +51,7 @@ pub fn expand(
     take_items(alloc, items, application, symbols)
 }
 
-// The fault of loops and letters with the least place.
+// The error of loops and letters with the least place.
 fn first_fault(items: &[Item], application: &[u8]) -> Option<ExpandFault>
     ensures { result ≡ least None (flat_map item_faults (filter (counts_in application.now) items.now)) }
 {
@@ -96,7 +96,7 @@ fn with_checks(first: Option<ExpandFault>, checks: &[CheckItem]) -> Option<Expan
     first
 }
 
-// Whether an item counts in an application.
+// Whether an item belongs to the application and isn't a chained rule.
 fn counts_in(item: &Item, application: &[u8]) -> bool
     ensures { result ≡ counts_in application.now item.now }
 {
@@ -120,7 +120,7 @@ fn is_among(application: &[u8], applications: &[Name]) -> bool
     false
 }
 
-// The instances of all items that count, where they aren't too many.
+// The instances of all items that count, unless they have too many parts.
 fn take_items(
     alloc: Global,
     items: &[Item],
@@ -299,7 +299,7 @@ fn take_check(
     Ok(count)
 }
 
-// The term of a condition without its loops.
+// The term of a condition with its loops expanded.
 fn expanded_check(
     words: &mut Words<'_>,
     letters: &mut [Option<Name>],

@@ -1,4 +1,5 @@
-//! Sums of one instance in one another, which are joined once in a formula: its instances don't go through each of them.
+//! Nested sums of one instance are joined into one, once per formula, so that an instance costs no
+//! step for each of them.
 ghost use Rattle.std.specs.Prelude.{◌≡◌, ◌++◌, IfOk, map};
 ghost use Rattle.std.specs.Bool.{OnTrue};
 ghost use Rattle.m_ast.specs.Syntax as tree;
@@ -14,7 +15,7 @@ use m_fixed::Op;
 use m_places::{Name, Place, Seq};
 use std::alloc::{AllocError, Global};
 
-/// Whether a sum is the whole body of another sum somewhere in a term. Takes no memory.
+/// Whether a sum is the whole body of another sum anywhere in a term. Takes no memory.
 #[cycle(has_nested)]
 pub(crate) fn has_nested(term: &Term) -> bool {
     match &term.node {
@@ -61,8 +62,8 @@ fn member_has_nested(members: &[Member]) -> bool {
     false
 }
 
-/// A term with the same expansions, in which a sum of one instance isn't the whole body of another one. Its only error is
-/// running out of memory, as that of all these functions.
+/// A term of the same meaning, in which no sum of one instance is the whole body of another one.
+/// The only error of all these functions is out of memory.
 #[cycle(joined)]
 pub(crate) fn joined(alloc: Global, term: &Term) -> Result<Box<Term>, AllocError>
     ensures { IfOk result (λ t. meaning t.value ≡ meaning term.now) }
@@ -149,7 +150,7 @@ fn joined_among(
     }
 }
 
-// A sum, which is joined with its body where both have one instance.
+// A sum, joined with its body if both are sums of one instance.
 #[inline(never)]
 #[cycle(joined)]
 fn joined_loop(alloc: Global, header: &Header, body: &Term) -> Result<Box<Term>, AllocError>

@@ -1,7 +1,7 @@
-//! Rules without loops: every `pour`, every `somme` and every `T[X] = ..` of a declared table replaced by its instances, for
-//! the items of one application.
+//! The expansion of loops: every `pour`, every `somme` and every `T[X] = ..` of a declared table is
+//! replaced by its instances, for the items of one application.
 //!
-//! This crate stands on loops as lists of instances and on the declared names, and knows nothing of cells' numbers.
+//! Uses loops as lists of instances and the symbol table. Knows nothing of cell numbers or values.
 #![tactic(auto)]
 
 mod build;

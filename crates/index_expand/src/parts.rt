@@ -1,4 +1,4 @@
-//! How many parts a term has once its loops are replaced.
+//! The number of parts of an expanded term.
 ghost use Rattle.std.specs.Prelude.{◌≡◌, ℕ, ◌+◌, ◌-◌, ◌*◌, ◌≤◌, min};
 ghost use Rattle.m_ast.specs.View.{terms_of, links_of, members_of};
 ghost use Rattle.index_expand.specs.Parts as spec;
@@ -7,10 +7,10 @@ use loop_values::instance_count;
 use m_ast::{Link, Member, Node, Term, is_single};
 use m_places::limits::PARTS;
 
-/// The most parts that count. Counts stop here.
+/// The maximal number of parts of a base. Counts saturate here.
 pub(crate) const MOST: u64 = PARTS as u64;
 
-/// How many parts a term has once its loops are replaced, or the most where it has more.
+/// The number of parts of the expanded term, or `MOST` if it is more.
 #[cycle(parts)]
 pub(crate) fn parts(term: &Term) -> u64
     ensures { result ≡ min (spec.parts term.now) PARTS }
@@ -52,8 +52,8 @@ fn links_parts(first: u64, links: &[Link]) -> u64
     count
 }
 
-// The first operand has so many parts, or the most. What is counted may be one more than the most, since a membership has
-// one part fewer.
+// The parts of members joined by `ou`, if the first operand has `first` parts or saturates. The
+// count includes one `ou` too many, so it saturates at `MOST + 1`.
 #[cycle(parts)]
 fn members_parts(first: u64, members: &[Member]) -> u64
     requires { first ≤ PARTS }

@@ -1,4 +1,4 @@
-//! Terms without their loops.
+//! Terms with their loops expanded.
 ghost use Rattle.std.specs.Prelude.{◌≡◌, ◌∷◌, ◌++◌, ◌<◌, ◌≤◌, All, IfOk, OnOk, length, map, take};
 ghost use Rattle.m_ast.specs.Syntax as tree;
 ghost use Rattle.m_ast.specs.View.{terms_of, links_of, members_of};
@@ -20,7 +20,8 @@ use m_places::{Name, Place};
 use std::alloc::AllocError;
 use std::mem::replace;
 
-/// A term where letters stand for words, and `X` for the number of a cell, if it does. Its only error is running out of memory.
+/// A term after the substitution of its letters, with its loops expanded and `X` replaced by
+/// `cell`, if it is given. The only error is out of memory.
 pub(crate) fn expanded(
     words: &mut Words<'_>,
     letters: &mut [Option<Name>],
@@ -60,7 +61,7 @@ fn expanded_box(
     }
 }
 
-// The read of a table's cell.
+// A read of a table's cell.
 #[inline(never)]
 #[cycle(expanded)]
 fn expanded_cell(
@@ -82,7 +83,7 @@ fn expanded_cell(
     }
 }
 
-// An operator on terms.
+// An operator and its arguments.
 #[inline(never)]
 #[cycle(expanded)]
 fn expanded_apply(
@@ -100,7 +101,7 @@ fn expanded_apply(
     boxed(words.alloc, PNode::Apply(op, arguments))
 }
 
-// A first operand and what is joined to it.
+// A chain.
 #[inline(never)]
 #[cycle(expanded)]
 fn expanded_chain(
@@ -244,7 +245,7 @@ fn expanded_members(
     Ok(copies)
 }
 
-// Puts the instances of a loop's body after the operands of a sum.
+// Appends the instances of a loop's body to the operands of a sum.
 #[cycle(expanded)]
 fn expand_instances(
     words: &mut Words<'_>,
@@ -272,8 +273,8 @@ fn expand_instances(
     }
 }
 
-// The same where indexes of one value come first. Their letters are bound together, so that a header of many of these is no deeper
-// than one of a single index, and what they stood for outside of the loop is put back.
+// The same if indexes of one value come first. They are bound together, so that a header with many
+// of them recurses no deeper than one with a single index. The previous bindings are restored.
 #[inline(never)]
 #[cycle(expanded)]
 fn expand_singles(
@@ -303,7 +304,7 @@ fn expand_singles(
     }
 }
 
-// The same for each value of an index, which is slower than these.
+// The same with an outer index.
 #[cycle(expanded)]
 fn expand_index(
     words: &mut Words<'_>,
@@ -330,7 +331,7 @@ fn expand_index(
     Ok(())
 }
 
-// The same where a letter stands for a value. What it stood for outside of the loop is put back.
+// The same with a letter bound to a value. The previous binding is restored.
 #[cycle(expanded)]
 fn expand_bound(
     words: &mut Words<'_>,

@@ -1,23 +1,24 @@
-//! Words of terms, one copy for all that are the name of one declared variable.
+//! Words of terms, interned: one copy for all occurrences of a declared variable's name.
 ghost use Rattle.std.specs.Prelude.{◌≡◌, IfOk, IfSome};
 
 use m_places::{Name, SharedName};
 use m_symbols::Symbols;
 use std::alloc::{AllocError, Global};
 
-/// One copy of the name of each declared variable that stands in a term, made where it is first needed. So what the names of
-/// a valid source take in memory is bounded by its declarations, however many instances its loops have.
+/// The shared copies of the names of variables, each made at its first use. So the memory for names
+/// in a valid source is bounded by its declarations, however many instances its loops have. A name
+/// that isn't declared gets a copy per occurrence.
 #[derive(Drop)]
 pub(crate) struct Words<'a> {
-    /// Where all that an expansion makes takes its memory.
+    /// The allocator of the whole expansion.
     pub(crate) alloc: Global,
     symbols: &'a Symbols,
-    /// For each variable its name, once it is needed.
+    /// For each variable its name, after its first use.
     names: Vec<Option<SharedName>>,
 }
 
 impl<'a> Words<'a> {
-    /// No name is needed yet. Its only error is running out of memory.
+    /// No name is in use yet. The only error is out of memory.
     pub(crate) fn new(alloc: Global, symbols: &'a Symbols) -> Result<Words<'a>, AllocError> {
         let count = symbols.count() as usize;
         let mut names = Vec::with_capacity(alloc, count)?;
@@ -31,8 +32,8 @@ impl<'a> Words<'a> {
         })
     }
 
-    /// A word, in one copy with the other words of these bytes where a variable has the name. Its only error is running out of
-    /// memory.
+    /// A word, shared with all equal words if it is the name of a variable. The only error is out
+    /// of memory.
     pub(crate) fn shared(&mut self, word: &[u8]) -> Result<SharedName, AllocError>
         ensures { IfOk result (λ name. name ≡ word.now) }
     {
@@ -47,14 +48,14 @@ impl<'a> Words<'a> {
     }
 }
 
-// A word in a copy of its own.
+// A word in its own copy.
 fn own(alloc: Global, word: &[u8]) -> Result<SharedName, AllocError>
     ensures { IfOk result (λ name. name ≡ word.now) }
 {
     SharedName::new(alloc, Name::new(alloc, word)?)
 }
 
-// The name that is kept, if it is the word, and else the word, which is kept from then on.
+// The shared name, if it equals the word; otherwise the word, which becomes the shared name.
 fn kept(alloc: Global, name: &mut Option<SharedName>, word: &[u8]) -> Result<SharedName, AllocError>
     ensures { IfOk result (λ name. name ≡ word.now) }
 {
@@ -67,7 +68,7 @@ fn kept(alloc: Global, name: &mut Option<SharedName>, word: &[u8]) -> Result<Sha
     Ok(given)
 }
 
-// The name that is kept, if it is the word.
+// The shared name, if it equals the word.
 fn known<'a>(name: &'a Option<SharedName>, word: &[u8]) -> Option<&'a SharedName>
     ensures { IfSome result (λ known. known.now ≡ word.now) }
 {

@@ -1,4 +1,4 @@
--- Counts that stop at a greatest one.
+-- Saturating counts.
 use Rattle.std.proofs.Common.{◌≡◌, ℕ, zero, suc, ◌+◌, ◌*◌, ◌<◌, ◌≤◌, min, List, [], ◌∷◌, ◌++◌, length, length-append, drop, get_or, arith, refl, sym, ap, ◌∙◌}
 use Rattle.std.proofs.Common.{⊎_elim}
 use Rattle.std.proofs.lemmas.Bool.{cases_lt}
@@ -31,7 +31,7 @@ again c n r m =
     let e : min (min n m) m ≡ min n m = omega arith in
     ap (λ x. min (x * (c * r)) m) e ∙ min_times n (c * r) m ∙ ap (λ x. min x m) (sym (left c n r) ∙ right c n r)
 
--- one factor more, counted up to a greatest one
+-- one more factor, with saturation
 pub times_more : (c n r m next all : ℕ) → min (c * (n * r)) m ≡ all → next ≡ min (c * min n m) m → min (next * r) m ≡ all
 times_more c n r m next all inv e =
     ap (λ x. min (x * r) m) e
@@ -41,7 +41,7 @@ times_more c n r m next all inv e =
     ∙ again c n r m
     ∙ inv
 
--- what is left of indexes, one after the other
+-- the remaining indexes
 pub count_next : (indexes : List Index) (i : ℕ) (x : Index) → i < length indexes → x ≡ get_or indexes i x
     → instance_count (drop i indexes) ≡ length (index_values x) * instance_count (drop (i + 1) indexes)
 count_next indexes i x l at = let one : suc i ≡ i + 1 = omega arith in ap instance_count (drop-cons indexes i x l ∙ (λ k. sym at k ∷ drop (one k) indexes))
@@ -54,7 +54,7 @@ count_append [] ys = omega arith
 count_append (x ∷ xs) ys = ap (λ n. length (index_values x) * n) (count_append xs ys)
     ∙ regroup (length (index_values x)) (instance_count xs) (instance_count ys)
 
--- the instances of one header more
+-- the instances of one more header
 pub headers_next : (headers : List Header) (i : ℕ) (x : Header) (c next m all : ℕ) → i < length headers → x ≡ get_or headers i x
     → min (c * instance_count (all_indexes (drop i headers))) m ≡ all → next ≡ min (c * instance_count x.indexes) m
     → min (next * instance_count (all_indexes (drop (i + 1) headers))) m ≡ all
@@ -73,7 +73,7 @@ same_lengths : {A B : Type 0} (g : A → List B) (vs : List A) (c : ℕ) → ((v
 same_lengths g [] c h = omega arith
 same_lengths g (v ∷ vs) c h = length-append (g v) (flat_map g vs) ∙ (let here = h v in let rest = same_lengths g vs c h in omega arith)
 
--- there are as many instances as the count says
+-- the count is the number of instances
 pub length_instances : (indexes : List Index) (letters : Letters) → length (instances indexes letters) ≡ instance_count indexes
 length_instances [] letters = refl
 length_instances (x ∷ xs) letters = same_lengths (λ value. instances xs (bind letters x.letter value)) (index_values x) (instance_count xs)

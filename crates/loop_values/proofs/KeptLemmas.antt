@@ -1,4 +1,4 @@
--- Indexes that may be left out.
+-- Indexes that may be omitted.
 use Rattle.std.proofs.Common.{◌≡◌, ℕ, suc, ◌+◌, ◌<◌, List, [], ◌∷◌, ◌++◌, length, drop, get_or, Bool, true, false, ◌||◌, eqb, Some, arith, sym, ap, ◌∙◌, ⊎_elim}
 use Rattle.std.proofs.Math.ListN.{set, replicate}
 use Rattle.std.proofs.Math.Seq.{drop-cons}
@@ -16,7 +16,7 @@ rest_true : (b c : Bool) → b ≡ false → (b || c) ≡ true → c ≡ true
 rest_true true c e h = cc
 rest_true false c e h = h
 
--- what a letter stands for outside of loops that bind it again has no effect
+-- if the loops bind a letter again, its outer binding has no effect
 hidden : (kept : List Index) (b : ℕ) (v : List ℕ) (letters : Letters) → binds b kept ≡ true → instances kept (bind letters b v) ≡ instances kept letters
 hidden [] b v letters h = absurd (false≢true h)
 hidden (y ∷ ys) b v letters h =
@@ -62,7 +62,7 @@ kept_start kept headers e = record {
   marked = λ b small h. absurd (false≢true (sym (get_or-replicate 256 b false false small) ∙ h));
 }
 
--- one more from the end
+-- one more index, from the end
 pub front_index : (indexes all : List Index) (left : ℕ) (x : Index) → left < length indexes → x ≡ get_or indexes left x
     → drop left indexes ++ all ≡ x ∷ (drop (left + 1) indexes ++ all)
 front_index indexes all left x l at = let one : suc left ≡ left + 1 = omega arith in (λ k. (drop-cons indexes left x l ∙ (λ j. sym at j ∷ drop (one j) indexes))

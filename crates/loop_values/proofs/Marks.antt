@@ -1,4 +1,4 @@
--- Letters that stood once, and letters that stood twice.
+-- Letters that occurred once, and letters that occurred twice.
 use Rattle.std.proofs.Common.{◌≡◌, ℕ, ◌+◌, ◌<◌, List, [], length, take, get_or, Bool, true, false, ◌||◌, ltb, arith, sym, ap, ◌∙◌, ⊎_elim}
 use Rattle.std.proofs.Math.ListN.{set, length-set, replicate}
 use Rattle.std.specs.Prelude.{count_by, ◌==◌}
@@ -7,7 +7,7 @@ use Rattle.std.proofs.lemmas.List.{get_or-set_same, get_or-set_other, length-rep
 use Rattle.std.proofs.lemmas.List.Sums.{count_by_more_yes, count_by_more_no}
 use Rattle.m_ast.specs.declared.header.Index.{Index}
 
--- how often a letter stands among indexes
+-- how often a letter occurs among indexes
 abbrev pub uses : ℕ → List Index → ℕ
 uses letter indexes = count_by (λ index. index.letter == letter) indexes
 

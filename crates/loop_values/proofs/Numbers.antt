@@ -1,4 +1,4 @@
--- Numbers that digits spell, and the numbers between two.
+-- The numbers that digits denote, and ranges of numbers.
 use Rattle.std.proofs.Common.{◌≡◌, ℕ, zero, suc, ◌+◌, ◌-◌, ◌*◌, ◌^◌, ◌<◌, ◌≤◌, List, [], ◌∷◌, length, map, take, get_or, ◌++◌, append_assoc, eqb, arith, refl}
 use Rattle.std.proofs.Common.{sym, ap, ◌∙◌}
 use Rattle.std.proofs.Math.Nat.{pow-suc, pow-le-pow_right}
@@ -41,14 +41,14 @@ number_fits i n h b = let p : 10 ^ i ≤ 10 ^ 11 = pow-le-pow_right {n = 10} (om
 pub nine_digits : (k n : ℕ) → k ≤ 9 → n < 10 ^ k → n < 1000000000
 nine_digits k n h b = let p : 10 ^ k ≤ 10 ^ 9 = pow-le-pow_right {n = 10} (omega arith) {i = k} {j = 9} (omega arith) in omega arith
 
--- the numbers from one below another on are that one and those from the next on
+-- a range is its first number and the range from the next one on
 pub range_next : (a end : ℕ) → a < end → range_with_len a (end - a) ≡ a ∷ range_with_len (a + 1) (end - (a + 1))
 range_next a end h = let e : end - a ≡ suc (end - (a + 1)) = omega arith in ap (range_with_len a) e
 
 pub map_range_next : {X : Type 0} (f : ℕ → X) (a end : ℕ) → a < end → map f (range_with_len a (end - a)) ≡ f a ∷ map f (range_with_len (a + 1) (end - (a + 1)))
 map_range_next f a end h = ap (map f) (range_next a end h)
 
--- one more element of those that numbers from one on give
+-- one more element of the values of a range
 pub range_push : {X : Type 0} (f : ℕ → X) (done next : List X) (x : X) (a end : ℕ) (all : List X) → a < end → done ++ map f (range_with_len a (end - a)) ≡ all
     → x ≡ f a → next ≡ done ++ x ∷ []
     → next ++ map f (range_with_len (a + 1) (end - (a + 1))) ≡ all
@@ -59,7 +59,7 @@ range_push f done next x a end all lt inv e p =
     ∙ ap (λ r. done ++ r) (sym (map_range_next f a end lt))
     ∙ inv
 
--- a list has no elements where it is empty
+-- a list has no elements exactly if it is empty
 pub nothing_by_length : {A : Type 0} (xs : List A) → eqb (length xs) 0 ≡ is_nothing xs
 nothing_by_length [] = refl
 nothing_by_length (x ∷ xs) = ne_eqb (length (x ∷ xs)) 0 (λ e. absurd (omega arith))

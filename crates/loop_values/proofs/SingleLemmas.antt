@@ -1,4 +1,4 @@
--- An index of one value has one instance, and what its letter stood for is put back.
+-- An index of one value has one instance, and its letter's previous binding is restored.
 use Rattle.std.proofs.Common.{◌≡◌, ℕ, ◌+◌, ◌<◌, List, [], ◌∷◌, ◌++◌, length, drop, take, get_or, refl, sym, ap, ◌∙◌, arith}
 use Rattle.std.proofs.Math.ListN.{set}
 use Rattle.std.proofs.lemmas.List.{append-nil, length-take-le, set-set, set-get_or, take_more}
@@ -15,7 +15,7 @@ pub single_first : (x : Index) (rest : List Index) (letters : Letters) (v : List
     → instances (x ∷ rest) letters ≡ instances rest (bind letters x.letter v)
 single_first x rest letters v e = ap (flat_map (λ w. instances rest (bind letters x.letter w))) e ∙ append-nil (instances rest (bind letters x.letter v))
 
--- one index more is bound
+-- one more index is bound
 pub bound_next : (indexes rest : List Index) (i : ℕ) (x : Index) (v : List ℕ) (letters : Letters) (all : List Letters) → i < length indexes
     → x ≡ get_or indexes i x → index_values x ≡ v ∷ []
     → instances (drop i indexes ++ rest) letters ≡ all → instances (drop (i + 1) indexes ++ rest) (bind letters x.letter v) ≡ all
@@ -29,7 +29,7 @@ unbound_last [] (o ∷ os) x v letters h = absurd (omega arith)
 unbound_last (i ∷ is) [] x v letters h = absurd (omega arith)
 unbound_last (i ∷ is) (o ∷ os) x v letters h = ap (λ ls. set ls i.letter o) (unbound_last is os x v letters (omega arith))
 
--- the last of those that are bound is put back
+-- the binding of the last index is restored
 pub unbound_less : (indexes : List Index) (i : ℕ) (x : Index) (outer : List (Option (List ℕ))) (v : Option (List ℕ)) (letters : Letters) → i < length indexes
     → x ≡ get_or indexes i x → length outer ≡ i
     → unbound (take (i + 1) indexes) (outer ++ v ∷ []) letters ≡ unbound (take i indexes) outer (set letters x.letter v)
@@ -37,7 +37,7 @@ unbound_less indexes i x outer v letters l at h =
     ap (λ xs. unbound xs (outer ++ v ∷ []) letters) (take_more indexes i x l ∙ (λ k. take i indexes ++ sym at k ∷ []))
     ∙ unbound_last (take i indexes) outer x v letters (h ∙ sym (length-take-le i indexes (omega arith)))
 
--- what the letter of one index more stood for is kept
+-- the previous binding of one more index is kept
 pub unbound_next : (indexes : List Index) (i : ℕ) (x : Index) (outer : List (Option (List ℕ))) (v old d : Option (List ℕ)) (letters all : Letters)
     → i < length indexes → x ≡ get_or indexes i x → length outer ≡ i
     → old ≡ get_or letters x.letter d → unbound (take i indexes) outer letters ≡ all

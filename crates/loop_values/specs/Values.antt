@@ -1,4 +1,4 @@
--- The values of an index, in the order in which they are written.
+-- The values of an index, in the order of the source.
 use Rattle.std.specs.Prelude.{ℕ, ◌+◌, ◌-◌, Bool, true, false, ◌&&◌, List, [], ◌∷◌, ◌++◌, map, length, replicate, nat_le, slice_index, decimal, if◌then◌else◌}
 use Rattle.std.specs.Str.{bytes_eq}
 use Rattle.std.specs.Str.Parse.{digits_value}
@@ -17,14 +17,15 @@ is_capital [] = false
 is_capital (byte ∷ []) = nat_le 65 byte && nat_le byte 90
 is_capital (byte ∷ next ∷ rest) = false
 
--- a number with at least so many digits, zeros before it: 8 with two is `08`, 123 with two is `123`
+-- a number, padded with zeros to at least `width` digits: 8 with width 2 is `08`, 123 with width 2
+-- is `123`
 abbrev pub number_word : ℕ → ℕ → List ℕ
 number_word width n = replicate (width - length (decimal n)) 48 ++ decimal n
 
 abbrev pub letter_word : ℕ → List ℕ
 letter_word letter = letter ∷ []
 
--- the numbers from low to high, none where high is below low
+-- the numbers from low to high; none if high is below low
 abbrev pub from_to : ℕ → ℕ → List ℕ
 from_to low high = range_with_len low (high + 1 - low)
 
@@ -34,9 +35,10 @@ numbers_between from to = map (number_word (length from)) (from_to (digits_value
 abbrev pub letters_between : List ℕ → List ℕ → List (List ℕ)
 letters_between from to = map letter_word (from_to (slice_index from 0) (slice_index to 0))
 
--- The values between two points. Points that are spelled alike are that one value. Of two whole numbers it is the numbers from
--- the low one to the high one, each with as many digits as the low one at least: `8..10` is 8, 9, 10, and `08..10` is 08, 09, 10.
--- Of two single letters it is these letters: `A..C` is A, B, C. Any other two points have no values, and that is a bad range.
+-- The values of a span. Two points with the same spelling are one value. Two whole numbers give the
+-- numbers from the low one to the high one, each padded to the digits of the low one: `8..10` is 8,
+-- 9, 10, and `08..10` is 08, 09, 10. Two single letters give a range of letters: `A..C` is A, B, C.
+-- Any other span has no values, which makes it a bad range.
 abbrev pub values_between : List ℕ → List ℕ → List (List ℕ)
 values_between from to =
     if bytes_eq from to then from ∷ []
@@ -47,7 +49,7 @@ values_between from to =
 abbrev pub span_values : Span → List (List ℕ)
 span_values span = values_between span.from span.to
 
--- the values of an index: of `i = V, 1..2` they are V, 1, 2
+-- the values of an index: V, 1, 2 for `i = V, 1..2`
 abbrev pub index_values : Index → List (List ℕ)
 index_values index = flat_map span_values index.values
 

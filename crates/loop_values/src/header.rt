@@ -1,4 +1,4 @@
-//! Headers: how many instances they have, and which of their indexes are faulty.
+//! Headers: the number of their instances, and their faulty indexes.
 ghost use Rattle.std.specs.Prelude.{◌≡◌, ℕ, ◌*◌, ◌<◌, ◌≤◌, ◌∷◌, ◌++◌, ◌||◌, List, false, IfOk, OnOk, min, slice_index_or};
 ghost use Rattle.loop_values.specs.declared.values.TheConstants.{MANY};
 ghost use Rattle.loop_values.specs.Headers as spec;
@@ -10,7 +10,7 @@ use crate::values::{MANY, index_count};
 use m_ast::{Header, Index};
 use std::alloc::{AllocError, Global};
 
-/// So many instances for each instance of indexes, or `MANY` where there are more.
+/// `before` times the number of instances of the indexes, or `MANY` if it is more.
 pub fn instance_count(before: u64, indexes: &[Index]) -> u64
     requires { before ≤ MANY }
     ensures count { result ≡ min (before * spec.instance_count indexes.now) MANY }
@@ -22,7 +22,7 @@ pub fn instance_count(before: u64, indexes: &[Index]) -> u64
     count
 }
 
-/// How many instances all headers of a formula have together, or `MANY` where they have more.
+/// The number of instances of all headers of a formula together, or `MANY` if it is more.
 pub fn headers_count(headers: &[Header]) -> u64
     ensures { result ≡ min (spec.instance_count (spec.all_indexes headers.now)) MANY }
 {
@@ -33,7 +33,7 @@ pub fn headers_count(headers: &[Header]) -> u64
     count
 }
 
-/// For each byte whether it stands twice or more among the letters of indexes.
+/// For each byte whether two or more of the indexes have it as their letter.
 pub fn repeated_letters(indexes: &[Index]) -> [bool; 256]
     ensures { (letter : ℕ) → letter < 256 → slice_index_or result letter false ≡ spec.is_twice letter indexes.now }
 {
@@ -53,9 +53,10 @@ fn either(a: bool, b: bool) -> bool
     a || b
 }
 
-/// Indexes that have the instances of all indexes of headers, from the outermost to the innermost. An index of one value is
-/// left out where an inner one binds its letter again, so there are few of them where there are few instances. Its only
-/// error is running out of memory.
+/// Indexes with the same instances as all indexes of the headers, from the outermost to the
+/// innermost. An index of one value is omitted if an inner index binds its letter again, so few
+/// instances need few indexes: 200,000 times `pour i=1:` is one index. The only error is out of
+/// memory.
 pub fn kept_indexes(alloc: Global, headers: &[Header]) -> Result<Vec<Index>, AllocError>
     ensures { IfOk result (λ kept. (letters : Letters)
         → spec.instances kept.items letters ≡ spec.instances (spec.all_indexes headers.now) letters) }
@@ -75,7 +76,7 @@ pub fn kept_indexes(alloc: Global, headers: &[Header]) -> Result<Vec<Index>, All
     Ok(kept)
 }
 
-/// The same of the indexes of two headers, of which the second is the inner one.
+/// `kept_indexes` of two headers, of which the second is the inner one.
 pub fn joined_indexes(
     alloc: Global,
     outer: &[Index],
@@ -91,7 +92,8 @@ pub fn joined_indexes(
     Ok(kept)
 }
 
-// Puts the indexes that are kept of these before those of all inner ones, whose letters are bound.
+// Inserts the indexes that are kept of these before `kept`, which holds those of all inner ones.
+// `bound` marks the letters that `kept` binds.
 fn keep_all(
     alloc: Global,
     kept: &mut Vec<Index>,

@@ -1,11 +1,11 @@
-//! What letters stand for.
+//! Substitution of letters.
 ghost use Rattle.std.specs.Prelude.{◌≡◌, ◌++◌, IfOk, OnOk, length};
 ghost use Rattle.loop_values.specs.Letters as spec;
 
 use m_places::Name;
 use std::alloc::{AllocError, Global};
 
-/// What each letter stands for, for each byte, outside of all loops: nothing.
+/// The bindings outside of all loops: no letter is bound. The list has an element for each byte.
 pub fn no_letters(alloc: Global) -> Result<Vec<Option<Name>>, AllocError>
     ensures { IfOk result (λ letters. letters.items ≡ spec.no_letters) }
 {
@@ -16,7 +16,7 @@ pub fn no_letters(alloc: Global) -> Result<Vec<Option<Name>>, AllocError>
     Ok(letters)
 }
 
-/// A word in which each letter is replaced by what it stands for.
+/// The word with each bound letter replaced by its value.
 pub fn replaced(alloc: Global, letters: &[Option<Name>], word: &[u8]) -> Result<Name, AllocError>
     requires { length letters.now ≡ 256 }
     ensures { IfOk result (λ name. name ≡ spec.replaced letters.now word.now) }
@@ -28,7 +28,7 @@ pub fn replaced(alloc: Global, letters: &[Option<Name>], word: &[u8]) -> Result<
     Name::new(alloc, bytes.as_slice())
 }
 
-// Puts what stands in the place of a byte after the bytes.
+// Appends the replacement of a byte.
 fn push_replaced(bytes: &mut Vec<u8>, letters: &[Option<Name>], byte: u8) -> Result<(), AllocError>
     requires { length letters.now ≡ 256 }
     ensures { OnOk result (bytes.new.items ≡ bytes.old.items ++ spec.byte_replaced letters.now byte) }

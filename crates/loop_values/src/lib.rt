@@ -1,7 +1,7 @@
-//! Loops as lists of instances: the values of a header's indexes, what its letters stand for in each instance, and words in
-//! which letters are replaced by what they stand for.
+//! Loops as lists of instances: the values of a header's indexes, the bindings of letters in each
+//! instance, and the substitution of letters in words.
 //!
-//! This crate stands on the trees and knows nothing of what is done with a loop's body.
+//! Uses the trees of headers. Knows nothing of the bodies of loops.
 #![tactic(auto)]
 
 mod header;

@@ -1,4 +1,5 @@
-//! Indexes of one value, which have one instance together.
+//! Indexes of one value, which together have one instance. They are bound in place, since a copy of
+//! the bindings of all 256 letters would cost more.
 ghost use Rattle.std.specs.Prelude.{◌≡◌, ◌≤◌, ◌∷◌, ◌++◌, [], List, All, IfOk, IfSome, OnOk, length, slice_set, take};
 ghost use Rattle.m_ast.specs.declared.header.Index.{Index};
 ghost use Rattle.loop_values.specs.Headers as spec;
@@ -11,7 +12,7 @@ use m_places::Name;
 use std::alloc::{AllocError, Global};
 use std::mem::replace;
 
-/// How many indexes at the start have one value each. Takes no memory.
+/// The number of indexes at the start that have one value each. Takes no memory.
 pub fn single_count(indexes: &[Index]) -> usize
     ensures within { result ≤ length indexes.now }
     ensures single { All spec.IsSingle (take result indexes.now) }
@@ -26,9 +27,9 @@ pub fn single_count(indexes: &[Index]) -> usize
     count
 }
 
-/// Lets the letter of each of these indexes of one value stand for that value, and answers what the letters stood for, in the
-/// order of the indexes: the instances of these indexes and of others after them are those of the others there. Its only error
-/// is running out of memory.
+/// Binds the letter of each of these indexes to its only value, and returns the previous bindings
+/// in the order of the indexes. The instances of any further indexes are then those of all. The
+/// only error is out of memory.
 pub fn bind_singles(
     alloc: Global,
     letters: &mut [Option<Name>],
@@ -49,8 +50,7 @@ pub fn bind_singles(
     Ok(outer)
 }
 
-/// Lets the letter of each index stand for what it stood for outside of the indexes, from the last one to the first. Takes no
-/// memory.
+/// Restores the previous bindings, from the last index to the first. Takes no memory.
 pub fn put_back(letters: &mut [Option<Name>], indexes: &[Index], outer: Vec<Option<Name>>)
     requires letters { length letters.old ≡ 256 }
     requires as_many { length outer.items ≡ length indexes.now }
@@ -74,7 +74,7 @@ fn put(letters: &mut [Option<Name>], letter: u8, value: Option<Name>)
     letters[letter as usize] = value;
 }
 
-/// The value of an index that has one. Its only error is running out of memory.
+/// The value of an index that has one. The only error is out of memory.
 pub fn only_value(alloc: Global, index: &Index) -> Result<Name, AllocError>
     requires { spec.IsSingle index.now }
     ensures { IfOk result (λ value. index_values index.now ≡ value ∷ []) }
@@ -85,7 +85,7 @@ pub fn only_value(alloc: Global, index: &Index) -> Result<Name, AllocError>
     }
 }
 
-// The value of an index, where it is written as one point.
+// The value of an index that is written as one point.
 fn point(index: &Index) -> Option<&Name>
     ensures { IfSome result (λ value. index_values index.now ≡ value.now ∷ []) }
 {
@@ -101,7 +101,7 @@ fn point(index: &Index) -> Option<&Name>
     }
 }
 
-// The value of an index that has one, however it is written.
+// The value of an index that has one, in any notation.
 fn last_value(alloc: Global, index: &Index) -> Result<Name, AllocError>
     requires { spec.IsSingle index.now }
     ensures { IfOk result (λ value. index_values index.now ≡ value ∷ []) }

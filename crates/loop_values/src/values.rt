@@ -13,11 +13,12 @@ use m_places::Name;
 use m_places::limits::PARTS;
 use std::alloc::{AllocError, Global};
 
-/// More instances than a loop, or than a base has parts for. Counts stop here.
+/// One more than the maximal number of parts of a base, and thus too many for a loop too. Counts
+/// saturate here.
 pub const MANY: u64 = PARTS as u64 + 1;
 
-/// The values of an index, in the order in which they are written: of `i = V, 1..2` they are V, 1, 2. Its only error
-/// is running out of memory.
+/// The values of an index, in the order of the source: V, 1, 2 for `i = V, 1..2`. The only error is
+/// out of memory.
 pub fn index_values(alloc: Global, index: &Index) -> Result<Vec<Name>, AllocError>
     ensures { IfOk result (λ values. values.items ≡ spec.index_values index.now) }
 {
@@ -28,7 +29,7 @@ pub fn index_values(alloc: Global, index: &Index) -> Result<Vec<Name>, AllocErro
     Ok(values)
 }
 
-/// How many values an index has, or `MANY` where it has more.
+/// The number of values of an index, or `MANY` if it is more.
 pub fn index_count(index: &Index) -> u64
     ensures { result ≡ min (length (spec.index_values index.now)) MANY }
 {
@@ -51,7 +52,7 @@ pub fn has_bad_span(index: &Index) -> bool
     false
 }
 
-// Puts the values between two points after values.
+// Appends the values of a span.
 fn push_values(alloc: Global, values: &mut Vec<Name>, span: &Span) -> Result<(), AllocError>
     ensures { OnOk result (values.new.items ≡ values.old.items ++ spec.span_values span.now) }
 {
@@ -99,7 +100,7 @@ fn push_letters(alloc: Global, values: &mut Vec<Name>, from: u8, to: u8) -> Resu
     Ok(())
 }
 
-// How many values stand between two points.
+// The number of values of a span.
 fn span_count(span: &Span) -> u64
     ensures count { result ≡ length (spec.span_values span.now) }
     ensures few { result ≤ 1000000000 }
@@ -136,14 +137,14 @@ fn letters_count(from: u8, to: u8) -> u64
     (to + 1).saturating_sub(from) as u64
 }
 
-// Whether two points have no values between them.
+// Whether a span has no values.
 fn is_bad_span(span: &Span) -> bool
     ensures { result ≡ spec.is_bad_span span.now }
 {
     span_count(span) == 0
 }
 
-/// Whether a word is one digit or more, and nothing else.
+/// Whether a word consists of one digit or more.
 pub fn is_digits(word: &[u8]) -> bool
     ensures { result ≡ is_digits word.now }
 {
@@ -156,7 +157,7 @@ fn only_digits(word: &[u8]) -> bool
     word.iter().all(|byte| byte.is_ascii_digit())
 }
 
-// Whether a point is one to nine digits.
+// Whether a word consists of one to nine digits.
 fn is_whole(word: &[u8]) -> bool
     ensures test { result ≡ spec.is_whole word.now }
     ensures short { OnTrue result (length word.now ≤ 9) }
@@ -165,7 +166,7 @@ fn is_whole(word: &[u8]) -> bool
     is_digits(word) && word.len() <= 9
 }
 
-// Whether a point is one letter from A to Z.
+// Whether a word is one letter from A to Z.
 fn is_capital(word: &[u8]) -> bool
     ensures test { result ≡ spec.is_capital word.now }
     ensures one { OnTrue result ((length word.now ≡ 1) × (slice_index word.now 0 ≤ 90)) }
@@ -176,7 +177,7 @@ fn is_capital(word: &[u8]) -> bool
     }
 }
 
-/// The number that at most twelve digits spell.
+/// The number that at most twelve digits denote.
 pub fn number(word: &[u8]) -> u64
     requires digits { IsTrue (only_digits word.now) }
     requires short { length word.now ≤ 12 }
@@ -190,7 +191,7 @@ pub fn number(word: &[u8]) -> u64
     number
 }
 
-// A number with at least so many digits, zeros before it.
+// A number, padded with zeros to at least `width` digits.
 fn number_word(alloc: Global, width: usize, n: u64) -> Result<Name, AllocError>
     ensures { IfOk result (λ word. word ≡ spec.number_word width n) }
 {

@@ -1,4 +1,4 @@
--- What the laws say of the answers of the public calls.
+-- The results of the public calls, from the laws of declarations and applications.
 use Rattle.std.proofs.Common.{◌≡◌, ◌<◌, ◌≤◌, ◌-◌, ℕ, Bool, true, false, List, [], ◌∷◌, length, drop, Option, Some, None, Result, Ok, Err, refl, sym, ap, ◌∙◌}
 use Rattle.std.proofs.Common.{subst, arith}
 use Rattle.std.specs.Result.{IsErrAnd}
@@ -27,7 +27,7 @@ use Rattle.m_items.proofs.DeclarationPassLaws.{applications_passes, declaration_
 use Rattle.m_items.proofs.DeclarationCompleteLaws.{applications_complete, declaration_complete}
 use Rattle.m_items.proofs.FirstTokens.{key_begins}
 
--- a fault of the inner reader, handed on
+-- an error of the inner reader, propagated
 pub failed : {A B : Type 0} {p : Option A} (good : B → Type 0) {bad : Type 0} (result : Result B ItemFault) (e : ItemFault) → IsErrAnd result (λ x. x ≡ e)
     → (p ≡ None → bad) → Fails e p → Outcome Memory result good (λ fault. bad)
 failed good (Ok x) e h k f = absurd h
@@ -41,7 +41,7 @@ found {P = P} {x = x} (here {x = y} p) e = let f : y ≡ x = cc in subst P f p
 same : {A : Type 0} {x y : A} → Some x ≡ Some y → x ≡ y
 same e = cc
 
--- what is left, by its position
+-- the remaining tokens, by their position
 record Left (tokens rest : List Token) : Type 0 where
   some : 0 < length tokens - length rest
   within : length tokens - length rest ≤ length tokens

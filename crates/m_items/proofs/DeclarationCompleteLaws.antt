@@ -1,4 +1,4 @@
--- What is spelled is read so.
+-- Completeness: every spelling is read.
 use Rattle.std.proofs.Common.{◌≡◌, ◌≤◌, ℕ, zero, suc, ℤ, true, List, [], ◌∷◌, ◌++◌, length, Option, Some, None, inl, inr, refl, ap, ◌∙◌, append_assoc, arith}
 use Rattle.std.proofs.lemmas.List.{append-nil}
 use Rattle.m_places.specs.declared.place.Place.{Place}
@@ -45,7 +45,7 @@ unfolding number_at
 number_complete without h = rw h refl
 number_complete (with_one s d) h = rw (open_complete s, amount_complete d) refl
 
--- what ends attributes
+-- tokens at which attributes end
 record Ends (ts : List Token) : Type 0 where
   no_word : open_at word ts ≡ None
   no_equal : sign_at signs.Equal ts ≡ None
@@ -115,7 +115,7 @@ ends_before_sign b = record { no_word = nothing_opened word_of b refl; no_equal 
 end_first : {w : Option (List ℕ)} {ts rest : List Token} → SpellsEnd w ts rest → BeginsWith (Sign signs.Colon) ts
 end_first (ending s d e f) = sign_first signs.Colon s
 
--- a computed variable begins with neither of the other words
+-- a computed variable begins with neither `saisie` nor `const`
 record IsComputed (ts : List Token) : Type 0 where
   no_input : key_at keys.Saisie ts ≡ None
   no_constant : key_at keys.Const ts ≡ None

@@ -1,4 +1,4 @@
--- What is spelled takes tokens from the start.
+-- A spelling takes at least one token.
 use Rattle.std.proofs.Common.{ℕ, ℤ, List, Option}
 use Rattle.m_lexer.specs.declared.token.Token.{Token}
 use Rattle.m_lexer.specs.declared.token.Sign.TheVariants as signs
@@ -15,7 +15,7 @@ amount_passes : Passes SpellsAmount
 amount_passes _ _ _ (positive d) = first_passes d
 amount_passes _ _ _ (negative s d) = over (first_passes s) (first_passes d)
 
--- Parts that may be empty, after others.
+-- Optional parts, after others.
 pub number_on : {z : Option ℤ} {ts mid rest : List Token} → Behind mid ts → SpellsNumber z mid rest → Behind rest ts
 number_on b without = b
 number_on b (with_one s d) = over b (over (first_passes s) (amount_passes _ _ _ d))

@@ -1,4 +1,4 @@
--- What is read is spelled so.
+-- Soundness: what is read is a spelling.
 use Rattle.std.proofs.Common.{◌≡◌, ℕ, Bool, true, false, cond, List, [], length, Option, Some, None, inl, inr, refl, sym, subst}
 use Rattle.std.specs.Prelude.{◌==◌, ◌||◌}
 use Rattle.std.proofs.lemmas.Bool.{eqb-true}
@@ -68,7 +68,7 @@ size_sound : Sound SpellsSize size_at
 unfolding size_at
 size_sound ts = choose_each (open_each (is_key keys.Tableau) ts) (here no_table) (λ o k. cells_sound k)
 
--- Items: each is what the tokens from a place on spell.
+-- Items: each is what the tokens from a position on spell.
 abbrev Declares : List Token → Item × List Token → Type 0
 Declares from o = SpellsDeclaration o.0 from o.1
 

@@ -1,4 +1,4 @@
--- What the readers of terms and headers answer is what reading gives.
+-- The readers of terms and headers return what the reading functions give.
 use Rattle.std.proofs.Common.{◌≡◌, ◌<◌, ℕ, Bool, true, false, cond, List, drop, Option, Some, None, refl, lit<, arith}
 use Rattle.m_places.specs.declared.limits.TheConstants.{BRACKET_DEPTH}
 use Rattle.m_lexer.specs.declared.token.Token.{Token}

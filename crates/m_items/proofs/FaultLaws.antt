@@ -1,4 +1,4 @@
--- What reading says of the whole list, and that it says one thing.
+-- The result of parsing a whole file, and that it is unique.
 use Rattle.std.proofs.Common.{◌≡◌, ◌≢◌, ◌⊎◌, inl, inr, List, [], ◌∷◌, Option, Some, None, refl, sym, ap, ◌∙◌, subst, arith}
 use Rattle.std.specs.Prelude.{All}
 use Rattle.m_places.specs.declared.place.Place.{Place}
@@ -16,7 +16,7 @@ use Rattle.m_items.specs.Faults.{IsShallow, IsLongest, StopsAt, IsParseFault}
 use Rattle.m_items.specs.inner.Reading.{items_at}
 use Rattle.m_items.proofs.ListLaws.{items_read, items_longest, items_same}
 
--- What the reading of items is.
+-- The result of reading items.
 pub read_all : (ts : List Token) {items : List Item} {rest : List Token} → items_at ts ≡ (items, rest) → rest ≡ [] → SpellsItems items ts []
 read_all ts {items} {rest} e f = subst (λ r. SpellsItems items ts r) f (subst (λ (x : List Item × List Token). SpellsItems x.0 ts x.1) e (items_read ts))
 
@@ -45,7 +45,7 @@ item_whole _ _ _ (a_verification d) = verification_whole d
 pub items_whole : {items : List Item} {ts rest : List Token} → SpellsItems items ts rest → All IsWholeItem items
 items_whole d = many_each SpellsItem IsWholeItem item_whole d
 
--- One reading.
+-- Uniqueness.
 longest_read : {ts : List Token} {items : List Item} {rest : List Token} → SpellsItems items ts rest → IsLongest ts rest → items_at ts ≡ (items, rest)
 longest_read {ts} {rest = rest} d h =
     let short = items_longest ts _ _ d in

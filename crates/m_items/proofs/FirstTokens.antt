@@ -1,4 +1,4 @@
--- What the first token is, where a table says something of it, and so what other tables say of it.
+-- The kind of the first token, if one table is defined at it, and which other tables then aren't.
 use Rattle.std.proofs.Common.{◌≡◌, ℕ, ℤ, Bool, true, false, cond, List, ◌∷◌, Option, Some, None, refl, ap}
 use denote.Enum.Bare.{same_true}
 use Rattle.m_places.specs.declared.place.Place.{Place}
@@ -22,7 +22,7 @@ use Rattle.m_items.specs.Tokens.{SpellsKey, SpellsKeyAt}
 pub data BeginsWith (k : Kind) : List Token → Type 0 where
   begins_with : {t : Token} {ts : List Token} → t.kind ≡ k → BeginsWith k (t ∷ ts)
 
--- so a table by kinds that says nothing of it opens nothing
+-- so a table that isn't defined at this kind reads nothing
 pub nothing_opened : {B : Type 0} (table : Kind → Option B) {k : Kind} {ts : List Token} → BeginsWith k ts → table k ≡ None
     → open_at (λ (t : Token). table t.kind) ts ≡ None
 nothing_opened table (begins_with e) h = rw (e, h) refl
@@ -127,6 +127,6 @@ place_meaning : (o : Option (Unit {0})) (p q : Place) → place_where o p ≡ So
 place_meaning None p q e = absurd (cc)
 place_meaning (Some b) p q e = refl
 
--- a reserved word with its place, without it
+-- a reserved word with its place, as one without
 pub key_begins : (k : AKey) {p : Place} {ts rest : List Token} → SpellsKeyAt k p ts rest → SpellsKey k ts rest
 key_begins k {p} (first {t = t} e) = first (place_meaning (kind_is_key k t.kind) t.place p e)

@@ -1,4 +1,4 @@
--- The law of items: what is read is spelled so, and reading goes on along all that is spelled, and maybe further.
+-- Items: reading is sound, and reads at least as far as any spelling does.
 use Rattle.std.proofs.Common.{◌≡◌, ◌<◌, ℕ, Bool, true, false, cond, List, ◌∷◌, length, Option, Some, None, refl}
 use Rattle.m_places.specs.declared.place.Place.{Place}
 use Rattle.m_lexer.specs.declared.token.Token.{Token}
@@ -40,7 +40,7 @@ use Rattle.m_items.proofs.RunLaws.{RunsOn, just, beyond, rule_runs, verification
 use Rattle.m_items.specs.Grammar.{SpellsItem, a_declaration, a_rule, a_verification}
 use Rattle.m_items.specs.inner.Reading.{item_at}
 
--- What is read is spelled so, and whole, and takes tokens.
+-- What is read is a spelling, is whole, and takes at least one token.
 either_each : {A : Type 0} {P : A → Type 0} (b : Bool) {x y : Option A} → Each P x → Each P y → Each P (cond b x y)
 either_each true p q = p
 either_each false p q = q
@@ -61,7 +61,7 @@ item_passes _ _ _ (a_declaration d) = declaration_passes _ _ _ d
 item_passes _ _ _ (a_rule d) = rule_passes _ _ _ d
 item_passes _ _ _ (a_verification d) = verification_passes _ _ _ d
 
--- How items begin.
+-- The first tokens of items.
 begun : (k : AKey) (ts : List Token) {p : Place} {rest : List Token} → SpellsKeyAt k p ts rest → begins_by (is_key k) ts ≡ true
 begun k ts d = rw (open_complete (key_begins k d)) refl
 
@@ -106,12 +106,12 @@ verification_at_front : {v : VerifItem} (ts : List Token) {rest : List Token} �
 unfolding item_at
 verification_at_front ts d = rw (no_rule_verified ts d, verification_begins ts d) refl
 
--- Where a formula or a check begins no item does.
+-- No item begins with a formula or a check.
 no_item : (ts : List Token) → key_at keys.Regle ts ≡ None → key_at keys.Verif ts ≡ None → declaration_at ts ≡ None → item_at ts ≡ None
 unfolding item_at
 no_item ts h g e = rw (not_begun keys.Regle ts h, not_begun keys.Verif ts g) e
 
--- after another reserved word
+-- after a reserved word that begins no item
 no_name : {k : AKey} {ts : List Token} → BeginsWith (Key k) ts → open_at name ts ≡ None
 no_name (begins_with e) = rw e refl
 
@@ -151,7 +151,7 @@ formula_no_item (formula (further {t = t} {b = b} {ts = ts} o l c) d s q f g) = 
 check_no_item : {c : CheckItem} {ts rest : List Token} → SpellsCheck c ts rest → item_at ts ≡ None
 check_no_item {ts = ts} (check d e f g h w s) = no_item_at_key keys.Si ts (key_place_first keys.Si d) refl refl refl refl
 
--- what is read is the item up to r; or it goes on from there, and no item begins at r
+-- reading gives the item up to r; or it continues after r, and no item begins at r
 pub data ItemRuns (i : Item) (ts r : List Token) : Type 0 where
   exact : item_at ts ≡ Some (i, r) → ItemRuns i ts r
   longer : (j : Item) (m : List Token) → item_at ts ≡ Some (j, m) → length m < length r → item_at r ≡ None → ItemRuns i ts r

@@ -1,4 +1,4 @@
--- The law of lists of items: reading item after item reads the longest prefix that spells items.
+-- Lists of items: reading one item after another gives the longest prefix that parses as items.
 use Rattle.std.proofs.Common.{◌≡◌, ◌<◌, ◌≤◌, List, [], ◌∷◌, ◌++◌, length, Option, Some, None, refl, sym, subst, append_assoc, arith}
 use Rattle.std.proofs.lemmas.List.{append-nil}
 use Rattle.m_lexer.specs.declared.token.Token.{Token}
@@ -20,7 +20,7 @@ shorter ts e = behind_shorter (item_passes _ _ _ (found_at (item_sound ts) e))
 shrinks : {whole : List Item × List Token} {done : List Item} {ts : List Token} → Going item_at whole done ts → length whole.1 ≤ length ts
 shrinks g = going_shrinks SpellsItem item_at item_sound item_passes g
 
--- all is read so up to r, or reading ends after r
+-- all of these are read up to r, or reading ends after r
 data ListRuns (whole : List Item × List Token) (done : List Item) (r : List Token) : Type 0 where
   along : Going item_at whole done r → ListRuns whole done r
   past : length whole.1 < length r → ListRuns whole done r
@@ -66,7 +66,7 @@ ends_there : {whole : List Item × List Token} {ys : List Item} {r : List Token}
 ends_there g h None e = many_stop item_at g e
 ends_there g h (Some x) e = absurd (let less = shorter _ e in let short = shrinks (many_turn item_at g e less) in omega (arith, less, short, h))
 
--- what is spelled up to where reading ends is what is read
+-- a spelling up to the end of reading is what is read
 pub items_same : {ys : List Item} {ts r : List Token} → SpellsItems ys ts r → length (items_at ts).1 ≡ length r → items_at ts ≡ (ys, r)
 items_same {ys} {ts} {r} d h = go (from_start d)
   where

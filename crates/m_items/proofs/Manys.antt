@@ -1,10 +1,11 @@
--- A loop over what stands any number of times: what is done, and what the rest adds, is the whole.
+-- A loop over a repeated part: the invariant is that the finished parts and those that the rest
+-- adds are the whole.
 use Rattle.std.proofs.Common.{◌≡◌, ◌≤◌, ◌<◌, ℕ, zero, suc, List, [], ◌∷◌, ◌++◌, length, Option, Some, None, refl, sym, ap, ◌∙◌, arith}
 use Rattle.m_lexer.specs.declared.token.Token.{Token}
 use Rattle.m_items.specs.inner.RuleReading.{many_at, one_or_more_at}
 
 module _ {A : Type 0} (p : List Token → Option (A × List Token)) where
-  -- with these done at ts, all is the whole
+  -- at ts, with these parts finished, the result will be the whole
   pub record Going (whole : List A × List Token) (done : List A) (ts : List Token) : Type 0 where
     pub left : ℕ
     pub enough : length ts ≤ left
@@ -30,7 +31,7 @@ module _ {A : Type 0} (p : List Token → Option (A × List Token)) where
         go zero = refl
         go (suc n) = rw r refl
 
-  -- from these tokens on one, and these after it, are done at ts
+  -- one part from these tokens on, and the ones after it, are finished at ts
   pub record Begun (from : List Token) (done : List A) (ts : List Token) : Type 0 where
     pub whole : List A × List Token
     pub all : one_or_more_at p from ≡ Some whole

@@ -1,4 +1,4 @@
--- With one rest there is one list of items.
+-- Uniqueness: up to a given rest there is at most one list of items.
 use Rattle.std.proofs.Common.{◌≡◌, ◌<◌, ◌≤◌, Bool, true, false, List, [], ◌∷◌, length, Some, None, refl, sym, ap, ◌∙◌, subst, arith}
 use Rattle.m_lexer.specs.declared.token.Token.{Token}
 use Rattle.m_ast.specs.declared.item.Item.{Item}
@@ -34,7 +34,7 @@ shrinks : {xs : List Item} {ts r : List Token} → SpellsItems xs ts r → lengt
 shrinks no_more = omega arith
 shrinks (one_more d e) = omega (arith, behind_shorter (item_passes _ _ _ d), shrinks e)
 
--- where no item begins a list of items is at its end
+-- where no item begins, a list of items is at its end
 none_left : {xs : List Item} {ts r : List Token} → item_at ts ≡ None → SpellsItems xs ts r → (xs ≡ []) × (ts ≡ r)
 none_left none no_more = (refl, refl)
 none_left none (one_more d e) = absurd (stuck d none)

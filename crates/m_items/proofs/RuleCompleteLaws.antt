@@ -1,4 +1,4 @@
--- What is spelled is read so.
+-- Completeness: every spelling is read.
 use Rattle.std.proofs.Common.{◌≡◌, ℕ, Bool, List, [], ◌∷◌, length, Some, None, refl, arith}
 use Rattle.m_places.specs.declared.place.Place.{Place}
 use Rattle.m_lexer.specs.declared.token.Token.{Token}
@@ -106,7 +106,7 @@ pub formula_complete : {f : Formula} {ts rest : List Token} → SpellsFormula f 
 unfolding formula_at
 formula_complete (formula l d e s f g) = rw (loops_complete l (placed_word_first d), open_complete d, slot_complete e s, set_complete s f g) refl
 
--- how a formula begins
+-- the first token of a formula
 pub data FormulaBegins (ts : List Token) : Type 0 where
   with_pour : BeginsWith (Key keys.Pour) ts → FormulaBegins ts
   with_word : BeginsWithWord ts → FormulaBegins ts

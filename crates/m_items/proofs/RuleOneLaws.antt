@@ -1,4 +1,4 @@
--- With one rest there is one rule, and one verification.
+-- Uniqueness: up to a given rest there is at most one rule, and one verification.
 use Rattle.std.proofs.Common.{◌≡◌, ◌≤◌, Bool, List, ◌∷◌, length, Option, Some, refl, sym, ap, ◌∙◌, subst, arith}
 use Rattle.m_lexer.specs.declared.token.Token.{Token}
 use Rattle.m_ast.specs.declared.item.Formula.{Formula}

@@ -1,4 +1,4 @@
--- What is spelled takes tokens from the start.
+-- A spelling takes at least one token.
 use Rattle.std.proofs.Common.{ℕ, Bool, List}
 use Rattle.m_places.specs.declared.limits.TheConstants.{BRACKET_DEPTH}
 use Rattle.m_lexer.specs.declared.token.Token.{Token}
@@ -20,7 +20,7 @@ use Rattle.m_items.specs.RuleGrammar.{SpellsChaining, unchained, chained, Spells
 term_passes : Passes SpellsTerm
 term_passes = expr_passes (SpellsInner BRACKET_DEPTH) (inner_passes BRACKET_DEPTH)
 
--- Parts that may be empty, after others.
+-- Optional parts, after others.
 pub many_on : {A : Type 0} (R : A → List Token → List Token → Type 0) → Passes R → {xs : List A} {ts mid rest : List Token} → Behind mid ts → Many R xs mid rest
     → Behind rest ts
 many_on R passes b no_more = b

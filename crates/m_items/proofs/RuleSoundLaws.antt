@@ -1,4 +1,4 @@
--- What is read is spelled so.
+-- Soundness: what is read is a spelling.
 use Rattle.std.proofs.Common.{◌≡◌, ℕ, zero, suc, Bool, true, false, cond, List, [], ◌∷◌, ◌++◌, length, Option, Some, None, refl, sym, ◌∙◌, subst, append_assoc}
 use Rattle.std.proofs.lemmas.List.{append-nil}
 use Rattle.m_places.specs.declared.limits.TheConstants.{BRACKET_DEPTH}
@@ -42,7 +42,7 @@ headed_sound : Sound SpellsHeader headed_at
 unfolding headed_at
 headed_sound ts = bind_each (header_sound ts) (λ h d. kept (begins_by (is_sign signs.Colon) h.1) h d)
 
--- What stands any number of times.
+-- Repeated parts.
 
 -- the words at the start
 pub record Words (ts : List Token) (rest : List Token) : Type 0 where
@@ -58,7 +58,7 @@ words_sound (t ∷ ts) = go (word t) refl (words_sound ts)
     go None e h = record { words = []; many = no_more }
     go (Some w) e h = record { words = w ∷ h.words; many = one_more (first e) h.many }
 
--- what many_at reads
+-- the result of many_at
 pub record ManyRead {A : Type 0} (R : A → List Token → List Token → Type 0) (done : List A) (ts : List Token) (out : List A × List Token) : Type 0 where
   pub others : List A
   pub all : out.0 ≡ done ++ others

@@ -1,4 +1,4 @@
--- Reading goes on along all that is spelled, and maybe further: the law of rules and verifications.
+-- Reading follows every spelling, and may continue after it: rules and verifications.
 use Rattle.std.proofs.Common.{◌≡◌, ◌≤◌, ◌<◌, Bool, List, [], ◌∷◌, ◌++◌, length, Option, Some, None, refl, sym, ap, ◌∙◌, subst, append_assoc, arith}
 use Rattle.std.proofs.lemmas.List.{append-nil}
 use Rattle.m_lexer.specs.declared.token.Token.{Token}
@@ -18,7 +18,7 @@ use Rattle.m_items.proofs.RuleSoundLaws.{many_sound, formula_sound, check_sound}
 use Rattle.m_items.proofs.RulePassLaws.{formula_passes, check_passes}
 use Rattle.m_items.proofs.RuleCompleteLaws.{head_complete, formula_complete, chaining_complete, check_complete}
 
--- what is read is the tree x up to r; or it goes on from there, where a further R begins
+-- reading gives the tree x up to r; or it continues after r, where another R begins
 pub data RunsOn {A X : Type 0} (R : A → List Token → List Token → Type 0) (read : Option (X × List Token)) (x : X) (r : List Token) : Type 0 where
   just : read ≡ Some (x, r) → RunsOn R read x r
   beyond : (y : X) (m : List Token) (z : A) (s : List Token) → read ≡ Some (y, m) → length m < length r → R z r s → RunsOn R read x r
@@ -36,7 +36,7 @@ module _ {A : Type 0} (R : A → List Token → List Token → Type 0) (p : List
   going_shrinks {done = done} {ts = ts} g = let q = many_shrinks (many_sound R p sound g.left done ts).many in let e = ap
       (λ (w : List A × List Token). length w.1) g.same in omega (arith, q, e)
 
-  -- R has one reading, which p gives
+  -- R has one reading, and p gives it
   module _ (complete : (x : A) (ts rest : List Token) → R x ts rest → p ts ≡ Some (x, rest)) where
     many_going : {whole : List A × List Token} {xs : List A} {ts r : List Token} → Many R xs ts r → (done : List A) → Going p whole done ts
         → Going p whole (done ++ xs) r

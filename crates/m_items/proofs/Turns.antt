@@ -1,4 +1,4 @@
--- A loop over attributes, of which the code keeps two lists.
+-- The loop over attributes, which the code keeps in two lists.
 use Rattle.std.proofs.Common.{◌≡◌, ◌<◌, ℕ, ℤ, List, [], ◌∷◌, ◌++◌, length, Option, Some, None, refl, sym, ◌∙◌, ap}
 use Rattle.std.proofs.lemmas.List.Elements.{filter_map-append}
 use Rattle.std.proofs.lemmas.List.{append-nil}
@@ -9,7 +9,7 @@ use Rattle.m_items.specs.Tokens.{word}
 use Rattle.m_items.specs.DeclarationGrammar.{Attribute, attribute, Attributes, attributes_of, no_attributes, word_without, pair_with}
 use Rattle.m_items.specs.inner.DeclarationReading.{number_at, attributes_at, lists_at, with_one_more}
 
--- one attribute more
+-- one more attribute
 more_sorted : (done : List Attribute) (w : List ℕ) (z : Option ℤ) → attributes_of (done ++ attribute w z ∷ []) ≡ with_one_more (attributes_of done) w z
 more_sorted done w None = rw (
   filter_map-append (λ (a : Attribute). word_without a.0 a.1) done (attribute w None ∷ []),
@@ -24,7 +24,7 @@ more_sorted done w (Some z) = rw (
   append-nil,
 ) refl
 
--- with these lists at ts, the attributes from the first token on are the whole
+-- at ts, with these lists, the result will be the attributes from the first token on
 pub record Sorting (from : List Token) (lists : Attributes) (ts : List Token) : Type 0 where
   pub done : List Attribute
   pub sorted : lists ≡ attributes_of done

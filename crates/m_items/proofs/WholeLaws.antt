@@ -1,4 +1,4 @@
--- What is spelled is whole: no chain has one operand alone, and no list in a term is empty.
+-- Every spelling is whole: each chain has two operands or more, and no list in a term is empty.
 use Rattle.std.proofs.Common.{◌≢◌, ℕ, zero, suc, List, [], ◌∷◌, Option, subst, sym}
 use Rattle.std.specs.Prelude.{All}
 use Rattle.std.proofs.lemmas.List.Elements.{All-nil, All-cons}

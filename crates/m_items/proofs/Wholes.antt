@@ -28,7 +28,7 @@ digit_at [] i h below = absurd (omega arith)
 digit_at (c ∷ cs) zero h below = (both _ _ h).0
 digit_at (c ∷ cs) (suc i) h below = digit_at cs i (both _ _ h).1 (omega arith)
 
--- one digit more
+-- one more digit
 pub value_more : (ds : List ℕ) (i : ℕ) → IsShort ds → i < length ds
     → digits_value 10 (take (i + 1) ds) ≡ digits_value 10 (take i ds) * 10 + (get_or ds i 0 - 48)
 value_more ds i h below =

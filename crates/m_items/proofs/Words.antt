@@ -1,4 +1,4 @@
--- Words that say nothing: a loop over them, and what stands after them.
+-- The loop over the words of a head, which have no meaning, and the tokens after them.
 use Rattle.std.proofs.Common.{◌≡◌, ℕ, List, [], ◌∷◌, Option, Some, None, refl, ap}
 use Rattle.m_lexer.specs.declared.token.Token.{Token}
 use Rattle.m_lexer.specs.inner.Chains.{open_at, choose}

@@ -1,8 +1,8 @@
--- How the items of a rule file that have no terms are spelled: variables, errors, and items without effect.
+-- The grammar of items without terms: variables, errors, and items without effect.
 --
--- In each relation the last two arguments are tokens: `SpellsVariable v ts rest` says that ts begin with a spelling of the
--- variable v and go on with rest. Each premise of a constructor is one symbol of its production, with the tokens before
--- and after it.
+-- The last two arguments of each relation are tokens: `SpellsVariable v ts rest` means that a
+-- prefix of ts parses as the variable v, and rest follows it. Each premise of a constructor is one
+-- symbol of its production, with the tokens before and after it.
 use Rattle.std.specs.Prelude.{◌≡◌, ◌⊎◌, ℕ, ℤ, neg_ℤ, List, [], length, Option, Some, None}
 use Rattle.std.specs.List.{filter_map}
 use Rattle.std.specs.Str.Parse.{digits_value}
@@ -21,7 +21,7 @@ use Rattle.m_lexer.specs.Chains.{First, Chain}
 use Rattle.m_terms.specs.Tokens.{is_sign, Joined}
 use Rattle.m_items.specs.Tokens.{word, name, whole, amount, text, error_kind, SpellsSign, SpellsKey, SpellsKeyAt}
 
--- [ "-" ] NUMBER: `-0.5` is the amount on the other side of zero
+-- [ "-" ] NUMBER: `-0.5` is the amount with the opposite sign
 pub data SpellsAmount : ℤ → List Token → List Token → Type 0 where
   positive : {z : ℤ} {ts rest : List Token} → First amount z ts rest → SpellsAmount z ts rest
   negative : {z : ℤ} {ts a rest : List Token} → SpellsSign signs.Minus ts a → First amount z a rest → SpellsAmount (neg_ℤ z) ts rest
@@ -60,7 +60,7 @@ pub data SpellsNumber : Option ℤ → List Token → List Token → Type 0 wher
 abbrev pub Attributes : Type 0
 Attributes = List (List ℕ) × List (List ℕ × ℤ)
 
--- of `restituee classe = 0 base` they are `restituee` and `base`, and `classe` with 0
+-- for `restituee classe = 0 base` they are `restituee` and `base`, and `classe` with 0
 abbrev pub attributes_of : List Attribute → Attributes
 attributes_of xs = (words_of xs, pairs_of xs)
 
@@ -82,7 +82,7 @@ pub data SpellsType : Option (List ℕ) → List Token → List Token → Type 0
   no_type : {ts : List Token} → SpellsType None ts ts
   a_type : {w : List ℕ} {ts a rest : List Token} → SpellsKey keys.TypeKey ts a → First word w a rest → SpellsType (Some w) ts rest
 
--- ":" TEXT [ "type" WORD ] ";" of which the text says nothing
+-- ":" TEXT [ "type" WORD ] ";" where the text has no meaning
 pub data SpellsEnd : Option (List ℕ) → List Token → List Token → Type 0 where
   ending : {x : List ℕ} {w : Option (List ℕ)} {ts a b c rest : List Token}
       → SpellsSign signs.Colon ts a → First text x a b → SpellsType w b c → SpellsSign signs.Semicolon c rest →

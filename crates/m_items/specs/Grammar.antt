@@ -1,5 +1,5 @@
--- How the items of a rule file are spelled. In each relation the last two arguments are tokens: `SpellsItem i ts rest` says
--- that ts begin with a spelling of the item i and go on with rest.
+-- The grammar of rule files. The last two arguments of each relation are tokens:
+-- `SpellsItem i ts rest` means that a prefix of ts parses as the item i, and rest follows it.
 use Rattle.std.specs.Prelude.{List}
 use Rattle.m_lexer.specs.declared.token.Token.{Token}
 use Rattle.m_ast.specs.declared.item.Item.{Item}
@@ -16,6 +16,6 @@ pub data SpellsItem : Item → List Token → List Token → Type 0 where
   a_rule : {r : RuleItem} {ts rest : List Token} → SpellsRule r ts rest → SpellsItem (Rule r) ts rest
   a_verification : {v : VerifItem} {ts rest : List Token} → SpellsVerification v ts rest → SpellsItem (Verif v) ts rest
 
--- file := { item } where nothing is left after the file
+-- file := { item } if no tokens follow it
 abbrev pub SpellsItems : List Item → List Token → List Token → Type 0
 SpellsItems = Many SpellsItem

@@ -1,4 +1,4 @@
--- What stands any number of times, one right after the other.
+-- Repetition without a separator.
 use Rattle.std.specs.Prelude.{List, [], ◌∷◌}
 use Rattle.m_lexer.specs.declared.token.Token.{Token}
 

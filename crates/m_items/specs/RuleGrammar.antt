@@ -1,8 +1,8 @@
--- How rules and verifications are spelled.
+-- The grammar of rules and verifications.
 --
--- In each relation the last two arguments are tokens: `SpellsFormula f ts rest` says that ts begin with a spelling of the
--- formula f and go on with rest. Each premise of a constructor is one symbol of its production, with the tokens before
--- and after it.
+-- The last two arguments of each relation are tokens: `SpellsFormula f ts rest` means that a prefix
+-- of ts parses as the formula f, and rest follows it. Each premise of a constructor is one symbol
+-- of its production, with the tokens before and after it.
 use Rattle.std.specs.Prelude.{ℕ, Bool, true, false, List}
 use Rattle.std.specs.Str.Parse.{digits_value}
 use Rattle.m_places.specs.declared.place.Place.{Place}
@@ -29,11 +29,12 @@ use Rattle.m_items.specs.declared.head.Head.{Head}
 
 -- The head of a rule or verification.
 
--- a number as it is spelled, the place of the first token, and the applications
+-- the number as spelled, the place of the first token, and the applications
 abbrev pub head_of : Place → List ℕ → List (List ℕ) → Head
 head_of p n names = record { number = n; place = p; applications = names }
 
--- ( "regle" | "verif" ) { WORD } WHOLE ":" apps ";" of which the words say nothing: `regle corrective 010 : application : iliad ;`
+-- ( "regle" | "verif" ) { WORD } WHOLE ":" apps ";" where the words have no meaning:
+-- `regle corrective 010 : application : iliad ;`
 pub data SpellsHead (k : AKey) : Head → List Token → List Token → Type 0 where
   head : {p : Place} {words : List (List ℕ)} {n : List ℕ} {names : List (List ℕ)} {ts a b c d e rest : List Token}
       → SpellsKeyAt k p ts a → Many (First word) words a b → First whole n b c → SpellsSign signs.Colon c d →
@@ -60,7 +61,7 @@ pub data SpellsSlot : Slot → List Token → List Token → Type 0 where
       → SpellsSign signs.OpenBracket ts a → First whole n a b → SpellsSign signs.CloseBracket b rest →
       SpellsSlot (Cell (digits_value 10 n)) ts rest
 
--- a formula for a word, which stands at its place
+-- a formula whose target is a word at this place
 abbrev pub formula_of : List Header → List ℕ × Place → Slot → Syntax → Formula
 formula_of loops w slot t = record { loops = loops; target = w.0; slot = slot; term = t; place = w.1 }
 
@@ -73,7 +74,7 @@ pub data SpellsFormula : Formula → List Token → List Token → Type 0 where
 
 -- Rules.
 
--- [ "enchaineur" ":" WORD ";" ]: whether it stands there
+-- [ "enchaineur" ":" WORD ";" ]: whether it is present
 pub data SpellsChaining : Bool → List Token → List Token → Type 0 where
   unchained : {ts : List Token} → SpellsChaining false ts ts
   chained : {w : List ℕ} {ts a b c rest : List Token}
@@ -95,7 +96,8 @@ pub data SpellsRule : RuleItem → List Token → List Token → Type 0 where
 abbrev pub check_of : Place → Syntax → List ℕ → CheckItem
 check_of p t error = record { condition = t; error = error; place = p }
 
--- check := "si" expr "alors" "erreur" WORD { WORD } ";" of which the first word is the error's and the others say nothing
+-- check := "si" expr "alors" "erreur" WORD { WORD } ";" where the first word is the error's name
+-- and the others have no meaning
 pub data SpellsCheck : CheckItem → List Token → List Token → Type 0 where
   check : {p : Place} {t : Syntax} {w : List ℕ} {words : List (List ℕ)} {ts a b c d e f rest : List Token}
       → SpellsKeyAt keys.Si p ts a → SpellsTerm t a b → SpellsKey keys.Alors b c → SpellsKey keys.Erreur c d →

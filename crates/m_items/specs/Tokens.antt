@@ -1,4 +1,5 @@
--- What a single token says to the grammar of items: a table from tokens to what they say, or none.
+-- The meaning of a single token in the grammar of items: each table is a partial function from
+-- tokens.
 use Rattle.std.specs.Prelude.{ℕ, ℤ, cond, List, Option, Some, None}
 use Rattle.m_places.specs.declared.place.Place.{Place}
 use Rattle.m_places.specs.declared.verification.ErrorKind.{ErrorKind}
@@ -12,27 +13,27 @@ use Rattle.m_lexer.specs.declared.token.Sign.{Sign as ASign}
 use Rattle.m_lexer.specs.Chains.{First}
 use Rattle.m_terms.specs.Tokens.{is_sign, is_key, is_name, is_whole}
 
--- what a token says, and its place
+-- the meaning of a token, with its place
 abbrev pub placed : {A : Type 0} → Option A → Place → Option (A × Place)
 placed (Some x) p = Some (x, p)
 placed None p = None
 
--- the place of a token that says something
+-- the place of a token that has a meaning
 abbrev pub place_where : {A : Type 0} → Option A → Place → Option Place
 place_where (Some x) p = Some p
 place_where None p = None
 
--- WORD, as `restituee`
+-- WORD, such as `restituee`
 abbrev pub word_of : Kind → Option (List ℕ)
 word_of (Word w) = Some w
 word_of _ = None
 
--- NAME, a word without a letter from a to z, as `REV` and `1AJ`
+-- NAME, a word without a letter from a to z, such as `REV` and `1AJ`
 abbrev pub name_of : Kind → Option (List ℕ)
 name_of (Word w) = cond (is_name w) (Some w) None
 name_of _ = None
 
--- WHOLE, one to nine digits without a point, as they are spelled: `010`
+-- WHOLE, one to nine digits without a point, as spelled: `010`
 abbrev pub whole_of : Kind → Option (List ℕ)
 whole_of (Number z n) = cond (is_whole n) (Some n) None
 whole_of _ = None
@@ -75,18 +76,18 @@ text t = text_of t.kind
 abbrev pub error_kind : Token → Option ErrorKind
 error_kind t = error_kind_of t.kind
 
--- a reserved word, by its place
+-- a reserved word, as its place
 abbrev pub key_place : AKey → Token → Option Place
 key_place k t = place_where (is_key k t) t.place
 
--- this sign is the first token
+-- the first token is this sign
 abbrev pub SpellsSign : ASign → List Token → List Token → Type 0
 SpellsSign s = First (is_sign s) tt
 
--- this reserved word is the first token
+-- the first token is this reserved word
 abbrev pub SpellsKey : AKey → List Token → List Token → Type 0
 SpellsKey k = First (is_key k) tt
 
--- this reserved word is the first token, and stands at this place
+-- the first token is this reserved word, at this place
 abbrev pub SpellsKeyAt : AKey → Place → List Token → List Token → Type 0
 SpellsKeyAt k = First (key_place k)

@@ -10,7 +10,8 @@ use m_lexer::Sign;
 use m_places::Name;
 use std::alloc::{AllocError, Global};
 
-/// Attributes, sorted into those without a number and those with one.
+/// Attributes in two lists: those without a number and those with one. Both keep the order, and
+/// words that occur twice.
 #[derive(Drop)]
 pub struct AttributeLists {
     pub words: Vec<Name>,
@@ -18,7 +19,7 @@ pub struct AttributeLists {
 }
 
 impl AttributeLists {
-    // One attribute more, after the others of its list.
+    // Adds an attribute at the end of its list.
     fn push(&mut self, word: Name, amount: Option<Amount>) -> Result<(), AllocError>
         ensures { OnOk result (lists self.new ≡ with_one_more (lists self.old) word amount) }
     {
@@ -30,7 +31,7 @@ impl AttributeLists {
     }
 }
 
-// As much on the other side of zero.
+// The amount with the opposite sign.
 fn negated(amount: Amount) -> Amount
     ensures { result ≡ neg_ℤ amount }
 {

@@ -1,4 +1,4 @@
-//! A place in the tokens, and the readers of single tokens. It knows nothing of trees.
+//! A position in the tokens, and the readers of single tokens. Knows nothing of trees.
 ghost use Rattle.std.specs.Prelude.{◌≡◌, ◌<◌, ◌≤◌, ◌∷◌, [], length, drop, Some, None, MatchBool, MatchOption, OnSome, IfSome, IsTrue};
 ghost use Rattle.m_places.specs.Refusals.{Takes};
 ghost use Rattle.std.specs.Bool.{OnTrue};
@@ -15,9 +15,10 @@ use m_lexer::{Key, Kind, Sign, Token};
 use m_places::{ErrorKind, Name, Place};
 use std::marker::Model;
 
-/// The tokens that are left. Contracts see it as their list.
+/// The remaining tokens. Contracts see it as their list.
 ///
-/// Each `take_` takes the next token if it is of its kind, and else leaves the cursor as it was.
+/// Each `take_` takes the next token if it is of its kind, and otherwise leaves the cursor
+/// unchanged.
 #[derive(Drop)]
 pub struct Cursor<'a> {
     left: &'a [Token],
@@ -40,21 +41,21 @@ impl<'a> Cursor<'a> {
         Cursor { left: tokens }
     }
 
-    /// How many tokens are left.
+    /// The number of remaining tokens.
     pub fn len(&self) -> usize
         ensures { result ≡ length self.now }
     {
         self.left.len()
     }
 
-    /// The tokens that are left. `Cursor::new` of them is a second cursor at the same token.
+    /// The remaining tokens. `Cursor::new` of them is a second cursor at the same position.
     pub fn left(&self) -> &'a [Token]
         ensures { result.now ≡ self.now }
     {
         self.left
     }
 
-    /// Takes so many tokens, whatever they are.
+    /// Takes this many tokens, of any kind.
     pub fn skip(&mut self, count: usize)
         requires { count ≤ length self.old }
         ensures { self.new ≡ drop count self.old }
@@ -62,7 +63,7 @@ impl<'a> Cursor<'a> {
         self.left = &self.left[count..];
     }
 
-    /// Takes the next token, whatever it is.
+    /// Takes the next token, of any kind.
     pub fn next(&mut self) -> Option<&'a Token>
         ensures { MatchOption result (self.old ≡ []) (λ t. self.old ≡ t.now ∷ self.new) }
     {
@@ -122,7 +123,7 @@ impl<'a> Cursor<'a> {
         true
     }
 
-    /// Takes this reserved word, and answers its place.
+    /// Takes this reserved word, and returns its place.
     pub fn take_key_place(&mut self, key: Key) -> Option<Place>
         ensures place { Takes result (λ p. p) (open_at (key_place key) self.old) self.old self.new }
         ensures shorter { OnSome result (length self.new < length self.old) }
@@ -146,7 +147,7 @@ impl<'a> Cursor<'a> {
         Some(word)
     }
 
-    /// Takes a word that isn't reserved, and answers it and its place.
+    /// Takes a word that isn't reserved, and returns it and its place.
     pub fn take_placed_word(&mut self) -> Option<(&'a Name, Place)>
         ensures word { Takes result (λ w. (w.0.now, w.1)) (open_at placed_word self.old) self.old self.new }
         ensures shorter { OnSome result (length self.new < length self.old) }
@@ -157,7 +158,7 @@ impl<'a> Cursor<'a> {
         Some((word, first.place))
     }
 
-    /// Takes a word without a letter from a to z, and answers it and its place.
+    /// Takes a word without a letter from a to z, and returns it and its place.
     pub fn take_name(&mut self) -> Option<(&'a Name, Place)>
         ensures name { Takes result (λ n. (n.0.now, n.1)) (open_at name self.old) self.old self.new }
         ensures shorter { OnSome result (length self.new < length self.old) }
@@ -168,7 +169,7 @@ impl<'a> Cursor<'a> {
         Some((name, first.place))
     }
 
-    /// Takes a number of one to nine digits without a point, and answers its spelling.
+    /// Takes a number of one to nine digits without a point, and returns its spelling.
     pub fn take_whole(&mut self) -> Option<&'a Name>
         ensures spelled { IfSome result (λ n. IsTrue (is_whole n.now)) }
         ensures whole { Takes result (λ n. n.now) (open_at whole self.old) self.old self.new }
@@ -180,7 +181,7 @@ impl<'a> Cursor<'a> {
         Some(whole)
     }
 
-    /// Takes a number, and answers its amount.
+    /// Takes a number, and returns its amount.
     pub fn take_amount(&mut self) -> Option<Amount>
         ensures amount { Takes result (λ z. z) (open_at amount self.old) self.old self.new }
         ensures shorter { OnSome result (length self.new < length self.old) }
@@ -191,7 +192,7 @@ impl<'a> Cursor<'a> {
         Some(amount)
     }
 
-    /// Takes a text, and answers what stands between its quotes.
+    /// Takes a text, and returns the bytes between its quotes.
     pub fn take_text(&mut self) -> Option<&'a Name>
         ensures text { Takes result (λ x. x.now) (open_at text self.old) self.old self.new }
         ensures shorter { OnSome result (length self.new < length self.old) }

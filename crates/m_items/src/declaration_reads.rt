@@ -1,4 +1,4 @@
-//! The public readers, from tokens to trees and positions.
+//! The public readers of declarations, from tokens to trees and positions.
 ghost use Rattle.std.specs.Prelude.{◌≡◌};
 ghost use Rattle.m_places.specs.Refusals.{Outcome};
 ghost use Rattle.m_items.specs.declared.item_fault.ItemFault.TheVariants.{Memory};
@@ -13,11 +13,11 @@ use m_lexer::{Sign, Token};
 use m_places::{Name, Seq};
 use std::alloc::Global;
 
-/// The declaration at the start of the tokens, and the position after it: a variable, an error, or an
-/// `application` or `enchaineur` item.
+/// The declaration at the start of the tokens, and the position after it: a variable, an error, or
+/// an `application` or `enchaineur` item.
 ///
-/// Of `SEUIL : const = 1000 ; IRN` it reads the first six tokens and answers 6. `NoItem` comes exactly where no
-/// prefix of the tokens spells a declaration.
+/// In `SEUIL : const = 1000 ; IRN` it is the first six tokens, and the position is 6. `NoItem` is
+/// returned exactly if no prefix of the tokens parses as a declaration.
 pub fn read_declaration(alloc: Global, tokens: &[Token]) -> Result<(Item, usize), ItemFault>
     ensures outcome { Outcome Memory result (λ read. DeclarationAt tokens.now read.0 read.1) (λ fault. NoDeclaration tokens.now) }
 {
@@ -26,10 +26,12 @@ pub fn read_declaration(alloc: Global, tokens: &[Token]) -> Result<(Item, usize)
     Ok((item, tokens.len() - cursor.len()))
 }
 
-/// The applications at the start of the tokens, and the position after them, at which no comma stands.
+/// The applications at the start of the tokens, and the position after them, at which no comma
+/// follows.
 ///
-/// Of `application : iliad , batch ;` it reads the first five tokens and answers 5. `NoItem` comes exactly
-/// where no prefix of the tokens spells applications with no comma after it.
+/// In `application : iliad , batch ;` they are the first five tokens, and the position is 5.
+/// `NoItem` is returned exactly if no prefix of the tokens parses as applications without a comma
+/// after them.
 pub fn read_applications(alloc: Global, tokens: &[Token]) -> Result<(Seq<Name>, usize), ItemFault>
     ensures outcome { Outcome Memory result (λ read. ApplicationsStand tokens.now read.0 read.1) (λ fault. NoApplications tokens.now) }
 {

@@ -1,4 +1,4 @@
-//! Declarations, of each kind.
+//! Declarations of each kind.
 ghost use Rattle.std.specs.Prelude.{◌≡◌, ◌<◌, length, OnOk};
 ghost use Rattle.m_items.specs.inner.DeclarationReading.{Gives, application_at, chaining_at, named_at, declared_at, declaration_at};
 
@@ -43,7 +43,7 @@ fn read_chaining(alloc: Global, cursor: &mut Cursor<'_>, place: Place) -> Result
     Ok(Item::Silent(place))
 }
 
-// What stands after a name and its colon.
+// The rest of a variable or an error, after its name and colon.
 #[tactic(auto, unfolding(crate::specs::inner::DeclarationReading::named_at))]
 fn read_named(
     alloc: Global,
@@ -81,7 +81,8 @@ fn read_declared(alloc: Global, cursor: &mut Cursor<'_>) -> Result<Item, ItemFau
     read_named(alloc, cursor, name, place)
 }
 
-/// A variable, an error, or an `application` or `enchaineur` item. Where none can be read, the cursor is anywhere.
+/// A variable, an error, or an `application` or `enchaineur` item. After an error the position of
+/// the cursor is unspecified.
 #[tactic(auto, unfolding(crate::specs::inner::DeclarationReading::declaration_at))]
 pub fn declaration(alloc: Global, cursor: &mut Cursor<'_>) -> Result<Item, ItemFault>
     ensures reads { Gives result (declaration_at cursor.old) cursor.new }

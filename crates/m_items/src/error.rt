@@ -1,4 +1,4 @@
-//! Errors, after their name and its colon.
+//! Error items, after their name and colon.
 ghost use Rattle.std.specs.Prelude.{◌≡◌, ◌<◌, length, OnOk};
 ghost use Rattle.m_items.specs.inner.DeclarationReading.{Gives, is_four_or_five, error_at};
 
@@ -17,6 +17,8 @@ fn is_four_or_five(count: usize) -> bool
 }
 
 /// ":" TEXT ":" TEXT ":" TEXT ":" TEXT [ ":" TEXT ] ";"
+///
+/// The texts are counted after the whole list is read.
 #[tactic(auto, unfolding(crate::specs::inner::DeclarationReading::error_at))]
 pub fn read_error(
     alloc: Global,

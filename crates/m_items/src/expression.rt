@@ -1,4 +1,4 @@
-//! Terms and headers on a cursor.
+//! Terms and headers at a cursor.
 ghost use Rattle.std.specs.Prelude.{◌≡◌, ◌<◌, length, OnOk};
 ghost use Rattle.m_items.specs.inner.DeclarationReading.{Gives};
 ghost use Rattle.m_items.specs.inner.RuleReading.{item_fault_of, term_at, headed_at};
@@ -18,7 +18,7 @@ fn item_fault(fault: TermFault) -> ItemFault
     }
 }
 
-/// A term, before a token that may follow one.
+/// A term that is followed by a token that may follow one.
 pub fn term(alloc: Global, cursor: &mut Cursor<'_>) -> Result<Term, ItemFault>
     ensures reads { Gives result (term_at cursor.old) cursor.new }
     ensures shorter { OnOk result (length cursor.new < length cursor.old) }
@@ -32,7 +32,7 @@ pub fn term(alloc: Global, cursor: &mut Cursor<'_>) -> Result<Term, ItemFault>
     }
 }
 
-/// A header, before a colon.
+/// A header that is followed by a colon.
 pub fn header(alloc: Global, cursor: &mut Cursor<'_>) -> Result<Header, ItemFault>
     ensures reads { Gives result (headed_at cursor.old) cursor.new }
     ensures shorter { OnOk result (length cursor.new < length cursor.old) }

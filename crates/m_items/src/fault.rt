@@ -4,12 +4,12 @@ ghost use Rattle.m_items.specs.declared.fault.ParseFault.TheVariants.{Memory};
 use m_places::Place;
 use std::alloc::{AllocError, AllocFailed};
 
-/// Why tokens spell no items.
+/// Why the tokens don't parse as items.
 #[derive(Clone, Copy, Debug, PartialEq, Eq)]
 pub enum ParseFault {
-    /// At this token brackets and conditionals stand more than 256 deep.
+    /// At this token, brackets and conditionals are nested more than 256 deep.
     TooDeep(Place),
-    /// After the longest prefix of the tokens that spells items stands this token.
+    /// This token follows the longest prefix of the tokens that parses as items.
     Syntax(Place),
     /// Out of memory.
     Memory,

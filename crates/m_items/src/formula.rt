@@ -107,7 +107,8 @@ fn read_formula(alloc: Global, cursor: &mut Cursor<'_>) -> Result<Formula, ItemF
     })
 }
 
-// The formula that stands here, or none, and then the cursor stays.
+// The formula at the cursor, or `None` with the cursor unchanged. It is read at a second cursor, so
+// that a formula that doesn't parse ends the list without an error, and reading is linear.
 fn try_formula(alloc: Global, cursor: &mut Cursor<'_>) -> Result<Option<Formula>, AllocError>
     ensures reads { GivesOne result (formula_at cursor.old) cursor.old cursor.new }
     ensures shorter { IfOk result (λ o. IfSome o (λ f. length cursor.new < length cursor.old)) }
@@ -123,7 +124,7 @@ fn try_formula(alloc: Global, cursor: &mut Cursor<'_>) -> Result<Option<Formula>
     }
 }
 
-/// A formula, and as many further ones as stand there.
+/// A formula, and every further one that follows.
 #[tactic(auto, unfolding(crate::specs::inner::RuleReading::one_or_more_at))]
 pub fn read_formulas(alloc: Global, cursor: &mut Cursor<'_>) -> Result<Vec<Formula>, ItemFault>
     ensures reads { GivesBy (λ v. v.items) result (one_or_more_at formula_at cursor.old) cursor.new }

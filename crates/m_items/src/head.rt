@@ -1,4 +1,4 @@
-//! How a rule or a verification begins.
+//! The head of a rule or a verification.
 ghost use Rattle.std.specs.Prelude.{◌≡◌, ◌<◌, ◌≤◌, length, OnOk};
 ghost use Rattle.m_items.specs.inner.DeclarationReading.{Gives};
 ghost use Rattle.m_items.specs.inner.RuleReading.{behind_words, head_at};
@@ -10,17 +10,17 @@ use m_lexer::{Key, Sign};
 use m_places::{Name, Place, Seq};
 use std::alloc::Global;
 
-/// What stands before the formulas or checks.
+/// The part before the formulas or checks.
 #[derive(Drop)]
 pub struct Head {
-    /// The number as it is spelled.
+    /// The number as spelled.
     pub number: Name,
     /// The place of the first token.
     pub place: Place,
     pub applications: Seq<Name>,
 }
 
-/// Takes the words before them.
+/// Takes the words before the number.
 pub fn skip_words(cursor: &mut Cursor<'_>)
     ensures words { cursor.new ≡ behind_words cursor.old }
     ensures shorter { length cursor.new ≤ length cursor.old }

@@ -6,7 +6,7 @@ use std::alloc::{AllocError, AllocFailed};
 /// Why no item, or no part of one, was read.
 #[derive(Clone, Copy, Debug, PartialEq, Eq)]
 pub enum ItemFault {
-    /// None stands there.
+    /// The tokens don't parse as one.
     NoItem,
     /// Out of memory.
     Memory,

@@ -1,4 +1,4 @@
-//! Items, one after the other.
+//! Lists of items.
 ghost use Rattle.std.specs.Prelude.{◌≡◌, ◌<◌, ◌≤◌, [], length, IfOk, OnOk, IfSome};
 ghost use Rattle.m_items.specs.inner.DeclarationReading.{Gives};
 ghost use Rattle.m_items.specs.inner.RuleReading.{GivesOne};
@@ -30,7 +30,7 @@ fn read_item(alloc: Global, cursor: &mut Cursor<'_>) -> Result<Item, ItemFault>
     declaration(alloc, cursor)
 }
 
-// The item that stands here, or none, and then the cursor stays.
+// The item at the cursor, or `None` with the cursor unchanged.
 fn try_item(alloc: Global, cursor: &mut Cursor<'_>) -> Result<Option<Item>, AllocError>
     ensures reads { GivesOne result (item_at cursor.old) cursor.old cursor.new }
     ensures shorter { IfOk result (λ o. IfSome o (λ i. length cursor.new < length cursor.old)) }
@@ -46,7 +46,7 @@ fn try_item(alloc: Global, cursor: &mut Cursor<'_>) -> Result<Option<Item>, Allo
     }
 }
 
-/// As many items as stand there. The cursor stays before the first token that belongs to none.
+/// Every item that follows. The cursor stops before the first token that belongs to none.
 #[tactic(auto, unfolding(crate::specs::inner::Reading::items_at))]
 pub fn read_items(alloc: Global, cursor: &mut Cursor<'_>) -> Result<Vec<Item>, AllocError>
     ensures { IfOk result (λ v. items_at cursor.old ≡ (v.items, cursor.new)) }

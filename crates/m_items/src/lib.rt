@@ -1,7 +1,7 @@
-//! The items of rule files, from tokens to trees, or the first fault and its place: declarations and items without effect, rules and
-//! verifications, and the list of them all.
+//! The parser of rule files: from tokens to the list of items, or the first error and its place.
 //!
-//! This crate stands on tokens, trees and the readers of terms. It knows nothing of bytes, of files, or of what an item means.
+//! Uses tokens, trees and the readers of terms. Knows nothing of bytes, of files, or of what an
+//! item means. Declarations and rules are separate modules, and neither uses the other.
 #![tactic(auto)]
 
 mod attributes;

@@ -9,7 +9,7 @@ use m_lexer::{Key, Sign};
 use m_places::{Name, Seq};
 use std::alloc::Global;
 
-/// What is listed.
+/// The kind of the elements.
 #[derive(Clone, Copy)]
 pub enum Listed {
     /// Words, with commas between them.
@@ -18,7 +18,7 @@ pub enum Listed {
     Texts,
 }
 
-// The sign between two parts.
+// The separator.
 fn between(listed: Listed) -> Sign
     ensures { result ≡ between listed }
 {
@@ -28,7 +28,7 @@ fn between(listed: Listed) -> Sign
     }
 }
 
-// One part.
+// One element.
 fn read_part(alloc: Global, cursor: &mut Cursor<'_>, listed: Listed) -> Result<Name, ItemFault>
     ensures reads { Gives result (open_at (part listed) cursor.old) cursor.new }
     ensures shorter { OnOk result (length cursor.new < length cursor.old) }
@@ -43,7 +43,7 @@ fn read_part(alloc: Global, cursor: &mut Cursor<'_>, listed: Listed) -> Result<N
     Ok(found.copy(alloc)?)
 }
 
-/// One part or more.
+/// One element or more.
 pub fn read_list(
     alloc: Global,
     cursor: &mut Cursor<'_>,
@@ -63,8 +63,8 @@ pub fn read_list(
     Ok(parts)
 }
 
-/// "application" ":" WORD { "," WORD }: as many applications as stand there. Where none can be read, the cursor is
-/// anywhere.
+/// "application" ":" WORD { "," WORD }: as many applications as follow. After an error the position
+/// of the cursor is unspecified.
 #[tactic(auto, unfolding(crate::specs::inner::DeclarationReading::applications_at))]
 pub fn applications(alloc: Global, cursor: &mut Cursor<'_>) -> Result<Seq<Name>, ItemFault>
     ensures reads { Gives result (applications_at cursor.old) cursor.new }

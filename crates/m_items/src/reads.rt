@@ -1,4 +1,4 @@
-//! The whole list of items.
+//! The reader of all items.
 ghost use Rattle.std.specs.Prelude.{◌≡◌, [], All, IfOk, OnOk};
 ghost use Rattle.m_places.specs.Refusals.{Outcome};
 ghost use Rattle.m_ast.specs.Whole.{IsWholeItem};
@@ -15,12 +15,13 @@ use m_places::Seq;
 use m_terms::depth_fault;
 use std::alloc::Global;
 
-/// The items that all the tokens spell, in order.
+/// The items of a file, in order: all tokens must parse as items.
 ///
-/// `TooDeep` comes exactly where brackets and conditionals stand more than 256 deep, with the first such place. Else
-/// `Syntax` comes exactly where the tokens spell no list of items. Its place is that of the first token after the longest
-/// prefix that spells one: of the tokens of `regle 1 : application : iliad ; A = 1 ; B + 2 ;` it is that of `B`, and where
-/// `regle 11` ends the tokens it is that of `regle`.
+/// `TooDeep` is returned exactly if brackets and conditionals are nested more than 256 deep, with
+/// the first such place. Otherwise `Syntax` is returned exactly if the tokens don't parse as a list
+/// of items. Its place is that of the first token after the longest prefix that does: in
+/// `regle 1 : application : iliad ; A = 1 ; B + 2 ;` it is that of `B`, and if the tokens end after
+/// `regle 11`, it is that of `regle`.
 pub fn parse(alloc: Global, tokens: &[Token]) -> Result<Seq<Item>, ParseFault>
     ensures outcome { Outcome Memory result (λ items. SpellsItems items tokens.now []) (λ fault. IsParseFault tokens.now fault) }
     ensures shallow { OnOk result (IsShallow tokens.now) }

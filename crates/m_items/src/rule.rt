@@ -33,7 +33,8 @@ fn take_chaining(cursor: &mut Cursor<'_>) -> Result<bool, ItemFault>
     Ok(true)
 }
 
-/// A rule, with as many formulas as stand there. Where none can be read, the cursor is anywhere.
+/// A rule, with every formula that follows its head. After an error the position of the cursor is
+/// unspecified.
 #[tactic(auto, unfolding(crate::specs::inner::RuleReading::rule_at))]
 pub fn read_rule(alloc: Global, cursor: &mut Cursor<'_>) -> Result<RuleItem, ItemFault>
     ensures reads { Gives result (rule_at cursor.old) cursor.new }

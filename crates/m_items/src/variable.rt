@@ -1,4 +1,4 @@
-//! Variables, after their name and its colon.
+//! Variables, after their name and colon.
 ghost use Rattle.std.specs.Prelude.{◌≡◌, ◌<◌, ◌≤◌, length, Some, None, IfOk, OnOk, OnSome, MatchOption};
 ghost use Rattle.m_ast.specs.declared.item.Item.TheVariants.{Variable};
 ghost use Rattle.m_items.specs.DeclarationGrammar.{variable};

@@ -52,7 +52,7 @@ fn read_check(alloc: Global, cursor: &mut Cursor<'_>) -> Result<CheckItem, ItemF
     })
 }
 
-// The check that stands here, or none, and then the cursor stays.
+// The check at the cursor, or `None` with the cursor unchanged.
 fn try_check(alloc: Global, cursor: &mut Cursor<'_>) -> Result<Option<CheckItem>, AllocError>
     ensures reads { GivesOne result (check_at cursor.old) cursor.old cursor.new }
     ensures shorter { IfOk result (λ o. IfSome o (λ c. length cursor.new < length cursor.old)) }
@@ -68,7 +68,7 @@ fn try_check(alloc: Global, cursor: &mut Cursor<'_>) -> Result<Option<CheckItem>
     }
 }
 
-// A check, and as many further ones as stand there.
+// A check, and every further one that follows.
 #[tactic(auto, unfolding(crate::specs::inner::RuleReading::one_or_more_at))]
 fn read_checks(alloc: Global, cursor: &mut Cursor<'_>) -> Result<Vec<CheckItem>, ItemFault>
     ensures reads { GivesBy (λ v. v.items) result (one_or_more_at check_at cursor.old) cursor.new }
@@ -83,7 +83,8 @@ fn read_checks(alloc: Global, cursor: &mut Cursor<'_>) -> Result<Vec<CheckItem>,
     Ok(checks)
 }
 
-/// A verification, with as many checks as stand there. Where none can be read, the cursor is anywhere.
+/// A verification, with every check that follows its head. After an error the position of the
+/// cursor is unspecified.
 #[tactic(auto, unfolding(crate::specs::inner::RuleReading::verification_at))]
 pub fn read_verification(alloc: Global, cursor: &mut Cursor<'_>) -> Result<VerifItem, ItemFault>
     ensures reads { Gives result (verification_at cursor.old) cursor.new }

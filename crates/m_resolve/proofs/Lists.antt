@@ -1,4 +1,4 @@
--- A fault among things that are said one after the other.
+-- The error of a list, from the error of one element.
 use Rattle.std.proofs.Common.{◌≡◌, ◌<◌, ◌+◌, ℕ, suc, List, [], ◌∷◌, ◌++◌, length, drop, get_or, Result, Ok, Err, sym, ap, ◌∙◌, arith}
 use Rattle.std.proofs.Math.Seq.{drop-cons}
 use Rattle.m_ast.specs.Syntax.{Syntax}
@@ -36,7 +36,7 @@ links_fault d before all i a whole fault h e s f =
     sym s ∙ ap (λ l. resolved_links d before (links_of l)) (drop_next all i a h e)
     ∙ ap (if_resolved (λ t. resolved_links d (before ++ record { op = a.op; term = t } ∷ []) (links_of (drop (i + 1) all)))) f
 
--- a fault in a link of a left fold whose first operand has none
+-- an error in a link of a left fold whose first operand has none
 pub chain_fault : (d : Declared) (first : Syntax) (before : List Step) (all : List PLink) (i : ℕ) (a : PLink) (f : Tree) (fault : ResolveFault)
     → resolved_term d first ≡ Ok f → i < length all → a ≡ get_or all i a
     → resolved_links d before (links_of (drop i all)) ≡ resolved_links d [] (links_of all) → resolved_term d a.term ≡ Err fault
@@ -45,7 +45,7 @@ chain_fault d first before all i a f fault o h e s k =
     ap (if_resolved (λ g. if_resolved (λ steps. Ok (chain g (steps_of steps))) (resolved_links d [] (links_of all)))) o
     ∙ ap (if_resolved (λ steps. Ok (chain f (steps_of steps)))) (links_fault d before all i a (resolved_links d [] (links_of all)) fault h e s k)
 
--- a fault in the term of a condition, and in its error
+-- an error in the term of a condition, and in its error name
 pub condition_fault : (d : Declared) (before : Checks) (all : List Condition) (i : ℕ) (a : Condition) (fault : ResolveFault) → i < length all
     → a ≡ get_or all i a
     → resolved_conditions d before (drop i all) ≡ resolved_conditions d ([], []) all → resolved_term d a.term ≡ Err fault
@@ -68,7 +68,7 @@ label_fault d before all i a tree fault h e s o f =
     ∙ ap (λ r. if_resolved (λ stated. resolved_conditions d stated (drop (i + 1) all))
     (if_resolved (λ label. Ok (before.0 ++ (tree, length before.1, a.place) ∷ [], before.1 ++ label ∷ [])) r)) f
 
--- a fault in the target of a definition, and in its term
+-- an error in the target of a definition, and in its term
 pub target_fault : (d : Declared) (before : List CellDefinition) (all : List Definition) (i : ℕ) (a : Definition) (fault : ResolveFault) → i < length all
     → a ≡ get_or all i a
     → resolved_definitions d before (drop i all) ≡ resolved_definitions d [] all

@@ -1,4 +1,4 @@
--- The cells that are marked.
+-- Marked cells.
 use Rattle.std.proofs.Common.{◌≡◌, ◌<◌, ℕ, Bool, true, false, cond, List, [], ◌∷◌, ◌++◌, length, Result, Ok, Err, sym, ap, ◌∙◌, subst, not}
 use Rattle.m_places.specs.declared.place.Place.{Place}
 use Rattle.m_symbols.specs.Declarations.{Declared}
@@ -17,7 +17,7 @@ was_new : (b : Bool) → true ≡ not b → b ≡ false
 was_new true e = absurd (cc)
 was_new false e = cc
 
--- a cell that an earlier definition has
+-- a cell that an earlier definition defines
 pub twice : (d : Declared) (place : Place) (earlier : List ℕ) (cell : ℕ) (stated : Result ℕ ResolveFault) → stated ≡ Ok cell
     → false ≡ not (is_among cell earlier)
     → if_resolved (new_target d place earlier) stated ≡ Err (DefinedTwice (cell_name d cell) place)
@@ -25,7 +25,7 @@ twice d place earlier cell stated s m =
     ap (if_resolved (new_target d place earlier)) s ∙ ap (λ b. cond b (Err (DefinedTwice (cell_name d cell) place)) (Ok cell))
     (was_marked (is_among cell earlier) m)
 
--- a cell that none has
+-- a cell that no earlier definition defines
 pub first_time : (d : Declared) (place : Place) (earlier : List ℕ) (cell : ℕ) (stated : Result ℕ ResolveFault) → stated ≡ Ok cell
     → true ≡ not (is_among cell earlier)
     → if_resolved (new_target d place earlier) stated ≡ Ok cell

@@ -1,4 +1,4 @@
--- What stands in a list is no greater than the list.
+-- An element is at most as large as the list.
 use Rattle.std.proofs.Common.{◌≡◌, ◌≤◌, ◌<◌, ◌+◌, ℕ, zero, suc, List, [], ◌∷◌, length, get_or, ap, arith}
 use Rattle.m_ast.specs.Syntax.{Syntax, nodes, nodes_of_terms, nodes_of_links, nodes_of_members}
 use Rattle.m_ast.specs.View.{terms_of}

@@ -1,4 +1,4 @@
--- The cell of a target is among those that are declared.
+-- The cell of a target is a declared cell.
 use Rattle.std.proofs.Common.{◌≡◌, ◌≤◌, ◌<◌, ◌+◌, ℕ, Bool, true, false, cond, nat_lt, List, length, Option, None, Some, Result, Ok, Err, refl, sym, ap, ◌∙◌}
 use Rattle.std.proofs.Common.{subst, arith, slice_get}
 use Rattle.std.specs.Prelude.{IfOk, IfSome}
@@ -22,7 +22,7 @@ use Rattle.m_resolve.specs.Bases.{target_in, target_of, resolved_target, compute
 use Rattle.m_resolve.specs.declared.fault.ResolveFault.{ResolveFault}
 use Rattle.m_resolve.specs.declared.fault.ResolveFault.TheVariants.{BadTarget, Memory}
 
--- a variable of a name stands at a place
+-- the variable with a name is at some index
 at_place : (vs : List Variable) (o : Option ℕ) (v : Variable) → option_and_then (slice_get vs) o ≡ Some v → (i : ℕ) × (slice_get vs i ≡ Some v)
 at_place vs None v e = absurd (cc)
 at_place vs (Some i) v e = (i, e)
@@ -73,7 +73,7 @@ target_known d name place slot v (Ok cell) p e o =
     (omega (arith, m.ends)))
 target_known d name place slot v (Err fault) p e o = tt
 
--- the cell of a definition's target is among those that are declared
+-- the cell of a definition's target is a declared cell
 pub resolved_target_within : (d : Declared) (definition : Definition) (cell : ℕ) → IsPlaced d → resolved_target d definition ≡ Ok cell
     → cell < length (owners_from 0 d.variables)
 resolved_target_within d definition cell p e = by_variable (variable_named d definition.target) refl

@@ -1,4 +1,4 @@
--- A base that is made of plain rules is a valid one.
+-- The base of expanded rules is valid.
 use Rattle.std.proofs.Common.{◌≡◌, ◌≤◌, ◌<◌, ◌+◌, ℕ, zero, suc, ℤ, Bool, true, false, cond, List, [], ◌∷◌, ◌++◌, length, map, All, Option, None, Some, Result}
 use Rattle.std.proofs.Common.{Ok, Err, refl, sym, ap, ◌∙◌, subst, arith, nat_eq, replicate, length-append}
 use mathlib.Core.Bool.{◌||◌}
@@ -37,9 +37,9 @@ use Rattle.m_resolve.specs.Bases.{resolved_label, error_named, constant_in, cons
 use Rattle.m_resolve.specs.declared.fault.ResolveFault.{ResolveFault}
 use Rattle.m_resolve.proofs.TargetLemmas.{named_at, resolved_target_within}
 
--- ---- things that are said
+-- ---- results
 
--- what came of a thing came of its value
+-- if the whole is resolved, so is the first part
 pub resolved_by : {A B : Type 0} (next : A → Result B ResolveFault) (r : Result A ResolveFault) (b : B) → if_resolved next r ≡ Ok b
     → (a : A) × (r ≡ Ok a) × (next a ≡ Ok b)
 resolved_by next (Ok a) b e = (a, refl, e)

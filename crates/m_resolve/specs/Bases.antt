@@ -1,4 +1,4 @@
--- The base of plain rules, or their first fault.
+-- The base of expanded rules, or their first error.
 use Rattle.std.specs.Prelude.{ℕ, ◌+◌, nat_lt, ◌==◌, Bool, true, false, ℤ, List, [], ◌∷◌, ◌++◌, length, map, drop, Option, Some, None, Result, Ok, Err}
 use Rattle.std.specs.Prelude.{if◌then◌else◌, codes, slice_get}
 use Rattle.std.specs.List.{filter_map, flat_map}
@@ -32,12 +32,13 @@ unsettable_fault name place Whole = BadTarget name place
 unsettable_fault name place (Cell k) = NotATable name place
 unsettable_fault name place Every = NotATable name place
 
--- the cell with a number of a table of this size
+-- the cell of a table at this index
 abbrev pub table_target : List ℕ → Place → ℕ → ℕ → ℕ → Result ℕ ResolveFault
 table_target name place first size k = if nat_lt k size then Ok (first + k) else Err (BadTarget name place)
 
--- the cell that a target is of a computed variable: without an index it is no table, and with one it is. A target `T[X]` of a declared table has
--- been replaced by its cells.
+-- the cell of a computed variable that is a target: a table needs an index, and any other variable
+-- has none. The expansion has replaced `T[X]` of a declared table by its cells, so that case is an
+-- error only to make this a total function.
 abbrev pub computed_target : List ℕ → Place → ℕ → Option ℕ → Slot → Result ℕ ResolveFault
 computed_target name place first None Whole = Ok first
 computed_target name place first None (Cell k) = Err (NotATable name place)
@@ -46,7 +47,7 @@ computed_target name place first (Some size) Whole = Err (IsATable name place)
 computed_target name place first (Some size) (Cell k) = table_target name place first size k
 computed_target name place first (Some size) Every = Err (BadTarget name place)
 
--- the cell that a target is of a variable
+-- the cell of a variable that is a target
 abbrev pub target_in : List ℕ → Place → ℕ → Slot → Role → Result ℕ ResolveFault
 target_in name place first slot (Computed size) = computed_target name place first size slot
 target_in name place first slot (Input code) = Err (unsettable_fault name place slot)
@@ -56,11 +57,11 @@ abbrev pub target_of : Definition → Option Variable → Result ℕ ResolveFaul
 target_of definition None = Err (UnknownName definition.target definition.place)
 target_of definition (Some v) = target_in definition.target definition.place v.first_cell definition.slot v.item.role
 
--- the cell that a definition is of, whatever is defined besides
+-- the cell of a definition's target, regardless of other definitions
 abbrev pub resolved_target : Declared → Definition → Result ℕ ResolveFault
 resolved_target declared definition = target_of definition (variable_named declared definition.target)
 
--- a cell that no earlier definition has
+-- the cell, unless an earlier definition defines it
 abbrev pub new_target : Declared → Place → List ℕ → ℕ → Result ℕ ResolveFault
 new_target declared place earlier cell = if is_among cell earlier then Err (DefinedTwice (cell_name declared cell) place) else Ok cell
 
@@ -69,13 +70,13 @@ new_target declared place earlier cell = if is_among cell earlier then Err (Defi
 abbrev pub cells_of : List CellDefinition → List ℕ
 cells_of = map (λ d. d.0)
 
--- what a definition is after earlier ones: its target's faults come first, and then its term's
+-- a definition over cells, after earlier ones: errors of its target come before those of its term
 abbrev pub resolved_definition : Declared → List CellDefinition → Definition → Result CellDefinition ResolveFault
 resolved_definition declared before definition =
     if_resolved (λ cell. if_resolved (λ tree. Ok (cell, tree, definition.place)) (resolved_term declared definition.term))
     (if_resolved (new_target declared definition.place (cells_of before)) (resolved_target declared definition))
 
--- definitions one after the other, after those that are said already
+-- definitions in order, appended to those before
 abbrev pub resolved_definitions : Declared → List CellDefinition → List Definition → Result (List CellDefinition) ResolveFault
 resolved_definitions declared before [] = Ok before
 resolved_definitions declared before (d ∷ ds) = if_resolved (λ stated. resolved_definitions declared (before ++ stated ∷ []) ds)
@@ -83,23 +84,23 @@ resolved_definitions declared before (d ∷ ds) = if_resolved (λ stated. resolv
 
 -- ---- checks
 
--- a byte of a text as it is printed: one below 32 is a space
+-- a byte of a text as printed: one below 32 is a space
 abbrev pub printable : ℕ → ℕ
 printable b = if nat_lt b 32 then 32 else b
 
--- a text as it is printed, after a colon
+-- a text as printed, after a colon
 abbrev pub behind_colon : List ℕ → List ℕ
 behind_colon text = 58 ∷ map printable text
 
--- the text of an error: its texts with a colon between them, each byte below 32 a space
+-- the text of an error: its texts, separated by colons, with each byte below 32 replaced by a space
 abbrev pub error_text : List (List ℕ) → List ℕ
 error_text texts = drop 1 (flat_map behind_colon texts)
 
--- what a check of this verification tells that raises this error
+-- the label of a check of this verification that raises this error
 abbrev pub label_of : List ℕ → ErrorItem → Label
 label_of verif e = record { verif = verif; error = e.name; kind = e.kind; text = error_text e.texts }
 
--- the error of a name
+-- the error with a name
 abbrev pub error_named : Declared → List ℕ → Option ErrorItem
 error_named declared name = option_and_then (slice_get declared.errors) (index_of name (error_names_of declared.errors))
 
@@ -111,7 +112,8 @@ resolved_label condition (Some e) = Ok (label_of condition.verif e)
 abbrev pub Checks : Type 0
 Checks = List Check × List Label
 
--- what a condition is: its term's faults come first, and then an unknown error
+-- a check and its label, appended to those before: errors of its term come before an unknown error
+-- name
 abbrev pub with_condition : Declared → Checks → Condition → Result Checks ResolveFault
 with_condition declared before condition =
     if_resolved (λ tree. if_resolved (λ label. Ok (before.0 ++ (tree, length before.1, condition.place) ∷ [], before.1 ++ label ∷ []))
@@ -145,7 +147,8 @@ base_with declared definitions checks =
       labels = checks.1;
     }
 
--- The base of plain rules over the cells of what is declared, or their first fault: all definitions come first, in order, and then all conditions.
+-- The base of expanded rules over the declared cells, or their first error: all definitions are
+-- resolved first, in order, and then all conditions.
 abbrev pub resolved : Declared → Plain → Result Base ResolveFault
 resolved declared plain =
     if_resolved (λ definitions. if_resolved (λ checks. Ok (base_with declared definitions checks)) (resolved_conditions declared ([], []) plain.conditions))

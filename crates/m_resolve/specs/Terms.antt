@@ -1,4 +1,5 @@
--- What a term is over cells: each name is a cell, each table read a pick, each membership written out.
+-- Terms over cells: each name is a cell, each table read a pick, each membership expanded into
+-- comparisons.
 use Rattle.std.specs.Prelude.{ℕ, Bool, true, false, List, [], ◌∷◌, ◌++◌, Option, Some, None, Result, Ok, Err, if◌then◌else◌, codes}
 use Rattle.m_fixed.specs.declared.operator.Op.TheVariants.{Eq, Ge, Le, And, Or, Not}
 use Rattle.m_fixed.specs.declared.amount.Value.TheVariants.{Undef}
@@ -16,14 +17,14 @@ use Rattle.m_ast.specs.Members.{is_single}
 use Rattle.m_resolve.specs.declared.fault.ResolveFault.{ResolveFault}
 use Rattle.m_resolve.specs.declared.fault.ResolveFault.TheVariants.{UnknownName, NotATable, IsATable}
 
--- what comes of a thing that may have a fault
+-- applies `next` to a resolved part; an error stays the same
 abbrev pub if_resolved : {A B : Type 0} → (A → Result B ResolveFault) → Result A ResolveFault → Result B ResolveFault
 if_resolved next (Ok thing) = next thing
 if_resolved next (Err fault) = Err fault
 
 -- ---- names
 
--- the cell of a variable that is no table
+-- the cell of a variable that isn't a table
 abbrev pub whole_cell : List ℕ → Place → ℕ → Option ℕ → Result ℕ ResolveFault
 whole_cell name place first None = Ok first
 whole_cell name place first (Some size) = Err (IsATable name place)
@@ -56,7 +57,7 @@ member_by true x low high = apply_tree Eq (more x (more low none))
 member_by false x low high = chain_tree (apply_tree Ge (more x (more low none)))
     (steps_of (record { op = And; term = apply_tree Le (more x (more high none)) } ∷ []))
 
--- members joined by `ou`, each with it: one member is that member itself
+-- members joined by `ou`, which is the operator of each step; one member is itself
 abbrev pub any_of : List Step → Tree
 any_of [] = lit_tree Undef
 any_of (member ∷ []) = member.term
@@ -68,13 +69,14 @@ membership true members = apply_tree Not (more (any_of members) none)
 
 -- ---- terms
 
--- `X` that stands in a term is a name that no variable has
+-- the name that errors have for `X` in a term
 abbrev pub x_name : List ℕ
 x_name = codes "X"
 
--- What a term is over the cells of what is declared, or the first of its faults from left to right. `A + T[1]` over `A` at cell 0 and the
--- table `T` of the cells 1 to 3 is the cell 0, and after it `+` and the pick of 1 out of 3 cells from 1 on. `A dans (1, 3..5)` is
--- `A = 1 ou (A >= 3 et A <= 5)`. No loop stands in a plain term; one would be undefined.
+-- A term over the declared cells, or the first of its errors from left to right. `A + T[1]` with
+-- `A` at cell 0 and the table `T` at the cells 1 to 3 is a chain of cell 0 and `+` the pick at
+-- index 1 of the 3 cells from 1 on. `A dans (1, 3..5)` is `A = 1 ou (A >= 3 et A <= 5)`. An
+-- expanded term has no loop; one would be undefined.
 abbrev mutual
   pub resolved_term : Declared → Syntax → Result Tree ResolveFault
   resolved_term declared (lit value) = Ok (lit_tree value)
@@ -89,7 +91,7 @@ abbrev mutual
       (λ t. if_resolved (λ members. Ok (membership negated members)) (resolved_members declared t [] all)) (resolved_term declared x)
   resolved_term declared (loop header body) = Ok (lit_tree Undef)
 
-  -- terms one after the other, after those that are said already
+  -- terms in order, appended to those before
   pub resolved_terms : Declared → List Tree → Terms → Result (List Tree) ResolveFault
   resolved_terms declared before no_terms = Ok before
   resolved_terms declared before (a_term a rest) = if_resolved (λ t. resolved_terms declared (before ++ t ∷ []) rest) (resolved_term declared a)
@@ -99,14 +101,14 @@ abbrev mutual
   resolved_links declared before (a_link op a rest) = if_resolved (λ t. resolved_links declared (before ++ record { op = op; term = t } ∷ []) rest)
       (resolved_term declared a)
 
-  -- members of a membership of this term, each with its `ou`
+  -- members of a membership of x, each as a step with `ou`
   pub resolved_members : Declared → Tree → List Step → Members → Result (List Step) ResolveFault
   resolved_members declared x before no_members = Ok before
   resolved_members declared x before (a_member low high rest) =
       if_resolved (λ m. resolved_members declared x (before ++ record { op = Or; term = m } ∷ []) rest)
       (if_resolved (λ l. if_resolved (λ h. Ok (member_by (is_single low high) x l h)) (resolved_term declared high)) (resolved_term declared low))
 
--- what a member of a membership of this term is
+-- a member of a membership of x
 abbrev pub resolved_member : Declared → Tree → Syntax → Syntax → Result Tree ResolveFault
 resolved_member declared x low high = if_resolved (λ l. if_resolved (λ h. Ok (member_by (is_single low high) x l h)) (resolved_term declared high))
     (resolved_term declared low)

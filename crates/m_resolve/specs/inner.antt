@@ -1,3 +1,3 @@
--- What inner functions speak of.
+-- Definitions that only the contracts of inner functions use.
 pub mod Marks
 pub mod Words

@@ -1,4 +1,4 @@
-//! Checks over cells, and what they tell.
+//! Checks over cells, and their labels.
 
 ghost use Rattle.std.specs.Prelude.{◌≡◌, ◌++◌, ◌<◌, ◌≤◌, [], drop, Some, Ok, Err, IfOk, OnOk, length, map, slice_get};
 ghost use Rattle.std.specs.Option.{option_copied, option_map};
@@ -23,7 +23,8 @@ pub(crate) struct Checked {
     pub labels: Vec<Label>,
 }
 
-// What labels tell of an error. Each error's words are made once, and its labels share them.
+// The part of a label that an error item determines. It is made once per error, and labels share
+// it.
 #[derive(Drop)]
 struct ErrorWords {
     name: SharedName,
@@ -31,7 +32,8 @@ struct ErrorWords {
     text: SharedName,
 }
 
-/// Checks over cells, in order, or the fault of the first condition that has one. There are no more than parts.
+/// Checks over cells, in order, or the error of the first wrong condition. There are at most as
+/// many as the maximal number of parts, so label numbers fit 32 bits.
 pub(crate) fn checks(
     alloc: Global,
     all: &[Condition],
@@ -67,7 +69,7 @@ fn words_of(alloc: Global, error: &ErrorItem) -> Result<ErrorWords, AllocError>
     })
 }
 
-// Checks over cells, where the words of all errors are made.
+// Checks over cells, given the words of all errors.
 fn checks_with(
     alloc: Global,
     all: &[Condition],
@@ -90,7 +92,7 @@ fn checks_with(
     Ok(Checked { checks, labels })
 }
 
-// What a check tells that fails.
+// The label of a check.
 fn label(
     alloc: Global,
     condition: &Condition,
@@ -104,7 +106,7 @@ fn label(
     resolved_with(alloc, condition, words)
 }
 
-// What a check tells that fails, where its error has these words.
+// The label of a check whose error has these words, if it exists.
 fn resolved_with(
     alloc: Global,
     condition: &Condition,
@@ -118,7 +120,7 @@ fn resolved_with(
     }
 }
 
-// The words of the error of a name.
+// The words of the error with this name.
 fn error_named<'a>(
     symbols: &Symbols,
     errors: &'a [ErrorWords],
@@ -131,7 +133,7 @@ fn error_named<'a>(
     Some(words_at(symbols, errors, number))
 }
 
-// The words of the error of this number, which is below the count.
+// The words of the error with this number, which must be below the count.
 fn words_at<'a>(symbols: &Symbols, errors: &'a [ErrorWords], number: u32) -> &'a ErrorWords
     requires within { number < length symbols.now.errors }
     requires words { errors.now ≡ map words_of symbols.now.errors }
@@ -140,7 +142,7 @@ fn words_at<'a>(symbols: &Symbols, errors: &'a [ErrorWords], number: u32) -> &'a
     &errors[number as usize]
 }
 
-// The label of a check of this verification, with the words of the error that it raises.
+// The label of a check of this verification whose error has these words.
 fn label_with(alloc: Global, verif: &SharedName, words: &ErrorWords) -> Result<Label, AllocError>
     ensures { IfOk result (λ label. label ≡ label_with verif.now words.now) }
 {
@@ -155,7 +157,8 @@ fn label_with(alloc: Global, verif: &SharedName, words: &ErrorWords) -> Result<L
     })
 }
 
-// The text of an error: its texts with a colon between them, each byte below 32 a space.
+// The text of an error: its texts, separated by colons, with each byte below 32 replaced by a
+// space.
 fn error_text(alloc: Global, texts: &[Name]) -> Result<Name, AllocError>
     ensures { IfOk result (λ text. text ≡ error_text texts.now) }
 {
@@ -176,7 +179,7 @@ fn without_first(text: &[u8]) -> &[u8]
     }
 }
 
-// Adds a colon and a text as it is printed.
+// Appends a colon and a text as printed.
 fn add_behind_colon(text: &mut Vec<u8>, bytes: &[u8]) -> Result<(), AllocError>
     ensures { OnOk result (text.new.items ≡ text.old.items ++ behind_colon bytes.now) }
 {
@@ -187,7 +190,7 @@ fn add_behind_colon(text: &mut Vec<u8>, bytes: &[u8]) -> Result<(), AllocError>
     Ok(())
 }
 
-// A byte as it is printed: one below 32 is a space.
+// A byte as printed: one below 32 is a space.
 fn printable(byte: u8) -> u8
     ensures { result ≡ printable byte }
 {

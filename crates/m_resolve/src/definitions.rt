@@ -20,7 +20,7 @@ use m_symbols::{Symbols, cell_name};
 use micro_m::MTerm;
 use std::alloc::Global;
 
-/// Definitions over cells, in order, or the fault of the first that has one.
+/// Definitions over cells, in order, or the error of the first wrong one.
 pub(crate) fn definitions(
     alloc: Global,
     all: &[Definition],
@@ -39,7 +39,7 @@ pub(crate) fn definitions(
     Ok(made)
 }
 
-// The cell of a definition, which no earlier one has, and marks it.
+// Marks the cell of a definition and returns it, unless an earlier definition has it.
 fn new_target(
     alloc: Global,
     definition: &Definition,
@@ -61,7 +61,7 @@ fn new_target(
     Ok(cell)
 }
 
-// Marks a cell, and says whether it wasn't marked.
+// Marks a cell, and returns whether it was unmarked.
 fn mark(marked: &mut [bool], cell: u32) -> bool
     requires { cell < length marked.old }
     ensures fresh { (cells : List ℕ) → Marks marked.old cells → result ≡ not (is_among cell cells) }

@@ -1,4 +1,4 @@
-//! Why rules have no base.
+//! Errors of name resolution.
 
 ghost use Rattle.std.specs.Prelude.{◌≡◌};
 ghost use Rattle.m_resolve.specs.declared.fault.ResolveFault.TheVariants.{Memory};
@@ -6,23 +6,25 @@ ghost use Rattle.m_resolve.specs.declared.fault.ResolveFault.TheVariants.{Memory
 use m_places::{Name, Place};
 use std::alloc::{AllocError, AllocFailed};
 
-/// Why rules have no base: the first name with a fault, and its place. Definitions come before conditions, and in a
-/// definition the target comes before the term.
+/// The first name that can't be resolved, and its place. Definitions are resolved before
+/// conditions, and in a definition the target before the term.
 #[derive(Drop)]
 pub enum ResolveFault {
-    /// The name is no variable. `X` outside of a formula for every cell is such a name.
+    /// No variable has the name. `X` outside of a formula for all cells is such a name.
     UnknownName(Name, Place),
-    /// An index stands after the name of a variable that is no table.
+    /// The name of a variable that isn't a table has an index.
     NotATable(Name, Place),
-    /// The name of a table stands without an index.
+    /// The name of a table has no index.
     IsATable(Name, Place),
-    /// The target is an input or a constant, or a cell that its table doesn't have. The name is the target's word alone.
+    /// The target is an input, a constant, or a cell that its table doesn't have. The name is the
+    /// target's word without the index.
     BadTarget(Name, Place),
-    /// An earlier definition has the same cell. The name is the cell's printed name.
+    /// An earlier definition defines the same cell. The name is the cell's printed name.
     DefinedTwice(Name, Place),
-    /// The first word after `erreur` is no error. The place is that of the check's `si`.
+    /// The first word after `erreur` is not the name of an error. The place is that of the check's
+    /// `si`.
     UnknownError(Name, Place),
-    /// There was no memory.
+    /// Out of memory.
     Memory,
 }
 

@@ -1,7 +1,7 @@
-//! Names to cells: from the rules of an application without loops to its base over the cells of what is declared, or the first
-//! name that has a fault.
+//! Name resolution: from the rules of an application without loops to its base over numbered cells,
+//! or the first name that can't be resolved.
 //!
-//! This crate stands on plain rules, on what is declared and on bases. It knows nothing of files or of what a base is worth.
+//! Uses expanded rules, the symbol table and bases. Knows nothing of files or of values.
 #![tactic(auto)]
 
 mod checks;

@@ -1,4 +1,4 @@
-//! Names to variables and cells.
+//! From names to variables and cells.
 
 ghost use Rattle.std.specs.Prelude.{◌≡◌, Ok, Err};
 ghost use Rattle.std.specs.Option.{option_copied};
@@ -13,7 +13,7 @@ use m_places::{Name, Place, SharedName};
 use m_symbols::{Symbols, Variable};
 use std::alloc::Global;
 
-/// The variable of a name.
+/// The variable with a name.
 pub(crate) fn variable_named<'a>(symbols: &'a Symbols, name: &SharedName) -> Option<&'a Variable>
     ensures { option_copied result ≡ variable_named symbols.now name.now }
 {

@@ -19,10 +19,12 @@ use m_symbols::{Symbols, Variable};
 use micro_m::Base;
 use std::alloc::{AllocError, Global};
 
-/// The base of plain rules over the cells of what is declared, or the first fault of a name: all definitions come first, in order, and
-/// then all conditions; in a definition the target comes before the term, and in a condition the term before the error.
+/// The base of expanded rules over the declared cells, or the first error. All definitions are
+/// resolved first, in order, and then all conditions; in a definition the target before the term,
+/// and in a condition the term before the error.
 ///
-/// `IRN = REV - 1000` over the input `REV` and the variable `IRN` becomes the definition of cell 1 by the cell 0 less 1000.
+/// `IRN = REV - 1000` with the input `REV` and the variable `IRN` becomes the definition of cell 1
+/// as cell 0 minus 1000.
 pub fn resolve(alloc: Global, plain: &Plain, symbols: &Symbols) -> Result<Base, ResolveFault>
     requires placed { IsPlaced symbols.now }
     requires few { length plain.now.conditions ≤ PARTS }

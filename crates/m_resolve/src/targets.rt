@@ -1,4 +1,4 @@
-//! The cells that formulas set.
+//! The targets of formulas.
 
 ghost use Rattle.std.specs.Prelude.{◌≡◌, ◌<◌, ◌≤◌, ◌+◌, ◌^◌, Ok, Err, IfOk, IfSome, length};
 ghost use Rattle.m_places.specs.Refusals.{Outcome, Says};
@@ -15,7 +15,7 @@ use m_places::{Name, Place, SharedName};
 use m_symbols::{Symbols, Variable};
 use std::alloc::Global;
 
-/// The cell that a definition is of, whatever is defined besides.
+/// The cell of a definition's target, regardless of other definitions.
 pub(crate) fn target(
     alloc: Global,
     definition: &Definition,
@@ -34,7 +34,7 @@ pub(crate) fn target(
     target_in(alloc, definition, variable, symbols.cells())
 }
 
-// The cell that a definition is of in this variable. There are so many cells.
+// The cell of a target in this variable. `all` is the count of cells.
 fn target_in(
     alloc: Global,
     definition: &Definition,
@@ -64,7 +64,7 @@ fn target_in(
     }
 }
 
-// The fault of a target that is an input or a constant.
+// The error of a target that is an input or a constant.
 fn unsettable(
     alloc: Global,
     name: &SharedName,
@@ -80,7 +80,7 @@ fn unsettable(
     }
 }
 
-// The cell of a table with this number.
+// The cell of a table at this index.
 fn table_target(
     alloc: Global,
     name: &SharedName,

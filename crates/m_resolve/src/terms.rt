@@ -1,4 +1,4 @@
-//! Terms over names to terms over cells.
+//! From terms over names to terms over cells.
 
 ghost use Rattle.std.specs.Prelude.{◌≡◌, ◌∷◌, Ok, Err, [], false, IfOk};
 ghost use Rattle.m_places.specs.Refusals.{Says};
@@ -19,10 +19,10 @@ use m_symbols::Symbols;
 use micro_m::{MNode, MTerm, Step};
 use std::alloc::{AllocError, Global};
 
-// The name that `X` is in a term.
+// The name that errors have for `X`.
 const X: &[u8] = b"X";
 
-/// What a term is over cells, or the first of its faults from left to right.
+/// A term over cells, or its first error from left to right.
 #[cycle(term)]
 pub(crate) fn term(
     alloc: Global,
@@ -93,7 +93,7 @@ fn applied(
     Ok(boxed(alloc, MNode::Apply(op, arguments))?)
 }
 
-// Terms one after the other.
+// Terms in order.
 #[cycle(term)]
 fn terms(alloc: Global, all: &[PTerm], symbols: &Symbols) -> Result<Vec<MTerm>, ResolveFault>
     ensures { Says Memory result (λ trees. trees.items) (resolved_terms symbols.now [] (terms_of all.now)) }
@@ -149,7 +149,7 @@ fn among(
     Ok(joined(alloc, negated, all)?)
 }
 
-// The members of a membership of x, each with an `ou`.
+// The members of a membership of x, each as a step with `ou`.
 #[cycle(term)]
 fn member_steps(
     alloc: Global,
@@ -177,7 +177,7 @@ fn member_steps(
     Ok(steps)
 }
 
-// A member of a membership of x. For each time that x stands in it, x is gone through once.
+// A member of a membership of x. Each occurrence of x in it is a copy, made by resolving x again.
 #[cycle(term)]
 fn member(
     alloc: Global,
@@ -228,7 +228,7 @@ fn between(
     Ok(MTerm::new(MNode::Chain(Box::new(alloc, above)?, steps)))
 }
 
-// The members joined, and with `non` the opposite of that.
+// The members joined, negated if `non` is present.
 fn joined(alloc: Global, negated: bool, members: Vec<Step>) -> Result<Box<MTerm>, AllocError>
     ensures { IfOk result (λ t. t.value ≡ membership negated members.items) }
 {

@@ -1,4 +1,4 @@
--- The tables with a further variable or error.
+-- The tables with one more variable or error.
 use Rattle.std.proofs.Common.{◌≡◌, ℕ, ◌+◌, suc, Bool, true, false, cond, List, [], ◌∷◌, ◌++◌, map, length, replicate, refl, sym, ap, ◌∙◌, length-append, arith}
 use Rattle.std.proofs.lemmas.List.{length-replicate, append_assoc}
 use Rattle.std.specs.List.{filter_map, cons_option}
@@ -75,7 +75,7 @@ both : (vs ws : List VariableItem) (es fs : List ErrorItem) → vs ≡ ws → es
     ≡ (let right : Declared = record { variables = placed_from 0 ws; errors = fs } in right)
 both vs ws es fs e f = λ i. record { variables = placed_from 0 (e i); errors = f i }
 
--- what items with a further one declare
+-- the declarations of items with one more
 pub declared-push : (items : List Item) (item : Item) → declared_by (items ++ item ∷ []) ≡ with_item (declared_by items) item
 declared-push items (VariableOf v) =
     both _ _ _ _ (filter_map-push variable_in items (VariableOf v)) (filter_map-push error_in items (VariableOf v) ∙ append-none (errors_of items))

@@ -1,4 +1,4 @@
--- What stands before a closing bracket at the end of a text.
+-- The text before a closing bracket at its end.
 use Rattle.std.proofs.Common.{◌≡◌, ℕ, zero, suc, ◌+◌, List, [], ◌∷◌, length, take, get_or, None, Some, refl, ap, arith}
 use Rattle.std.proofs.lemmas.Bool.{ne_eqb}
 use Rattle.std.specs.Option.{option_map}

@@ -1,4 +1,4 @@
--- No more is declared than items stand there.
+-- There are at most as many declarations as items.
 use Rattle.std.proofs.Common.{◌≡◌, ℕ, ◌+◌, ◌<◌, ◌≤◌, ◌^◌, suc, List, [], ◌∷◌, length, take, refl, ap, arith}
 use Rattle.std.proofs.lemmas.List.{length-take-le}
 use Rattle.std.specs.Prelude.{Option, Some, None}
@@ -22,7 +22,7 @@ placed_count : (first : ℕ) (vs : List VariableItem) → length (placed_from fi
 placed_count first [] = refl
 placed_count first (v ∷ vs) = ap suc (placed_count (first + variable_cells v) vs)
 
--- before an item there is room for what it declares
+-- before an item there is room for its declaration
 pub room : (items : List Item) (i : ℕ) (t : Tables) → length items < 2 ^ 32 → i < length items → declared_in t ≡ declared_by (take i items) → HasRoom t
 room items i t few within e =
     let taken : length (take i items) ≡ i = length-take-le i items (omega (arith, within)) in
@@ -31,6 +31,6 @@ room items i t few within e =
     let errors : length t.errors.items ≤ i = omega (arith, ap (λ (d : Declared). length d.errors) e, filtered_few error_in (take i items), taken) in
     (omega (arith, variables, few, within), omega (arith, errors, few, within))
 
--- a number counts all codes
+-- the codes are fewer than 2^32
 pub few_codes : (t : Tables) → AreIndexed t → length t.codes < 2 ^ 32
 few_codes t x = omega (arith, ap length x.codes, filtered_few code_of t.variables.items, x.few_variables)

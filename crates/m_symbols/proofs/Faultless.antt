@@ -1,4 +1,4 @@
--- What follows where a declaration has no fault.
+-- Consequences of a declaration without an error.
 use Rattle.std.proofs.Common.{◌≡◌, ℕ, ◌+◌, ◌≤◌, Bool, true, false, cond, List, [], ◌∷◌, map, length, refl, ap, arith}
 use Rattle.std.specs.Prelude.{Option, Some, None, IfSome, nat_lt}
 use Rattle.std.specs.List.{filter_map}

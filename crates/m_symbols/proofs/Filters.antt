@@ -1,4 +1,4 @@
--- What is gathered of the elements so far, and of one more.
+-- `filter_map`, one element at a time.
 use Rattle.std.proofs.Common.{◌≡◌, ◌<◌, ◌+◌, ℕ, List, [], ◌∷◌, ◌++◌, length, take, Option, Some, sym, ap, ◌∙◌, slice_get}
 use Rattle.std.specs.List.{filter_map, cons_option}
 use Rattle.std.proofs.lemmas.List.{take_more}

@@ -1,4 +1,4 @@
--- Places beside names, found by the names' numbers.
+-- Look-up of a place by name, and by the name's number.
 use Rattle.std.proofs.Common.{◌≡◌, ℕ, ◌+◌, ◌<◌, Bool, true, false, cond, suc, List, [], ◌∷◌, map, length, get_or, Option, Some, None, refl, sym, ap, ◌∙◌}
 use Rattle.std.proofs.Common.{add-one, arith}
 use Rattle.std.specs.List.{filter_map, cons_option}
@@ -30,14 +30,14 @@ step_some false (Some j) here rest found i e f h = let k : rest ≡ Some (found 
 next : {X : Type 0} (x : X) (xs : List X) (j : ℕ) (d : X) → get_or (x ∷ xs) (j + 1) d ≡ get_or xs j d
 next x xs j d = rw add-one refl
 
--- a name without a number has no place beside it
+-- a name without a number has no place
 pub beside-none : {X : Type 0} (name : X → List ℕ) (place : X → Place) (n : List ℕ) (xs : List X) → index_of n (map name xs) ≡ None
     → paired_place n (map (λ x. (name x, place x)) xs) ≡ None
 beside-none name place n [] e = refl
 beside-none name place n (x ∷ xs) e = step_none (bytes_eq n (name x)) (index_of n (map name xs)) (place x) (paired_place n (map (λ y. (name y, place y)) xs)) e
     (beside-none name place n xs)
 
--- a name with a number has beside it the place of what has that number
+-- the place of a name with a number is that of the element with the number
 pub beside-some : {X : Type 0} (name : X → List ℕ) (place : X → Place) (n : List ℕ) (xs : List X) (i : ℕ) (d : X) → index_of n (map name xs) ≡ Some i
     → paired_place n (map (λ x. (name x, place x)) xs) ≡ Some (place (get_or xs i d))
 beside-some name place n [] i d e = cc
@@ -47,7 +47,7 @@ beside-some name place n (x ∷ xs) i d e =
     (λ j h. beside-some name place n xs j d h ∙ ap (λ y. Some (place y)) (sym (next x xs j d)))
     refl
 
--- a name with no place beside it isn't there
+-- a name without a place isn't in the list
 unplaced : (b : Bool) (here : Place) (rest : Option Place) (others : Bool) → cond b (Some here) rest ≡ None → (rest ≡ None → others ≡ false)
     → (b || others) ≡ false
 unplaced true here rest others e f = cc
@@ -59,7 +59,7 @@ has-none name place n [] e = refl
 has-none name place n (x ∷ xs) e =
     unplaced (bytes_eq n (name x)) (place x) (paired_place n (map (λ y. (name y, place y)) xs)) (has n (map name xs)) e (has-none name place n xs)
 
--- the same of codes: a variable that is no input has none
+-- the same for codes: a variable that isn't an input has none
 code_step_none : (r : Role) (here : Place) (codes : List (List ℕ)) (placed : List (List ℕ × Place)) (n : List ℕ)
     → index_of n (cons_option (code_in r) codes) ≡ None → (index_of n codes ≡ None → paired_place n placed ≡ None)
     → paired_place n (cons_option (option_map (λ c. (c, here)) (code_in r)) placed) ≡ None
@@ -93,7 +93,7 @@ code_found all d start n (v ∷ vs) i at e =
     ∙ next v vs k d) g)
     (let here : start ≡ start + 0 = omega arith in ap (λ m. (get_or all m d).item.place) here ∙ ap (λ (w : Variable). w.item.place) (at 0))
 
--- a code with a number has beside it the place of the variable that is the input of this number
+-- the place of a code with a number is that of the variable of the input with the number
 pub code-some : (n : List ℕ) (vs : List Variable) (i : ℕ) (d : Variable) → index_of n (codes_of vs) ≡ Some i
     → paired_place n (filter_map placed_code vs) ≡ Some ((get_or vs (get_or (inputs_from 0 vs) i 0) d).item.place)
 code-some n vs i d e = code_found vs d 0 n vs i (λ j. let same : 0 + j ≡ j = omega arith in ap (λ m. get_or vs m d) same) e

@@ -1,4 +1,4 @@
--- The tables, read and with a further variable.
+-- The tables: look-ups, and one more variable.
 use Rattle.std.proofs.Common.{◌≡◌, ℕ, ◌+◌, ◌-◌, ◌<◌, ◌≤◌, Bool, true, false, not, cond, List, [], ◌∷◌, ◌++◌, map, take, length, get_or, replicate, refl, sym}
 use Rattle.std.proofs.Common.{ap, ◌∙◌, length-append, arith}
 use Rattle.std.proofs.lemmas.List.{get_or_default, take_all, length-replicate}
@@ -30,7 +30,7 @@ owner_at t x i r some e =
     let at : r ≡ get_or (owners_from 0 t.variables.items) i 0 = e ∙ get_or_default t.owners.items i r 0 within ∙ ap (λ ns. get_or ns i 0) x.owners in
     omega (arith, at, owner-below 0 t.variables.items i some)
 
--- a further name
+-- one more name
 pub name_added : {X : Type 0} (name : X → List ℕ) (known new : List (List ℕ)) (fresh : Bool) (xs : List X) (x : X) → known ≡ map name xs
     → has (name x) (map name xs) ≡ false → fresh ≡ not (has (name x) known)
     → new ≡ cond fresh (known ++ name x ∷ []) known → new ≡ map name (xs ++ x ∷ [])
@@ -38,7 +38,7 @@ name_added name known new fresh xs x k h f e =
     let is_fresh : fresh ≡ true = f ∙ ap (λ l. not (has (name x) l)) k ∙ ap not h in
     e ∙ ap (λ b. cond b (known ++ name x ∷ []) known) is_fresh ∙ ap (λ l. l ++ name x ∷ []) k ∙ sym (map-push name xs x)
 
--- the cells of a further variable
+-- the cells of one more variable
 pub cells_added : (owners new : List ℕ) (vs : List Variable) (v : Variable) (number all : ℕ) → owners ≡ owners_from 0 vs → number ≡ length vs
     → all ≡ length owners + v.cells → new ≡ take all owners ++ replicate (all - length owners) number
     → (new ≡ owners_from 0 (vs ++ v ∷ [])) × (length new ≡ length owners + v.cells)

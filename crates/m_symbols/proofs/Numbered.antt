@@ -24,7 +24,7 @@ below_step true number most inputs zero h f l = h
 below_step true number most inputs (suc i) h f l = f i (omega arith)
 below_step false number most inputs i h f l = f i l
 
--- the variables that are inputs are there
+-- the numbers of the variables of inputs are in range
 pub input-below : (start : ℕ) (vs : List Variable) (i : ℕ) → i < length (inputs_from start vs) → get_or (inputs_from start vs) i 0 < start + length vs
 input-below start [] i l = absurd (omega arith)
 input-below start (v ∷ vs) i l =
@@ -37,7 +37,7 @@ repeated zero number most rest i h f l = f i l
 repeated (suc n) number most rest zero h f l = h
 repeated (suc n) number most rest (suc i) h f l = repeated n number most rest i h f (omega arith)
 
--- the variables of cells are there
+-- the numbers of the variables of cells are in range
 pub owner-below : (start : ℕ) (vs : List Variable) (i : ℕ) → i < length (owners_from start vs) → get_or (owners_from start vs) i 0 < start + length vs
 owner-below start [] i l = absurd (omega arith)
 owner-below start (v ∷ vs) i l =

@@ -1,4 +1,4 @@
--- What follows of cells that are numbered in order.
+-- Consequences of cells numbered in order.
 use Rattle.std.proofs.Common.{◌≡◌, ◌≤◌, ◌<◌, ◌+◌, ◌-◌, ℕ, zero, suc, Bool, true, false, cond, nat_lt, List, [], ◌∷◌, ◌++◌, length, take, All, Option, None}
 use Rattle.std.proofs.Common.{Some, refl, sym, ◌∙◌, subst, ap, arith, slice_get, replicate, length-append, append_assoc}
 use Rattle.std.specs.Prelude.{IfSome, codes}
@@ -17,7 +17,7 @@ use Rattle.m_symbols.specs.Declarations.{Declared, placed_from, owners_from}
 use Rattle.m_symbols.specs.Placed.{IsPlaced, items_of}
 use Rattle.m_symbols.specs.Cells.{cell_within, parsed_index, cell_by, returned_by}
 
--- a variable has its cells, and they end among all
+-- the cells of a variable are within all cells
 pub record Ends (v : Variable) (first all : ℕ) : Type 0 where
   pub cells : v.cells ≡ variable_cells v.item
   pub begins : first ≤ v.first_cell
@@ -45,7 +45,7 @@ placed_ends declared i v p e =
     subst (λ (l : List Variable). Ends v 0 (length (owners_from 0 l))) (sym p)
     (ends_among (items_of declared.variables) 0 0 i v (subst (λ (l : List Variable). slice_get l i ≡ Some v) p e))
 
--- ---- a variable of the symbols
+-- ---- one variable of the symbols
 
 pub fits : (declared : Declared) (i count : ℕ) (v : Variable) → IsPlaced declared → slice_get declared.variables i ≡ Some v
     → count ≡ length (owners_from 0 declared.variables) → v.first_cell + v.cells ≤ count
@@ -82,7 +82,7 @@ known_by declared i v index cell p e c =
     subst (λ o. IfSome o (λ n. n < length (owners_from 0 declared.variables))) (sym c)
     (by_index index (variable_size v.item) v.first_cell v.cells (length (owners_from 0 declared.variables)) k.cells (omega (arith, k.ends)))
 
--- ---- cells that are given back
+-- ---- returned cells
 
 -- one more cell of a range
 pub range_step : (items all : List ℕ) (cell end : ℕ) → cell < end → items ++ range_with_len cell (end - cell) ≡ all
@@ -100,7 +100,7 @@ returned_within v all true h = range_below v.first_cell v.cells all h
         (range_below (first + 1) n most (omega (arith, h)))
 returned_within v all false h = All-nil (λ c. c < all)
 
--- one more variable's cells
+-- the cells of one more variable
 pub returned_next : (declared : Declared) (i : ℕ) (v : Variable) (before now : List ℕ) → IsPlaced declared → slice_get declared.variables i ≡ Some v
     → now ≡ before ++ returned_by v
     → All (λ c. c < length (owners_from 0 declared.variables)) before → All (λ c. c < length (owners_from 0 declared.variables)) now
@@ -110,7 +110,7 @@ returned_next declared i v before now p e n h =
     subst (All (λ c. c < all)) (sym n) (All-append (λ c. c < all) before (returned_by v) h
     (returned_within v all (has (codes "restituee") v.item.words) (omega (arith, k.ends))))
 
--- the cells of the variables so far, and of one more
+-- the cells of the variables up to here, and of one more
 pub returned_more : (variables : List Variable) (i : ℕ) (v : Variable) (before now : List ℕ) → i < length variables → slice_get variables i ≡ Some v
     → now ≡ before ++ returned_by v
     → before ≡ flat_map returned_by (take i variables) → now ≡ flat_map returned_by (take (i + 1) variables)

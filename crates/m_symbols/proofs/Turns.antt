@@ -1,4 +1,4 @@
--- A turn of declaring items: a further item is taken, or its fault is the first.
+-- One step of the declaration loop: the next item is added, or its fault is the first.
 use Rattle.std.proofs.Common.{◌≡◌, ℕ, ◌+◌, ◌<◌, suc, List, [], ◌∷◌, ◌++◌, length, take, drop, get_or, refl, sym, ap, ◌∙◌, add-one, arith}
 use Rattle.std.specs.Prelude.{Option, Some, None}
 use Rattle.std.proofs.Math.Seq.{drop-cons}
@@ -16,7 +16,7 @@ here items i item l at = let one : suc i ≡ i + 1 = omega arith in drop-cons it
 front : (items : List Item) (i : ℕ) (item : Item) → i < length items → item ≡ get_or items i item → take (i + 1) items ≡ take i items ++ item ∷ []
 front items i item l at = take_more items i item l ∙ ap (λ x. take i items ++ x ∷ []) (sym at)
 
--- what is left, seen from the item that comes next
+-- the remaining items, split at the next one
 opened : (items : List Item) (i : ℕ) (item : Item) (d : Declared) (all : Option DeclareFault) → i < length items → item ≡ get_or items i item
     → d ≡ declared_by (take i items) → fault_behind (take i items) (drop i items) ≡ all
     → first_of (fault_at d item) (fault_behind (take (i + 1) items) (drop (i + 1) items)) ≡ all

@@ -1,4 +1,4 @@
--- The last pair with an attribute, from turn to turn.
+-- The last pair with an attribute, one pair at a time.
 use Rattle.std.proofs.Common.{◌≡◌, ℕ, ◌+◌, ◌<◌, zero, suc, Bool, true, false, cond, List, [], ◌∷◌, length, drop, get_or, Option, Some, None, refl, sym, ap, ◌∙◌}
 use Rattle.std.proofs.Common.{subst, add-one, arith}
 use Rattle.std.specs.Prelude.{ℤ}
@@ -12,7 +12,7 @@ later (Some v) last b value = refl
 later None last true value = refl
 later None last false value = refl
 
--- with a further pair
+-- with one more pair
 pub kept : (a : List ℕ) (ps : List (List ℕ × ℤ)) (i : ℕ) (pair : List ℕ × ℤ) (b : Bool) (last next all : Option ℤ) → i < length ps → pair ≡ get_or ps i pair
     → bytes_eq a pair.0 ≡ b → next ≡ cond b (Some pair.1) last
     → option_or (last_value a (drop i ps)) last ≡ all → option_or (last_value a (drop (i + 1) ps)) next ≡ all

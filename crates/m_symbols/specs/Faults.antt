@@ -1,4 +1,4 @@
--- The fault of a list of items: that of the earliest declaration that has one.
+-- The error of a list of items: that of the earliest wrong declaration.
 use Rattle.std.specs.Prelude.{ℕ, ◌+◌, ◌==◌, ◌||◌, nat_lt, List, [], ◌∷◌, ◌++◌, length, map, Option, Some, None, if◌then◌else◌}
 use Rattle.std.specs.List.{filter_map}
 use Rattle.std.specs.Option.{option_map}
@@ -20,7 +20,7 @@ abbrev pub first_of : Option DeclareFault → Option DeclareFault → Option Dec
 first_of (Some fault) other = Some fault
 first_of None other = other
 
--- the place beside a name, in a list of names and places
+-- the place of a name, in a list of names and places
 abbrev pub paired_place : List ℕ → List (List ℕ × Place) → Option Place
 paired_place name [] = None
 paired_place name (n ∷ earlier) = if bytes_eq name n.0 then Some n.1 else paired_place name earlier
@@ -35,7 +35,7 @@ placed_code v = option_map (λ code. (code, v.item.place)) (variable_code v.item
 abbrev pub placed_error : ErrorItem → List ℕ × Place
 placed_error e = (e.name, e.place)
 
--- a name that an earlier declaration has
+-- a name that an earlier variable has
 abbrev pub name_fault : Declared → VariableItem → Option DeclareFault
 name_fault earlier v = option_map (λ place. DeclaredTwice v.name place v.place) (paired_place v.name (map placed_name earlier.variables))
 
@@ -55,29 +55,31 @@ wrong_size here (Some size) = if (size == 0) || nat_lt TABLE_CELLS size then Som
 abbrev pub size_fault : VariableItem → Option DeclareFault
 size_fault v = wrong_size v.place (variable_size v)
 
--- cells that are too many with this variable's
+-- with this variable, more cells than a base may have
 abbrev pub cells_fault : Declared → VariableItem → Option DeclareFault
 cells_fault earlier v = if nat_lt CELLS (length (owners_from 0 earlier.variables) + variable_cells v) then Some (TooManyCells v.place) else None
 
--- the fault of a variable after earlier declarations
+-- the fault of a variable, given the earlier declarations
 abbrev pub variable_fault : Declared → VariableItem → Option DeclareFault
 variable_fault earlier v = first_of (name_fault earlier v) (first_of (code_fault earlier v) (first_of (size_fault v) (cells_fault earlier v)))
 
--- the fault of an error after earlier declarations: variables and errors have separate names
+-- the fault of an error item, given the earlier declarations: variables and errors have separate
+-- names
 abbrev pub error_fault : Declared → ErrorItem → Option DeclareFault
 error_fault earlier e = option_map (λ place. DeclaredTwice e.name place e.place) (paired_place e.name (map placed_error earlier.errors))
 
--- the fault of an item after earlier declarations
+-- the fault of an item, given the earlier declarations
 abbrev pub fault_at : Declared → Item → Option DeclareFault
 fault_at earlier (Variable v) = variable_fault earlier v
 fault_at earlier (Error e) = error_fault earlier e
 fault_at earlier _ = None
 
--- the fault of the first of these items that has one, where those before them are given
+-- the fault of the first item that has one, given the items before them
 abbrev pub fault_behind : List Item → List Item → Option DeclareFault
 fault_behind earlier [] = None
 fault_behind earlier (item ∷ later) = first_of (fault_at (declared_by earlier) item) (fault_behind (earlier ++ item ∷ []) later)
 
--- The fault of items. `A : .. ; B : .. ; A : .. ;` has `DeclaredTwice A` with the places of the first and the third item.
+-- The fault of items. For `A : .. ; B : .. ; A : .. ;` it is `DeclaredTwice A` with the places of
+-- the first and the third item.
 abbrev pub first_fault : List Item → Option DeclareFault
 first_fault items = fault_behind [] items

@@ -1,4 +1,4 @@
--- Kinds of inputs, as drivers name them: those whose attribute has one of some values.
+-- Kinds of inputs, as drivers name them: those whose attribute has one of a list of values.
 use Rattle.std.specs.Prelude.{ℤ, ℕ, Bool, false, ◌&&◌, ◌||◌, List, [], ◌∷◌, Option, Some, None, if◌then◌else◌}
 use Rattle.std.specs.Option.{option_or}
 use Rattle.std.specs.Ordering.{int_eq}
@@ -6,12 +6,13 @@ use Rattle.std.specs.Str.{bytes_eq}
 use Rattle.m_ast.specs.Items.{is_input}
 use Rattle.m_symbols.specs.declared.variable.Variable.{Variable}
 
--- the value of the last pair with this attribute: 2 of `avfisc = 1 classe = 0 avfisc = 2` for `avfisc`
+-- the value of the last pair with this attribute: in `avfisc = 1 classe = 0 avfisc = 2` it is 2 for
+-- `avfisc`
 abbrev pub last_value : List ℕ → List (List ℕ × ℤ) → Option ℤ
 last_value attribute [] = None
 last_value attribute (pair ∷ pairs) = option_or (last_value attribute pairs) (if bytes_eq attribute pair.0 then Some pair.1 else None)
 
--- whether an amount is among amounts
+-- whether an amount is in a list
 abbrev pub has_amount : ℤ → List ℤ → Bool
 has_amount value [] = false
 has_amount value (v ∷ vs) = int_eq value v || has_amount value vs
@@ -24,7 +25,7 @@ is_one_of (Some value) values = has_amount value values
 abbrev pub is_of_kind : Variable → List ℕ → List ℤ → Bool
 is_of_kind v attribute values = is_input v.item.role && is_one_of (last_value attribute v.item.pairs) values
 
--- the same of a variable that is there
+-- the same, and false if there is no variable
 abbrev pub is_in_kind : Option Variable → List ℕ → List ℤ → Bool
 is_in_kind None attribute values = false
 is_in_kind (Some v) attribute values = is_of_kind v attribute values

@@ -1,4 +1,4 @@
-//! The cells that names name, and those that rules give back.
+//! From names to cells, and the returned cells.
 
 ghost use Rattle.std.specs.Prelude.{◌≡◌, ◌<◌, ◌≤◌, ◌+◌, ◌^◌, ◌++◌, ◌∷◌, [], All, IfOk, IfSome, OnOk, length, take, drop, MatchOption, Some, None, option_map};
 ghost use Rattle.std.specs.List.{range_with_len};
@@ -15,8 +15,8 @@ use m_places::Seq;
 use m_text::{first_of, whole_number};
 use std::alloc::{AllocError, Global};
 
-/// The cell that a request names, if it names one: a variable that is no table by its name, a table's cell as `T[2]`. Takes no
-/// memory.
+/// The cell that a request names, or `None`: `IRN` for a variable that isn't a table, `T[2]` for a
+/// cell of a table. Takes no memory.
 pub fn find_request(symbols: &Symbols, text: &[u8]) -> Option<u32>
     requires { IsPlaced symbols.now }
     ensures cell { result ≡ request_cell symbols.now text.now }
@@ -44,7 +44,7 @@ fn cell_without_index(variable: &Variable) -> Option<u32>
     }
 }
 
-// The cell of a table at an index, which this text after `[` says. There are so many cells.
+// The cell of a table at an index, given the text after `[`. `all` is the count of cells.
 fn cell_at_index(variable: &Variable, index: &[u8], all: u32) -> Option<u32>
     requires fits { variable.now.first_cell + variable.now.cells ≤ all }
     requires size { IfSome (variable_size variable.now.item) (λ size. variable.now.cells ≡ size) }
@@ -65,7 +65,7 @@ fn cell_within(first: u32, size: u32, k: u32) -> Option<u32>
     if k < size { Some(first + k) } else { None }
 }
 
-// The number of a cell, as it stands after `[`.
+// The index of a cell, from the text after `[`.
 fn parsed_index(text: &[u8]) -> Option<u32>
     ensures { result ≡ parsed_index text.now }
 {
@@ -75,7 +75,7 @@ fn parsed_index(text: &[u8]) -> Option<u32>
     }
 }
 
-// What stands before the `]` at the end, if that is the end.
+// The text before a final `]`, if it ends so.
 fn before_closing(text: &[u8]) -> Option<&[u8]>
     ensures { MatchOption result (before_closing text.now ≡ None) (λ digits. before_closing text.now ≡ Some digits.now) }
 {
@@ -90,7 +90,7 @@ fn before_closing(text: &[u8]) -> Option<&[u8]>
     }
 }
 
-// The number of one to four digits without needless zeros.
+// The number that one to four digits without leading zeros denote.
 fn plain_number(digits: &[u8]) -> Option<u32>
     ensures { result ≡ plain_number digits.now }
 {
@@ -110,8 +110,8 @@ fn may_be_plain(digits: &[u8]) -> bool
     }
 }
 
-/// The cells that rules give back: those of all variables among whose words is `restituee`, in order of declaration, a table by all
-/// its cells. Its only error is running out of memory.
+/// The returned cells: those of all variables with the attribute `restituee`, in order of
+/// declaration, and all cells of a table. The only error is out of memory.
 pub fn returned(alloc: Global, symbols: &Symbols) -> Result<Seq<u32>, AllocError>
     requires { IsPlaced symbols.now }
     ensures cells { IfOk result (λ cells. cells ≡ returned_cells symbols.now) }
@@ -125,7 +125,7 @@ pub fn returned(alloc: Global, symbols: &Symbols) -> Result<Seq<u32>, AllocError
     Ok(Seq::from_vec(cells))
 }
 
-// Adds the cells of a variable, if it is given back. There are so many cells.
+// Adds the cells of a variable, if it is returned. `all` is the count of cells.
 fn add_returned(variable: &Variable, all: u32, cells: &mut Vec<u32>) -> Result<(), AllocError>
     requires { variable.now.first_cell + variable.now.cells ≤ all }
     ensures { OnOk result (cells.new.items ≡ cells.old.items ++ returned_by variable.now) }

@@ -1,4 +1,4 @@
-//! Declarations, one after the other.
+//! Declarations, processed in order.
 ghost use Rattle.std.specs.Prelude.{◌≡◌, ◌<◌, ◌^◌, length, false, if◌then◌else◌, ◌∷◌, ◌++◌, None, Some, [], map, IfOk, IfSome};
 ghost use Rattle.std.specs.List.{filter_map, cons_option};
 ghost use Rattle.m_names.specs.Names.{has};
@@ -16,12 +16,12 @@ use m_places::Place;
 use m_places::limits::{CELLS, TABLE_CELLS};
 use std::alloc::{AllocError, Global};
 
-/// What the items of all rule files in order declare, or the fault of the earliest declaration that
-/// has one. At one declaration the name's fault comes first, then the code's, the size's, and the
+/// What the items of all rule files, in order, declare, or the error of the earliest wrong
+/// declaration. Within one declaration the checks are, in order: its name, its code, its size, the
 /// count of cells.
 ///
-/// Variables, cells and inputs are numbered in order of declaration, from 0, each by a number of 32 bits. Items are fewer than 2^32,
-/// as are those of files that a list of rules may have: no file has more items than bytes.
+/// Variables, cells and inputs are numbered in order of declaration, from 0, in 32 bits. Items are
+/// fewer than 2^32 in every admissible list of rules, since no file has more items than bytes.
 pub fn declare(alloc: Global, items: &[Item]) -> Result<Symbols, DeclareFault>
     requires { length items.now < 2 ^ 32 }
     ensures outcome { Outcome DeclareFault.Memory result
@@ -35,7 +35,7 @@ pub fn declare(alloc: Global, items: &[Item]) -> Result<Symbols, DeclareFault>
     Ok(Symbols { tables })
 }
 
-// A key that is made of all names and codes, so that nobody can choose them to collide.
+// The hash key, derived from all names and codes, so that nobody can choose them to collide.
 fn key_of(items: &[Item]) -> Key {
     let mut digest = NamesDigest::new();
     for item in items {
@@ -53,7 +53,7 @@ fn key_of(items: &[Item]) -> Key {
     digest.key()
 }
 
-// Tables of no declarations.
+// Tables without declarations.
 fn no_tables(alloc: Global, key: Key) -> Tables
     ensures none { declared_in result ≡ declared_by [] }
     ensures indexed { AreIndexed result }
@@ -69,7 +69,7 @@ fn no_tables(alloc: Global, key: Key) -> Tables
     }
 }
 
-// Takes a further item's declaration.
+// Adds the declaration of one more item.
 fn declare_item(alloc: Global, item: &Item, tables: &mut Tables) -> Result<(), DeclareFault>
     requires indexed { AreIndexed tables.old }
     requires room { HasRoom tables.old }
@@ -94,7 +94,7 @@ fn declare_item(alloc: Global, item: &Item, tables: &mut Tables) -> Result<(), D
     }
 }
 
-// The fault of a variable after what is declared.
+// The fault of a variable, given the earlier declarations.
 fn find_variable_fault(
     alloc: Global,
     variable: &VariableItem,
@@ -126,7 +126,7 @@ fn find_variable_fault(
     Ok(())
 }
 
-// The place of the variable of this name.
+// The place of the variable with this name.
 fn place_of_name(tables: &Tables, name: &[u8]) -> Option<Place>
     requires { AreIndexed tables.now }
     ensures { result ≡ paired_place name.now (map placed_name tables.now.variables.items) }
@@ -135,7 +135,7 @@ fn place_of_name(tables: &Tables, name: &[u8]) -> Option<Place>
     Some(tables.variables[number].item.place)
 }
 
-// The place of the input of this code.
+// The place of the input with this code.
 fn place_of_code(tables: &Tables, code: &[u8]) -> Option<Place>
     requires { AreIndexed tables.now }
     ensures { result ≡ paired_place code.now (filter_map placed_code tables.now.variables.items) }
@@ -145,7 +145,7 @@ fn place_of_code(tables: &Tables, code: &[u8]) -> Option<Place>
     Some(tables.variables[variable as usize].item.place)
 }
 
-// The place of the error of this name.
+// The place of the error item with this name.
 fn place_of_error(tables: &Tables, name: &[u8]) -> Option<Place>
     requires { AreIndexed tables.now }
     ensures { result ≡ paired_place name.now (map placed_error tables.now.errors.items) }
@@ -154,7 +154,7 @@ fn place_of_error(tables: &Tables, name: &[u8]) -> Option<Place>
     Some(tables.errors[number].place)
 }
 
-// How many cells a variable of this role has.
+// The number of cells of a variable with this role.
 fn cells_of(role: &Role) -> u32
     ensures { result ≡ cells_in (size_in role.now) }
 {
@@ -164,7 +164,7 @@ fn cells_of(role: &Role) -> u32
     }
 }
 
-// Takes a variable that has no fault.
+// Adds a valid variable.
 fn add_variable(
     alloc: Global,
     variable: &VariableItem,
@@ -193,7 +193,7 @@ fn add_variable(
     Ok(())
 }
 
-// Takes the code of a variable that is an input.
+// Adds the code of a variable, if it is an input.
 fn add_code(
     alloc: Global,
     role: &Role,
@@ -212,7 +212,7 @@ fn add_code(
     Ok(())
 }
 
-// The fault of an error after what is declared.
+// The fault of an error item, given the earlier declarations.
 fn find_error_fault(alloc: Global, error: &ErrorItem, tables: &Tables) -> Result<(), DeclareFault>
     requires { AreIndexed tables.now }
     ensures outcome { Outcome DeclareFault.Memory result
@@ -226,7 +226,7 @@ fn find_error_fault(alloc: Global, error: &ErrorItem, tables: &Tables) -> Result
     Ok(())
 }
 
-// Takes an error that has no fault.
+// Adds a valid error item.
 fn add_error(alloc: Global, error: &ErrorItem, tables: &mut Tables) -> Result<(), AllocError>
     requires indexed { AreIndexed tables.old }
     requires room { HasRoom tables.old }

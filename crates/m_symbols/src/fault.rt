@@ -4,19 +4,18 @@ ghost use Rattle.m_symbols.specs.declared.fault.DeclareFault.TheVariants.{Memory
 use m_places::{Name, Place};
 use std::alloc::{AllocError, AllocFailed};
 
-/// Why declarations are refused. The last place of each is that of the declaration at which the
-/// fault comes.
+/// Why declarations are rejected. The last place of each variant is that of the wrong declaration.
 #[derive(Drop)]
 pub enum DeclareFault {
-    /// A variable or an error whose name an earlier one has: the name, and the earlier place.
+    /// The name of a variable or an error is declared twice: the name, and the earlier place.
     DeclaredTwice(Name, Place, Place),
-    /// An input whose code an earlier one has: the code, and the earlier place.
+    /// The code of an input is declared twice: the code, and the earlier place.
     AliasTwice(Name, Place, Place),
-    /// A table of no cells, or of more than a table may have.
+    /// A table without cells, or with more than a table may have.
     TableSize(Place),
-    /// With this variable there are more cells than a base may have.
+    /// This variable's cells exceed the maximum of a base.
     TooManyCells(Place),
-    /// There was no memory.
+    /// Out of memory.
     Memory,
 }
 

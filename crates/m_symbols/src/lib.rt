@@ -1,7 +1,8 @@
-//! What rule files declare: variables and errors in the order of the files, each found by its name, the inputs by their codes, and the
-//! names of cells, both ways; and what a file of requests asks for.
+//! The symbol table: declared variables, inputs and errors by name, code and number; cells and
+//! their names; and the cells that a file of requests names.
 //!
-//! This crate stands on the trees and on names. It knows nothing of rules, of households, or of what a cell is worth.
+//! Uses the trees of items and interned names. Knows nothing of rules, of households, or of the
+//! values of cells.
 #![tactic(auto)]
 
 mod cells;

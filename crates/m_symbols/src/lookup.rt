@@ -1,4 +1,4 @@
-//! Look-ups, none of which takes memory.
+//! Look-ups. None takes memory.
 ghost use Rattle.std.specs.Prelude.{◌≡◌, ◌<◌, Some, length, slice_get, slice_index, IfSome};
 ghost use Rattle.m_names.specs.Names.{index_of};
 ghost use Rattle.m_symbols.specs.Declarations.{names_of, error_names_of, codes_of, owners_from, inputs_from};
@@ -10,14 +10,14 @@ use m_fixed::Amount;
 use m_places::Name;
 
 impl Symbols {
-    /// How many variables there are.
+    /// The count of variables.
     pub fn count(&self) -> u32
         ensures { result ≡ length self.now.variables }
     {
         self.tables.names.len() as u32
     }
 
-    /// The variable of this number, which is below the count.
+    /// The variable with this number, which must be below the count.
     pub fn variable(&self, v: u32) -> &Variable
         requires { v < length self.now.variables }
         ensures { slice_get self.now.variables v ≡ Some result.now }
@@ -25,7 +25,7 @@ impl Symbols {
         &self.tables.variables[v as usize]
     }
 
-    /// The number of the variable of this name.
+    /// The number of the variable with this name.
     pub fn find(&self, name: &[u8]) -> Option<u32>
         ensures number { result ≡ index_of name.now (names_of self.now.variables) }
         ensures within { IfSome result (λ v. v < length self.now.variables) }
@@ -33,14 +33,14 @@ impl Symbols {
         self.tables.names.number(name)
     }
 
-    /// How many cells there are.
+    /// The count of cells.
     pub fn cells(&self) -> u32
         ensures { result ≡ length (owners_from 0 self.now.variables) }
     {
         self.tables.owners.len() as u32
     }
 
-    /// The number of the variable of this cell, which is below the count of cells.
+    /// The number of the variable of this cell, which must be below the count of cells.
     pub fn owner(&self, cell: u32) -> u32
         requires { cell < length (owners_from 0 self.now.variables) }
         ensures owner { result ≡ slice_index (owners_from 0 self.now.variables) cell }
@@ -49,14 +49,14 @@ impl Symbols {
         self.tables.owners[cell as usize]
     }
 
-    /// How many inputs there are.
+    /// The count of inputs.
     pub fn inputs(&self) -> u32
         ensures { result ≡ length (inputs_from 0 self.now.variables) }
     {
         self.tables.codes.len() as u32
     }
 
-    /// The number of the variable that is this input, which is below the count of inputs.
+    /// The number of the variable of this input, which must be below the count of inputs.
     pub fn input(&self, n: u32) -> u32
         requires { n < length (inputs_from 0 self.now.variables) }
         ensures input { result ≡ slice_index (inputs_from 0 self.now.variables) n }
@@ -65,7 +65,7 @@ impl Symbols {
         self.tables.inputs[n as usize]
     }
 
-    /// The number of the input that has this code.
+    /// The number of the input with this code.
     pub fn by_alias(&self, code: &[u8]) -> Option<u32>
         ensures number { result ≡ index_of code.now (codes_of self.now.variables) }
         ensures within { IfSome result (λ n. n < length (inputs_from 0 self.now.variables)) }
@@ -73,8 +73,9 @@ impl Symbols {
         self.tables.codes.number(code)
     }
 
-    /// Whether the variable of this number, which is below the count, is an input whose last pair
-    /// with this attribute has one of these values: `avfisc = 1` and 1 or 2, say.
+    /// Whether the variable with this number, which must be below the count, is an input whose last
+    /// pair with this attribute has one of these values: `avfisc = 1` and the values 1 and 2, for
+    /// example.
     pub fn in_kind(&self, v: u32, attribute: &[u8], values: &[Amount]) -> bool
         requires { v < length self.now.variables }
         ensures { result ≡ is_in_kind (slice_get self.now.variables v) attribute.now values.now }
@@ -89,14 +90,14 @@ impl Symbols {
         }
     }
 
-    /// How many errors there are.
+    /// The count of errors.
     pub fn errors(&self) -> u32
         ensures { result ≡ length self.now.errors }
     {
         self.tables.error_names.len() as u32
     }
 
-    /// The error of this number, which is below the count.
+    /// The error with this number, which must be below the count.
     pub fn error(&self, e: u32) -> &ErrorItem
         requires { e < length self.now.errors }
         ensures { slice_get self.now.errors e ≡ Some result.now }
@@ -104,7 +105,7 @@ impl Symbols {
         &self.tables.errors[e as usize]
     }
 
-    /// The number of the error of this name.
+    /// The number of the error with this name.
     pub fn find_error(&self, name: &[u8]) -> Option<u32>
         ensures number { result ≡ index_of name.now (error_names_of self.now.errors) }
         ensures within { IfSome result (λ e. e < length self.now.errors) }
@@ -126,7 +127,7 @@ fn last_value(pairs: &[(Name, Amount)], attribute: &[u8]) -> Option<Amount>
     last
 }
 
-// Whether an amount is among amounts.
+// Whether an amount is in a list.
 fn has_amount(amounts: &[Amount], value: Amount) -> bool
     ensures { result ≡ has_amount value amounts.now }
 {

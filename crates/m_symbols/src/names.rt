@@ -11,7 +11,8 @@ use m_places::{Name, Seq};
 use m_text::append_pieces;
 use std::alloc::{AllocError, Global};
 
-/// The printed name of a cell: of a variable its name, of a table's cell `T[1]`. Its only error is running out of memory.
+/// The printed name of a cell: `IRN` for a variable that isn't a table, `T[1]` for a cell of a
+/// table. The only error is out of memory.
 pub fn cell_name(alloc: Global, symbols: &Symbols, cell: u32) -> Result<Name, AllocError>
     requires { cell < length (owners_from 0 symbols.now.variables) }
     ensures { IfOk result (λ name. name ≡ cell_name symbols.now cell) }
@@ -35,7 +36,7 @@ fn printed_cell(alloc: Global, variable: &Variable, cell: u32) -> Result<Name, A
     }
 }
 
-// The printed name of a table's cell.
+// The printed name of a cell of a table.
 fn table_cell(alloc: Global, name: &Name, k: u32) -> Result<Name, AllocError>
     ensures { IfOk result (λ printed. printed ≡ cell_text (Some 0) name.now k) }
 {
@@ -46,7 +47,7 @@ fn table_cell(alloc: Global, name: &Name, k: u32) -> Result<Name, AllocError>
     Name::new(alloc, &text)
 }
 
-/// The printed names of cells, in order. Its only error is running out of memory.
+/// The printed names of cells, in order. The only error is out of memory.
 pub fn cell_names(alloc: Global, symbols: &Symbols, cells: &[u32]) -> Result<Seq<Name>, AllocError>
     requires { All (λ c. c < length (owners_from 0 symbols.now.variables)) cells.now }
     ensures { IfOk result (λ names. names ≡ map (cell_name symbols.now) cells.now) }

@@ -1,18 +1,18 @@
-//! Why requests are refused.
+//! Errors of requests.
 
 ghost use Rattle.std.specs.Prelude.{◌≡◌};
 ghost use Rattle.m_symbols.specs.declared.request_fault.RequestFault.TheVariants.{Memory};
 
 use std::alloc::{AllocError, AllocFailed};
 
-/// Why requests are refused.
+/// Why requests are rejected.
 #[derive(Clone, Copy, Debug, PartialEq, Eq)]
 pub enum RequestFault {
-    /// The line with this number, from 1, names no cell. The first such line decides.
+    /// The first line that names no cell, by its number from 1.
     BadRequest(u32),
-    /// No line is bad, and more cells are asked for than may be.
+    /// Every line names a cell, and there are more requests than allowed.
     TooManyRequests,
-    /// There was no memory.
+    /// Out of memory.
     Memory,
 }
 

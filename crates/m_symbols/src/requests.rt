@@ -18,10 +18,10 @@ use m_places::limits::REQUESTS;
 use m_text::first_line;
 use std::alloc::Global;
 
-/// The cells that are asked for: those of the lines of a file, or without a file all that the rules give back. Each line that isn't
-/// empty names one cell, and a cell may be asked for twice.
+/// The requested cells: those that the lines of a file name, or without a file all returned cells.
+/// Each line that isn't empty names one cell, and a cell may be requested twice.
 ///
-/// The first bad line is told first, and where no line is bad that there are more than 100,000.
+/// The first bad line is reported; if there is none, that there are more than 100,000 requests.
 pub fn read_requests(
     alloc: Global,
     requests: &Option<Seq<u8>>,
@@ -62,7 +62,7 @@ fn read_lines(alloc: Global, bytes: &[u8], symbols: &Symbols) -> Result<Seq<u32>
     Ok(Seq::from_vec(cells))
 }
 
-// Cells that are not too many to be asked for.
+// The cells, if they aren't too many.
 fn few(cells: Seq<u32>) -> Result<Seq<u32>, RequestFault>
     ensures { result ≡ few (Ok cells) }
 {

@@ -3,21 +3,21 @@ use m_ast::ErrorItem;
 use m_names::Names;
 use std::marker::Model;
 
-/// The variables and errors that rule files declare, with tables in which they are found. Contracts
-/// see the two lists.
+/// The variables and errors that rule files declare, indexed for look-ups. Contracts see the two
+/// lists; that the indexes agree with them is the invariant of the type.
 #[derive(Drop)]
 pub struct Symbols {
     pub(crate) tables: Tables,
 }
 
-/// Declarations in order, and what finds them.
+/// Declarations in order, and their indexes. The indexes keep copies of the names and codes.
 #[derive(Drop)]
 pub(crate) struct Tables {
     pub(crate) variables: Vec<Variable>,
     pub(crate) names: Names,
-    /// The number of the variable of each cell.
+    /// For each cell the number of its variable.
     pub(crate) owners: Vec<u32>,
-    /// The numbers of the variables that are inputs.
+    /// For each input the number of its variable.
     pub(crate) inputs: Vec<u32>,
     /// The codes of the inputs.
     pub(crate) codes: Names,

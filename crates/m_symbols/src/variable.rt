@@ -7,6 +7,6 @@ pub struct Variable {
     pub item: VariableItem,
     /// The number of its first cell, from 0.
     pub first_cell: u32,
-    /// How many cells it has: a table as many as its size, every other variable one.
+    /// The number of its cells: the size of a table, 1 otherwise.
     pub cells: u32,
 }

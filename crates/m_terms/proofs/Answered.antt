@@ -1,4 +1,4 @@
--- What the laws say of the answers of the public calls.
+-- The results of the public calls, from the laws of terms and headers.
 use Rattle.std.proofs.Common.{◌≡◌, ◌<◌, ◌≤◌, ◌+◌, ◌-◌, ℕ, Bool, true, false, List, [], ◌∷◌, length, drop, Option, Some, None, Result, Ok, Err, refl, sym, ap}
 use Rattle.std.proofs.Common.{◌∙◌, subst, lit<, arith, length-drop, take}
 use Rattle.std.proofs.lemmas.List.{drop-drop, take_all}
@@ -27,7 +27,7 @@ use Rattle.m_lexer.proofs.ChainComplete.{open_complete}
 use Rattle.m_terms.proofs.HeaderLaws.{grip_of, Loose, header_sound, header_passes, header_complete}
 use Rattle.m_terms.proofs.TermLaws.{tightness, Below, inner_sound, inner_passes, inner_complete, expr_sound, expr_passes, expr_complete}
 
--- a fault of the inner reader, handed on
+-- an error of the inner reader, propagated
 pub failed : {A B : Type 0} {p : Option A} (good : B → Type 0) {bad : Type 0} (result : Result B TermFault) (e : TermFault) → IsErrAnd result (λ x. x ≡ e)
     → (p ≡ None → bad) → Fails e p → Outcome Memory result good (λ fault. bad)
 failed good (Ok x) e h k f = absurd h
@@ -40,7 +40,7 @@ found {P = P} {x = x} (here {x = y} p) e = let f : y ≡ x = cc in subst P f p
 
 -- Positions.
 
--- the tokens from a position to the end, as a slice has them
+-- the tokens from a position to the end, as a slice holds them
 pub to_the_end : (tokens : List Token) (from : ℕ) → take (length tokens - from) (drop from tokens) ≡ drop from tokens
 to_the_end tokens from = take_all (length tokens - from) (drop from tokens) (let e : length (drop from tokens) ≡ length tokens - from = length-drop from
     tokens in omega arith)

@@ -1,4 +1,4 @@
--- What is spelled joined is read so.
+-- Completeness of lists with separators: every spelling is read.
 use Rattle.std.proofs.Common.{◌≡◌, ℕ, List, [], ◌∷◌, length, Option, Some, None, refl, arith}
 use Rattle.m_lexer.specs.declared.token.Token.{Token}
 use Rattle.m_terms.specs.Tokens.{Joined, joined}

@@ -1,4 +1,4 @@
--- A turn of the count of depth.
+-- One step of the depth count.
 use Rattle.std.proofs.Common.{◌≡◌, ◌<◌, ◌≤◌, ◌+◌, ℕ, true, false, nat_lt, List, [], ◌∷◌, zero, drop, length, get_or, Some, None, refl, ◌∙◌, sym, suc, arith}
 use Rattle.std.proofs.Math.Seq.{drop-cons}
 use Rattle.std.proofs.lemmas.Bool.{lt-ltb, le-ltb}

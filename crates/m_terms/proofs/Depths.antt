@@ -1,4 +1,4 @@
--- What stands inside of brackets, by how many further ones may be opened.
+-- The content of brackets, by how many more levels may be opened.
 use Rattle.std.proofs.Common.{◌≡◌, ℕ, zero, suc, ◌-◌, List, None, refl, ap, arith}
 use Rattle.m_lexer.specs.declared.token.Token.{Token}
 use Rattle.m_terms.specs.declared.cursor.Level.{Level}
@@ -14,7 +14,8 @@ unfolding inner_at
 inner_some zero ts h = absurd (h refl)
 inner_some (suc d) ts h = ap (λ n. expr_at (inner_at n) ts) (omega arith)
 
--- how far above what stands in brackets the readers of a level stand
+-- the measure of the recursion: how many calls the readers of a level are above the content of
+-- brackets
 abbrev pub floor : Level → ℕ
 floor Product = 7
 floor Sum = 10

@@ -1,4 +1,5 @@
--- The law of headers: reading gives one exactly where the tokens spell it, before what doesn't go on with it.
+-- Headers: reading is sound and complete for the grammar, if the next token can't continue the
+-- header.
 use Rattle.std.proofs.Common.{◌≡◌, ◌<◌, ℕ, Bool, true, false, List, [], ◌∷◌, Option, Some, None, refl, sym, subst, lit<, arith}
 use Rattle.m_places.specs.declared.place.Place.{Place}
 use Rattle.m_lexer.specs.declared.token.Token.{Token}
@@ -22,7 +23,7 @@ use Rattle.m_terms.proofs.Passes.{later, over, skip, Passes, first_passes, joine
 use Rattle.m_lexer.proofs.ChainComplete.{Complete, open_complete}
 use Rattle.m_terms.proofs.Complete.{joined_complete}
 
--- how tightly a token binds a list of spans or members before it
+-- binding strength of a token after a list of spans or members
 abbrev pub grip_of : Kind → ℕ
 grip_of (Sign signs.Range) = 3
 grip_of (Sign signs.Comma) = 2
@@ -34,7 +35,7 @@ abbrev pub grip : List Token → ℕ
 grip [] = 0
 grip (t ∷ ts) = grip_of t.kind
 
--- what binds less than k
+-- the next token binds less than k
 abbrev pub Loose : ℕ → List Token → Type 0
 Loose k ts = grip ts < k
 

@@ -1,4 +1,4 @@
--- The law of members: reading gives them exactly where the tokens spell them.
+-- Members: reading is sound and complete for the grammar.
 use Rattle.std.proofs.Common.{◌≡◌, ℕ, ℤ, List, ◌∷◌, Some, None, refl, sym, subst}
 use Rattle.m_places.specs.declared.place.Place.{Place}
 use Rattle.m_fixed.specs.declared.amount.Value.TheVariants.{Num}

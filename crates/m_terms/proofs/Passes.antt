@@ -1,11 +1,11 @@
--- What is spelled takes tokens from the start: what is left stands after.
+-- A spelling takes at least one token: the rest is a proper suffix.
 use Rattle.std.proofs.Common.{◌≡◌, ◌<◌, ◌+◌, ℕ, zero, suc, List, ◌∷◌, length, drop, Option, ap, arith}
 use Rattle.m_lexer.proofs.ChainComplete.{Shrinks}
 use Rattle.m_lexer.specs.declared.token.Token.{Token}
 use Rattle.m_lexer.specs.Chains.{First, first, Chain, ended, further}
 use Rattle.m_terms.specs.Tokens.{Joined, joined}
 
--- rest stands after one or more tokens of ts
+-- rest is ts without one or more of its first tokens
 pub data Behind : List Token → List Token → Type 0 where
   next : {t : Token} {ts : List Token} → Behind ts (t ∷ ts)
   later : {t : Token} {ts rest : List Token} → Behind rest ts → Behind rest (t ∷ ts)

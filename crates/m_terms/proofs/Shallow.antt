@@ -1,4 +1,4 @@
--- Where no token is too deep, what is spelled at any depth is spelled within the bound.
+-- Where no token is too deep, every spelling of any depth is one within the bound.
 use Rattle.std.proofs.Common.{◌≡◌, ◌<◌, ◌≤◌, ◌+◌, ◌-◌, ℕ, zero, suc, Bool, true, false, cond, nat_lt, ◌∙◌, drop, List, [], ◌∷◌, Option, Some, None, refl, sym}
 use Rattle.std.proofs.Common.{subst, arith}
 use Rattle.std.proofs.lemmas.Bool.{ltb-false}
@@ -26,11 +26,11 @@ use Rattle.m_terms.specs.Grammar.{called, called_two, looped, SpellsFactor, plai
 use Rattle.m_terms.specs.Grammar.{SpellsMember, amount, name, range, SpellsMembers, SpellsRelation, alone, compared, inside, outside, SpellsNegation, affirmed}
 use Rattle.m_terms.specs.Grammar.{negated, SpellsConjunction, SpellsExpr, SpellsInner}
 
--- no token is too deep, where the depth before the first one is k
+-- no token is too deep, if the depth before the first one is k
 record Clear (k : ℕ) (ts : List Token) : Type 0 where
   none : first_too_deep BRACKET_DEPTH k ts ≡ None
 
--- the next token isn't too deep, and neither is one after it
+-- neither the next token nor any later one is too deep
 record Onward (k : ℕ) (ts : List Token) : Type 0 where
   shallow : k ≤ BRACKET_DEPTH
   clear : Clear k ts
@@ -72,14 +72,14 @@ still k _ e = refl
 pass : (k : ℕ) (t : Token) (ts : List Token) → turns t.kind ≡ false → Clear k (t ∷ ts) → Clear k ts
 pass k t ts e h = subst (λ n. Clear n ts) (still k t.kind e) (step k t ts h).clear
 
--- a token that goes one deeper, and one that goes back
+-- a token that adds a level, and one that closes it
 deeper : (k : ℕ) (t : Token) (ts : List Token) → depth_behind k t.kind ≡ k + 1 → Clear k (t ∷ ts) → (k < BRACKET_DEPTH) × Clear (k + 1) ts
 deeper k t ts e h = let s : Onward (depth_behind k t.kind) ts = step k t ts h in (omega (arith, s.shallow, e), subst (λ n. Clear n ts) e s.clear)
 
 back : (k : ℕ) (t : Token) (ts : List Token) → depth_behind (k + 1) t.kind ≡ (k + 1) - 1 → Clear (k + 1) (t ∷ ts) → Clear k ts
 back k t ts e h = let one : (k + 1) - 1 ≡ k = omega arith in subst (λ n. Clear n ts) (e ∙ one) (step (k + 1) t ts h).clear
 
--- Which tables say something of tokens that don't change the depth.
+-- The tables that are defined only at tokens that don't change the depth.
 point_still : (a : Kind) (w : List ℕ) → point_of a ≡ Some w → turns a ≡ false
 point_still (Word w) v e = refl
 point_still (Number z n) v e = refl
@@ -137,7 +137,7 @@ function_still keys.Regle f e = absurd (cc)
 function_still keys.Verif f e = absurd (cc)
 function_still _ f e = refl
 
--- What leaves the depth as it was: headers and members.
+-- Headers and members leave the depth unchanged.
 abbrev Keeps : {A : Type 0} → (A → List Token → List Token → Type 0) → Type 0
 Keeps {A} R = (k : ℕ) (x : A) (ts rest : List Token) → R x ts rest → Clear k ts → Clear k rest
 
@@ -193,7 +193,7 @@ member_keeps k _ _ _ (range d f) h = signed_keeps k _ _ _ f (pass k _ _ refl (si
 members_keeps : Keeps SpellsMembers
 members_keeps = joined_keeps (is_sign signs.Comma) SpellsMember (λ t b e. comma_still t.kind b e) member_keeps
 
--- Terms: with inner for what stands one deeper.
+-- Terms, where inner is the case of one level more.
 module _ (E F : Syntax → List Token → List Token → Type 0) (k : ℕ) (inner : k < BRACKET_DEPTH → (t : Syntax) (ts rest : List Token) → E t ts rest
     → Clear (k + 1) ts → F t ts rest × Clear (k + 1) rest) where
   abbrev Grows : (Syntax → List Token → List Token → Type 0) → (Syntax → List Token → List Token → Type 0) → Type 0
@@ -287,7 +287,7 @@ grow zero k j e = expr_grows (SpellsInner zero) (SpellsInner j) k (λ l t ts res
 grow (suc d) k zero e = expr_grows (SpellsInner (suc d)) (SpellsInner zero) k (λ l t ts rest x h. absurd (omega arith))
 grow (suc d) k (suc j) e = expr_grows (SpellsInner (suc d)) (SpellsInner (suc j)) k (λ l t ts rest x h. grow d (k + 1) j (omega arith) t ts rest x h)
 
--- after the first tokens too
+-- the tokens after a prefix
 onward : (from k : ℕ) (ts : List Token) → Clear k ts → (n : ℕ) × Clear n (drop from ts)
 onward zero k ts h = (k, h)
 onward (suc from) k [] h = (k, h)

@@ -1,4 +1,4 @@
--- What is read is spelled so: tools.
+-- Tools for soundness: what is read is a spelling.
 use Rattle.std.proofs.Common.{◌≡◌, Bool, true, false, cond, List, [], ◌∷◌, Option, Some, None, refl, sym, ap, subst}
 use denote.Enum.Bare.{same_true}
 use Rattle.m_places.specs.declared.place.Place.{Place}
@@ -21,7 +21,7 @@ abbrev pub token : Mark → Place → Token
 token (OfKey k) p = key k p
 token (OfSign s) p = sign s p
 
--- ts are this token, and then those that are left
+-- ts are this token and the remaining ones
 abbrev pub Marked : Mark → List Token → Unit {0} × List Token → Type 0
 Marked m ts o = (p : Place) × (ts ≡ token m p ∷ o.1)
 

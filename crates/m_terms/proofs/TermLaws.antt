@@ -1,4 +1,4 @@
--- The law of terms: reading gives one exactly where the tokens spell it, before what doesn't go on with it.
+-- Terms: reading is sound and complete for the grammar, if the next token can't continue the term.
 use Rattle.std.proofs.Common.{◌≡◌, ◌<◌, ℕ, zero, suc, Bool, true, false, List, [], ◌∷◌, length, Option, Some, None, refl, sym, ap, ◌∙◌, subst, lit<, arith}
 use Rattle.m_places.specs.declared.place.Place.{Place}
 use Rattle.m_fixed.specs.declared.operator.Op.{Op}
@@ -32,7 +32,7 @@ use Rattle.m_lexer.proofs.ChainComplete.{Complete, chain_binds, chain_complete}
 use Rattle.m_terms.proofs.HeaderLaws.{header_sound, header_passes, header_complete}
 use Rattle.m_terms.proofs.MemberLaws.{list_sound, list_passes, list_complete}
 
--- how tightly a token binds what stands before it: 0 where a term ends at it
+-- binding strength of a token after a term: 0 if the term can't continue with it
 abbrev pub tightness : Kind → ℕ
 tightness (Sign signs.OpenBracket) = 6
 tightness (Sign signs.Star) = 5
@@ -55,11 +55,11 @@ abbrev pub tight : List Token → ℕ
 tight [] = 0
 tight (t ∷ ts) = tightness t.kind
 
--- what binds less than k
+-- the next token binds less than k
 abbrev pub Below : ℕ → List Token → Type 0
 Below k ts = tight ts < k
 
--- R { operator R }, once for each level
+-- R { operator R }, once for all levels
 module _ (operator : Token → Option Op) (R : Syntax → List Token → List Token → Type 0) where
   pub gathered_sound : (p : List Token → Option (Syntax × List Token)) → Sound R p → Sound (Gathered operator R) (gathered_at operator p)
   unfolding gathered_at
@@ -83,7 +83,7 @@ module _ (operator : Token → Option Op) (R : Syntax → List Token → List To
         e,
       ) refl
 
--- Which token goes on with what stands before it.
+-- Which tokens continue a term at each level.
 multiplies : (k : Kind) (b : Op) → multiplication_of k ≡ Some b → tightness k < 6
 multiplies (Sign signs.Star) b e = lit< tt
 multiplies (Sign signs.Slash) b e = lit< tt
@@ -187,7 +187,7 @@ function_no_non : (k : AKey) (f : Op × Bool) → function_of k ≡ Some f → k
 function_no_non keys.Non f e = absurd (cc)
 function_no_non _ f e = refl
 
--- What is read is spelled so.
+-- Soundness: what is read is a spelling.
 module _ (E : Syntax → List Token → List Token → Type 0) (e : List Token → Option (Syntax × List Token)) (sound : Sound E e) where
   until_sound : (m : Mark) (ts : List Token) → Each (λ (t : Syntax × List Token). (p : Place) × E t.0 ts (token m p ∷ t.1)) (until_at e m ts)
   unfolding until_at
@@ -319,7 +319,7 @@ module _ (E : Syntax → List Token → List Token → Type 0) (e : List Token �
   expr_sound = gathered_sound disjunction (SpellsConjunction E) (conjunction_at e)
       (gathered_sound conjunction (SpellsNegation E) (negation_at e) negation_sound)
 
--- What is left stands after.
+-- A spelling takes at least one token.
 module _ (E : Syntax → List Token → List Token → Type 0) (passes : Passes E) where
   prim_passes : Passes (SpellsPrim E)
   prim_passes _ _ _ number = next
@@ -359,7 +359,7 @@ module _ (E : Syntax → List Token → List Token → Type 0) (passes : Passes 
   pub expr_passes : Passes (SpellsExpr E)
   expr_passes = gathered_passes disjunction (SpellsConjunction E) conjunction_passes
 
-  -- What is spelled is read so.
+  -- Completeness: every spelling is read.
   module _ (e : List Token → Option (Syntax × List Token)) (complete : Complete (Below 1) E e) where
     until_complete : (m : Mark) (p : Place) {t : Syntax} {ts rest : List Token} → E t ts (token m p ∷ rest) → Below 1 (token m p ∷ rest)
         → is m (token m p) ≡ Some tt → until_at e m ts ≡ Some (t, rest)
@@ -443,7 +443,7 @@ module _ (E : Syntax → List Token → List Token → Type 0) (passes : Passes 
     expr_complete = gathered_complete disjunction (SpellsConjunction E) (conjunction_at e) 1 conjunction_passes conjunction_complete
         (λ t b ts i. disjoins t.kind b i) disjunction_closed
 
--- The knot, by how many brackets may be opened.
+-- The recursion, by induction on how many levels may be opened.
 pub inner_sound : (d : ℕ) → Sound (SpellsInner d) (inner_at d)
 unfolding SpellsInner inner_at
 inner_sound zero = λ ts. absent

@@ -1,6 +1,6 @@
--- How terms are spelled: one relation for each level of precedence, with the relation E of what stands in brackets as a
--- parameter. In each the last two arguments are tokens: `SpellsSum E t ts rest` says that ts begin with a spelling of the
--- sum t and go on with rest.
+-- The grammar of terms: one relation per level of precedence, with the relation E of the content of
+-- brackets as a parameter. The last two arguments of each are tokens: `SpellsSum E t ts rest` means
+-- that a prefix of ts parses as the sum t, and rest follows it.
 use Rattle.std.specs.Prelude.{◌≡◌, ℕ, zero, suc, ℤ, Bool, true, false, List, [], ◌∷◌, Option, Some, None}
 use Rattle.m_places.specs.declared.place.Place.{Place}
 use Rattle.m_fixed.specs.declared.amount.Value.TheVariants.{Undef, Num}
@@ -63,7 +63,7 @@ comparison_of (Sign signs.Greater) = Some ops.Gt
 comparison_of (Sign signs.GreaterEqual) = Some ops.Ge
 comparison_of _ = None
 
--- the functions, each with its operator and whether it has two arguments
+-- the functions, each with its operator and whether it takes two arguments
 abbrev pub function_of : AKey → Option (Op × Bool)
 function_of keys.Present = Some (ops.Present, false)
 function_of keys.Abs = Some (ops.Abs, false)
@@ -97,7 +97,7 @@ link op t = record { op = op; term = t }
 abbrev pub member : Syntax → Syntax → Member
 member a b = record { low = a; high = b }
 
--- one operand stands for itself, and several make a chain
+-- one operand is itself, and several are a chain
 abbrev pub gathered : Syntax → List Link → Syntax
 gathered t [] = t
 gathered t (o ∷ os) = chain t (links_of (o ∷ os))
@@ -194,7 +194,7 @@ SpellsConjunction E = Gathered conjunction (SpellsNegation E)
 abbrev pub SpellsExpr : (Syntax → List Token → List Token → Type 0) → Syntax → List Token → List Token → Type 0
 SpellsExpr E = Gathered disjunction (SpellsConjunction E)
 
--- what stands inside of brackets, where d further ones may be opened: an expression in which d - 1 may be
+-- the content of brackets, if d more levels may be opened: an expression in which d - 1 may be
 unfoldable pub SpellsInner : ℕ → Syntax → List Token → List Token → Type 0
 SpellsInner zero = λ t ts rest. ⊥
 SpellsInner (suc d) = SpellsExpr (SpellsInner d)

@@ -1,4 +1,4 @@
--- How the header of a loop is spelled: `i = V,C ; j = 08..10`, or `un i dans V,C et un j dans (08..10)`.
+-- The grammar of loop headers: `i = V,C ; j = 08..10`, or `un i dans V,C et un j dans (08..10)`.
 use Rattle.std.specs.Prelude.{ℕ, cond, List, [], ◌∷◌, Option, Some, None}
 use Rattle.m_places.specs.declared.place.Place.{Place}
 use Rattle.m_lexer.specs.declared.token.Token.{Token}

@@ -1,4 +1,4 @@
--- What the public calls say: which term, or which header, stands between two positions of the tokens.
+-- What the public calls read: the term, or the header, between two positions of the tokens.
 use Rattle.std.specs.Prelude.{ℕ, ◌<◌, List, drop, Option, Some, None, length}
 use Rattle.m_lexer.specs.declared.token.Token.{Token}
 use Rattle.m_lexer.specs.declared.token.Kind.{Kind}
@@ -13,11 +13,11 @@ use Rattle.m_terms.specs.Tokens.{is_sign}
 use Rattle.m_terms.specs.Headers.{SpellsHeader}
 use Rattle.m_terms.specs.Grammar.{SpellsExpr, SpellsInner}
 
--- expr: a term in which brackets and conditionals stand at most 256 deep inside of one another
+-- expr: a term with brackets and conditionals nested at most 256 deep
 abbrev pub SpellsTerm : Syntax → List Token → List Token → Type 0
 SpellsTerm = SpellsExpr (SpellsInner BRACKET_DEPTH)
 
--- what may follow a term: `;` `)` `]` `,` `alors` `sinon` `finsi`
+-- the tokens that may follow a term: `;` `)` `]` `,` `alors` `sinon` `finsi`
 abbrev pub follows_of : Kind → Option (Unit {0})
 follows_of (Sign Semicolon) = Some tt
 follows_of (Sign CloseParen) = Some tt
@@ -31,26 +31,27 @@ follows_of _ = None
 abbrev pub follows : Token → Option (Unit {0})
 follows t = follows_of t.kind
 
--- these tokens begin with one of which the table says something
+-- the table is defined at the first of these tokens
 abbrev pub BeginsBy : (Token → Option (Unit {0})) → List Token → Type 0
 BeginsBy table ts = (rest : List Token) × First table tt ts rest
 
--- The tokens from one position to a later one spell the term, and a token that may follow a term stands there: in the tokens
--- of `A + 1 ;` the term `A + 1` stands from 0 to 3.
+-- The tokens from one position up to another parse as the term, and a token that may follow a term
+-- comes next: in `A + 1 ;` the term `A + 1` is at 0 to 3. The end is part of the statement; without
+-- it `A` would be a term at 0 to 1.
 pub record TermAt (tokens : List Token) (from : ℕ) (term : Syntax) (to : ℕ) : Type 0 where
   pub onward : from < to
   pub within : to < length tokens
   pub spelled : SpellsTerm term (drop from tokens) (drop to tokens)
   pub closed : BeginsBy follows (drop to tokens)
 
--- The tokens from one position to a later one spell the header, and `:` stands there.
+-- The tokens from one position up to another parse as the header, and `:` comes next.
 pub record HeaderAt (tokens : List Token) (from : ℕ) (header : Header) (to : ℕ) : Type 0 where
   pub onward : from < to
   pub within : to < length tokens
   pub spelled : SpellsHeader header (drop from tokens) (drop to tokens)
   pub closed : BeginsBy (is_sign Colon) (drop to tokens)
 
--- no term, and no header, stands from this position on
+-- no term, and no header, starts at this position
 abbrev pub NoTermAt : List Token → ℕ → Type 0
 NoTermAt tokens from = (term : Syntax) (to : ℕ) → TermAt tokens from term to → ⊥
 

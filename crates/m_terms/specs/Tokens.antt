@@ -1,4 +1,4 @@
--- Single tokens of terms and headers, and what stands any number of times.
+-- Single tokens of terms and headers, and lists with separators.
 use Rattle.std.specs.Prelude.{◌≡◌, ℕ, Bool, cond, ◌&&◌, ◌||◌, nat_lt, nat_le, List, [], ◌∷◌, length, Option, Some, None}
 use Rattle.std.specs.List.{list_all}
 use denote.Enum.Bare.{sameb}
@@ -45,7 +45,7 @@ is_sign s t = kind_is_sign s t.kind
 abbrev pub is_key : AKey → Token → Option (Unit {0})
 is_key k t = kind_is_key k t.kind
 
--- R { opening R }, where the opening says nothing of it
+-- R { separator R }, where the separator has no meaning
 pub data Joined {A : Type 0} (opens : Token → Option (Unit {0})) (R : A → List Token → List Token → Type 0) : List A → List Token → List Token → Type 0 where
   joined : {x : A} {xs : List A} {ts mid rest : List Token}
       → R x ts mid → Chain opens (λ _ x. x) R xs mid rest →
@@ -60,11 +60,11 @@ is_small b = nat_le 97 b && nat_le b 122
 abbrev pub is_not_small : ℕ → Bool
 is_not_small b = nat_lt b 97 || nat_lt 122 b
 
--- a word without a letter from a to z, as `REV` and `1AJ`
+-- a word without a letter from a to z, such as `REV` and `1AJ`
 abbrev pub is_name : List ℕ → Bool
 is_name w = list_all is_not_small w
 
--- a number's spelling of one to nine digits and no point, as `010`
+-- the spelling of a number of one to nine digits without a point, such as `010`
 abbrev pub is_whole : List ℕ → Bool
 is_whole n = nat_lt 0 (length n) && nat_le (length n) 9 && list_all is_digit n
 

@@ -1,4 +1,4 @@
-//! Terms in boxes, each made of its parts.
+//! Constructors of boxed terms.
 ghost use Rattle.std.specs.Prelude.{◌≡◌, IfOk};
 ghost use Rattle.m_ast.specs.View.{syntax_of};
 ghost use Rattle.m_terms.specs.Grammar.{one, two, three, gathered};
@@ -8,8 +8,8 @@ use m_ast::{Link, Node, Term, made};
 use m_fixed::Op;
 use std::alloc::{AllocError, Global};
 
-/// Drops what was read before a fault, and answers the fault. Readers call each other 256 levels deep: what they drop or build stands in functions
-/// of their own, so that their frames are small.
+/// Drops a partial result and returns the error. Readers recurse up to 256 levels: what builds or
+/// drops terms is a separate function, never inlined, so that their stack frames stay small.
 #[inline(never)]
 pub fn without<T: Drop>(_read: T, fault: TermFault) -> TermFault
     ensures { result ≡ fault }
@@ -69,7 +69,7 @@ pub fn applied_to_three(
     boxed(alloc, Node::Apply(op, arguments))
 }
 
-/// A first operand and what is joined to it: where nothing is, the operand.
+/// A chain of a first operand and links; without links, the operand alone.
 #[inline(never)]
 pub fn chained(alloc: Global, first: Box<Term>, links: Vec<Link>) -> Result<Box<Term>, AllocError>
     ensures { IfOk result (λ t. t.value ≡ gathered first.value links.items) }

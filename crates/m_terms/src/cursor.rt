@@ -1,4 +1,4 @@
-//! A place in the tokens, and the readers of single tokens. It knows nothing of trees.
+//! A position in the tokens, and the readers of single tokens. Knows nothing of trees.
 ghost use Rattle.std.specs.Prelude.{◌≡◌, ◌<◌, ◌∷◌, [], length, Some, None, MatchBool, MatchOption, OnSome};
 ghost use Rattle.m_places.specs.Refusals.{Takes};
 ghost use Rattle.std.specs.Bool.{OnTrue};
@@ -24,7 +24,7 @@ pub enum Mark {
     OfSign(Sign),
 }
 
-/// A level of precedence at which operands are joined from the left, the loosest first.
+/// A level of precedence of left-associative operators, from the loosest to the tightest.
 #[derive(Clone, Copy)]
 pub enum Level {
     Disjunction,
@@ -33,7 +33,7 @@ pub enum Level {
     Product,
 }
 
-/// The tokens that are left. Contracts see it as their list.
+/// The remaining tokens. Contracts see it as their list.
 #[derive(Drop)]
 pub struct Cursor<'a> {
     left: &'a [Token],
@@ -56,14 +56,14 @@ impl<'a> Cursor<'a> {
         Cursor { left: tokens }
     }
 
-    /// How many tokens are left.
+    /// The number of remaining tokens.
     pub fn len(&self) -> usize
         ensures { result ≡ length self.now }
     {
         self.left.len()
     }
 
-    /// Takes the next token, whatever it is.
+    /// Takes the next token, of any kind.
     pub fn next(&mut self) -> Option<&'a Token>
         ensures { MatchOption result (self.old ≡ []) (λ t. self.old ≡ t.now ∷ self.new) }
     {
@@ -97,7 +97,7 @@ impl<'a> Cursor<'a> {
         true
     }
 
-    /// Takes a letter from a to z, and answers it and its place.
+    /// Takes a letter from a to z, and returns it and its place.
     pub fn take_letter(&mut self) -> Option<(u8, Place)>
         ensures letter { Takes result (λ l. l) (open_at letter self.old) self.old self.new }
         ensures shorter { OnSome result (length self.new < length self.old) }
@@ -108,7 +108,7 @@ impl<'a> Cursor<'a> {
         Some((byte, first.place))
     }
 
-    /// Takes a word, and answers it and its place.
+    /// Takes a word, and returns it and its place.
     pub fn take_word(&mut self) -> Option<(&'a Name, Place)>
         ensures word { Takes result (λ w. named w.0.now w.1) (open_at plain_word self.old) self.old self.new }
         ensures shorter { OnSome result (length self.new < length self.old) }
@@ -145,7 +145,7 @@ impl<'a> Cursor<'a> {
         Some(op)
     }
 
-    /// Whether a token that may follow a term is next.
+    /// Whether the next token may follow a term.
     pub fn is_at_follower(&self) -> bool
         ensures { result ≡ begins_by follows self.now }
     {
@@ -155,7 +155,7 @@ impl<'a> Cursor<'a> {
         }
     }
 
-    /// Takes an end of a span: a name, `X`, or a whole number as it is spelled.
+    /// Takes an end of a span: a name, `X`, or a whole number as spelled.
     pub fn take_point(&mut self) -> Option<&'a [u8]>
         ensures point { Takes result (λ w. w.now) (open_at point self.old) self.old self.new }
         ensures shorter { OnSome result (length self.new < length self.old) }
@@ -167,7 +167,7 @@ impl<'a> Cursor<'a> {
     }
 }
 
-// The operator of a level, if the token is one.
+// The operator of this level that the token denotes.
 fn operator(kind: &Kind, level: Level) -> Option<Op>
     ensures { result ≡ operator_of level kind.now }
 {
@@ -207,7 +207,7 @@ fn comparison(kind: &Kind) -> Option<Op>
     }
 }
 
-// Whether a term may end before this token.
+// Whether a term may be followed by this token.
 fn may_follow(kind: &Kind) -> bool
     ensures { MatchBool result (follows_of kind.now ≡ Some tt) (follows_of kind.now ≡ None) }
 {
@@ -265,7 +265,7 @@ fn letter_of(kind: &Kind) -> Option<u8>
     }
 }
 
-// A name, `X`, or a whole number as it is spelled.
+// A name, `X`, or a whole number as spelled.
 fn point_of(kind: &Kind) -> Option<&[u8]>
     ensures { MatchOption result (point_of kind.now ≡ None) (λ w. point_of kind.now ≡ Some w.now) }
 {

@@ -1,4 +1,4 @@
-//! How deep brackets and conditionals stand inside of one another.
+//! The nesting depth of brackets and conditionals.
 ghost use Rattle.std.specs.Prelude.{◌≡◌, ◌≤◌};
 ghost use Rattle.m_places.specs.declared.limits.TheConstants.{BRACKET_DEPTH};
 ghost use Rattle.m_terms.specs.Depth.{depth_behind, first_too_deep};
@@ -7,11 +7,11 @@ use m_lexer::{Key, Kind, Sign, Token};
 use m_places::Place;
 use m_places::limits::BRACKET_DEPTH;
 
-/// The place of the first token after which brackets and conditionals stand more than 256 deep, or
-/// `None`. Takes no memory.
+/// The place of the first token at which brackets and conditionals are nested more than 256 deep,
+/// or `None`. Takes no memory.
 ///
-/// `(`, `[` and `si` go one deeper, `)`, `]`, `finsi` and `erreur` one back, and `regle` and `verif`
-/// begin at 0 again.
+/// `(`, `[` and `si` add one to the depth; `)`, `]`, `finsi` and `erreur` subtract one unless it is
+/// 0; `regle` and `verif` reset it to 0.
 pub fn depth_fault(tokens: &[Token]) -> Option<Place>
     ensures { result ≡ first_too_deep BRACKET_DEPTH 0 tokens.now }
 {
@@ -25,7 +25,7 @@ pub fn depth_fault(tokens: &[Token]) -> Option<Place>
     None
 }
 
-// The depth after a token, by the depth before it.
+// The depth after a token, from the depth before it.
 fn behind(depth: u32, kind: &Kind) -> u32
     requires { depth ≤ BRACKET_DEPTH }
     ensures { result ≡ depth_behind depth kind.now }

@@ -1,5 +1,5 @@
-//! Terms. Each reader is one rule of the grammar; `depth` says how many more brackets and
-//! conditionals may be opened.
+//! Terms, by recursive descent: one function per rule of the grammar. `depth` is how many more
+//! levels of brackets and conditionals may be opened.
 ghost use Rattle.std.specs.Prelude.{◌≡◌, ℕ, ◌<◌, ◌≤◌, ◌++◌, [], ◌∷◌, length, OnOk};
 ghost use Rattle.m_terms.specs.Grammar.{link, function_of};
 ghost use Rattle.m_terms.specs.inner.Reading.{GivesBy, until_at, other_at, choice_at, named_at, call_at, loop_at, other_word_at, word_at, prim_at, prim_of};
@@ -17,7 +17,8 @@ use m_lexer::{Key, Kind, Sign};
 use m_places::{Name, Place};
 use std::alloc::{AllocError, Global};
 
-// What stands inside of brackets, of which depth further ones may be opened.
+// The content of brackets or conditionals. `depth` counts this level: inside, `depth - 1` more may
+// be opened.
 #[cycle(read)]
 fn read_inner(alloc: Global, cursor: &mut Cursor<'_>, depth: u32) -> Result<Box<Term>, TermFault>
     ensures reads { GivesBy (λ t. t.value) result (inner_at depth cursor.old) cursor.new }
@@ -158,7 +159,7 @@ fn read_loop(alloc: Global, cursor: &mut Cursor<'_>, depth: u32) -> Result<Box<T
     }
 }
 
-// The operator of a function, and whether it has two arguments.
+// The operator of a function, and whether it takes two arguments.
 fn function(key: Key) -> Option<(Op, bool)>
     ensures { result ≡ function_of key }
 {
@@ -176,7 +177,7 @@ fn function(key: Key) -> Option<(Op, bool)>
     }
 }
 
-// What a reserved word begins, after it.
+// The rest of a primary term, after its reserved word.
 #[cycle(read)]
 #[tactic(auto, unfolding(crate::specs::inner::Reading::word_at, crate::specs::inner::Reading::other_word_at))]
 fn read_word(
@@ -253,7 +254,7 @@ fn read_level(
     }
 }
 
-// What stands between the operators of a level.
+// An operand of this level.
 #[cycle(read)]
 fn read_operand(
     alloc: Global,
@@ -272,7 +273,7 @@ fn read_operand(
     }
 }
 
-// Adds an operator and its operand. A first one gets room for one.
+// Adds an operator and its operand. The first one reserves memory for one only.
 #[inline(never)]
 fn add_link(links: &mut Vec<Link>, op: Op, term: Box<Term>) -> Result<(), AllocError>
     ensures { OnOk result (links.new.items ≡ links.old.items ++ link op term.value ∷ []) }

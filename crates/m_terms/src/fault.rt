@@ -6,7 +6,7 @@ use std::alloc::{AllocError, AllocFailed};
 /// Why no term, or no header, was read.
 #[derive(Clone, Copy, Debug, PartialEq, Eq)]
 pub enum TermFault {
-    /// None stands there.
+    /// The tokens don't parse as one.
     NoTerm,
     /// Out of memory.
     Memory,

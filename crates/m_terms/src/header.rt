@@ -106,7 +106,7 @@ fn read_walked(alloc: Global, cursor: &mut Cursor<'_>) -> Result<Index, TermFaul
     })
 }
 
-// An index by words, or by signs.
+// An index in either notation: with `un .. dans`, or with `=`.
 fn read_index(alloc: Global, cursor: &mut Cursor<'_>, by_words: bool) -> Result<Index, TermFault>
     ensures reads { Gives result (index_at by_words cursor.old) cursor.new }
     ensures shorter { OnOk result (length cursor.new < length cursor.old) }
@@ -118,7 +118,7 @@ fn read_index(alloc: Global, cursor: &mut Cursor<'_>, by_words: bool) -> Result<
     }
 }
 
-// What stands between two indexes.
+// The separator between two indexes.
 fn further(by_words: bool) -> Mark
     ensures { result ≡ further_index by_words }
 {
@@ -129,7 +129,7 @@ fn further(by_words: bool) -> Mark
     }
 }
 
-// index { further index }
+// index { separator index }
 #[tactic(auto, unfolding(crate::specs::inner::Reading::joined_at))]
 fn read_indexes(
     alloc: Global,

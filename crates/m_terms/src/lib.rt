@@ -1,6 +1,7 @@
-//! Terms and headers of loops: from the tokens between two positions to the tree that they spell.
+//! The parser of terms and loop headers: from a position in the tokens to the tree and the position
+//! after it.
 //!
-//! This crate stands on tokens and trees. It knows nothing of items, nor of what a term is worth.
+//! Uses tokens and trees. Knows nothing of items, or of values.
 #![tactic(auto)]
 
 mod build;

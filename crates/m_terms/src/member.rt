@@ -1,4 +1,4 @@
-//! What stands after `dans`.
+//! The members after `dans`.
 ghost use Rattle.std.specs.Prelude.{◌≡◌, ◌<◌, length, IfOk, OnOk};
 ghost use Rattle.m_terms.specs.Grammar.{member};
 ghost use Rattle.m_terms.specs.Tokens.{is_sign};
@@ -58,7 +58,7 @@ fn read_ends(alloc: Global, cursor: &mut Cursor<'_>) -> Result<Member, TermFault
     })
 }
 
-// A member of which both ends are this term.
+// A member whose two ends are this term.
 fn single(alloc: Global, term: Box<Term>) -> Result<Member, AllocError>
     ensures { IfOk result (λ m. m ≡ member term.value term.value) }
 {

@@ -22,11 +22,12 @@ use m_lexer::{Sign, Token};
 use m_places::limits::BRACKET_DEPTH;
 use std::alloc::Global;
 
-/// The term that the tokens spell from this position on, and the position after it, at which one of
-/// `;`, `)`, `]`, `,`, `alors`, `sinon` and `finsi` stands.
+/// The term that starts at this position, and the position after it, where one of `;`, `)`, `]`,
+/// `,`, `alors`, `sinon` and `finsi` follows.
 ///
-/// Of `A + 1 ;` it reads `A + 1` and answers 3. `NoTerm` comes exactly where no term with brackets
-/// and conditionals at most 256 deep stands there.
+/// `A + 1 ;` gives `A + 1` and 3. `NoTerm` is returned exactly if no term, with brackets and
+/// conditionals nested at most 256 deep, starts here. It has no place: the caller knows what it
+/// expected.
 pub fn read_term(alloc: Global, tokens: &[Token], from: usize) -> Result<(Term, usize), TermFault>
     requires { from ≤ length tokens.now }
     ensures outcome { Outcome Memory result (λ read. TermAt tokens.now from read.0 read.1) (λ fault. NoTermAt tokens.now from) }
@@ -39,11 +40,9 @@ pub fn read_term(alloc: Global, tokens: &[Token], from: usize) -> Result<(Term, 
     Ok((Box::into_inner(term), tokens.len() - cursor.len()))
 }
 
-/// The header that the tokens spell from this position on, and the position after it, at which `:`
-/// stands.
+/// The header that starts at this position, and the position after it, where `:` follows.
 ///
-/// Of `i = V,C :` it reads `i = V,C` and answers 5. `NoTerm` comes exactly where no header stands
-/// there.
+/// `i = V,C :` gives `i = V,C` and 5. `NoTerm` is returned exactly if no header starts here.
 pub fn read_header(
     alloc: Global,
     tokens: &[Token],
@@ -60,19 +59,21 @@ pub fn read_header(
     Ok((header, tokens.len() - cursor.len()))
 }
 
-/// The tokens spell at most one term that ends before a token which may follow one.
+/// The grammar is unambiguous: at most one prefix of the tokens that is followed by a token that
+/// may follow a term parses as a term, and only as one.
 pub fn one_term()
     ensures { (t u : Syntax) (ts r s : List Token) → SpellsTerm t ts r → BeginsBy follows r → SpellsTerm u ts s → BeginsBy follows s → (t ≡ u) × (r ≡ s) }
 {}
 
-/// The tokens spell at most one header that ends before a `:`.
+/// The grammar is unambiguous: at most one prefix of the tokens that is followed by a `:` parses as
+/// a header, and only as one.
 pub fn one_header()
     ensures { (h k : Header) (ts r s : List Token) → SpellsHeader h ts r → BeginsBy (is_sign Colon) r
         → SpellsHeader k ts s → BeginsBy (is_sign Colon) s → (h ≡ k) × (r ≡ s) }
 {}
 
-/// Where no token is too deep, each term that is spelled has its brackets and conditionals at most
-/// 256 deep: `read_term` leaves none out.
+/// Where no token is too deep, every term has its brackets and conditionals nested at most 256
+/// deep: `read_term` omits none.
 pub fn shallow_terms()
     ensures { (tokens : List Token) (from d : ℕ) (t : Syntax) (rest : List Token) → first_too_deep BRACKET_DEPTH 0 tokens ≡ None
         → SpellsExpr (SpellsInner d) t (drop from tokens) rest → SpellsTerm t (drop from tokens) rest }

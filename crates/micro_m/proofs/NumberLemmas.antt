@@ -1,4 +1,4 @@
--- Numbers in lists: which are among them, and that distinct ones are no more than the list that has them.
+-- Numbers in lists: membership, and a bound on the length of lists of distinct numbers.
 use Rattle.std.proofs.Common.{◌≡◌, ℕ, zero, suc, ◌<◌, ◌≤◌, ◌++◌, get_or, map, Bool, true, false, nat_eq, List, [], ◌∷◌, length, refl, ap, sym, ◌∙◌, subst}
 use Rattle.std.proofs.Common.{arith}
 use mathlib.Core.Bool.{◌||◌}
@@ -15,7 +15,7 @@ same a b t = grind (arith, nat_tests)
 pub itself : (a : ℕ) → nat_eq a a ≡ true
 itself a = grind (arith, nat_tests)
 
--- both ways to split on a test, with what it says
+-- case split on a test, with its result
 pub cases : (b : Bool) {P : Type 0} → (b ≡ true → P) → (b ≡ false → P) → P
 cases true t f = t refl
 cases false t f = f refl
@@ -37,17 +37,17 @@ unfolding IsDistinct
 distinct [] d = tt
 distinct (x ∷ xs) d = (apart x xs d.0, distinct xs d.1)
 
--- what two tests say of one thing
+-- a test can't be both true and false
 pub clash : {b : Bool} → b ≡ true → b ≡ false → ⊥
 clash t f = cc
 
--- the number at a place is among them
+-- the number at an index is a member
 pub among-at : (xs : List ℕ) (i : ℕ) → i < length xs → is_among (get_or xs i 0) xs ≡ true
 among-at [] i h = absurd (omega arith)
 among-at (x ∷ xs) zero h = ap (λ b. b || is_among x xs) (itself x)
 among-at (x ∷ xs) (suc i) h = or-true (nat_eq (get_or xs i 0) x) (is_among (get_or xs i 0) xs) (among-at xs i (omega arith))
 
--- and a number that is among them stands at a place
+-- and a member is at some index
 pub place-among : (x : ℕ) (xs : List ℕ) → is_among x xs ≡ true → (i : ℕ) × (i < length xs) × (get_or xs i 0 ≡ x)
 place-among x [] h = absurd (cc)
 place-among x (y ∷ ys) h = cases (nat_eq x y)
@@ -56,7 +56,7 @@ place-among x (y ∷ ys) h = cases (nat_eq x y)
     let k = place-among x ys (ap (λ b. b || is_among x ys) (sym f) ∙ h) in
     (suc k.0, omega arith, k.2))
 
--- places of distinct numbers are told by the numbers
+-- distinct numbers are at distinct indexes
 pub place-one : (xs : List ℕ) (i j : ℕ) → AreDistinctCells xs → i < length xs → j < length xs → get_or xs i 0 ≡ get_or xs j 0 → i ≡ j
 place-one [] i j d hi hj e = absurd (omega arith)
 place-one (x ∷ xs) zero zero d hi hj e = refl
@@ -64,7 +64,7 @@ place-one (x ∷ xs) zero (suc j) d hi hj e = absurd (clash (subst (λ n. is_amo
 place-one (x ∷ xs) (suc i) zero d hi hj e = absurd (clash (subst (λ n. is_among n xs ≡ true) e (among-at xs i (omega arith))) d.0)
 place-one (x ∷ xs) (suc i) (suc j) d hi hj e = ap (λ n. suc n) (place-one xs i j d.1 (omega arith) (omega arith) e)
 
--- a number among those that a function gives comes from one
+-- a member of a mapped list comes from one of the list
 pub among-map : {X : Type 0} (f : X → ℕ) (x : ℕ) (ys : List X) → is_among x (map f ys) ≡ true → (i : ℕ) × (i < length ys) × ((d : X) → f (get_or ys i d) ≡ x)
 among-map f x [] h = absurd (cc)
 among-map f x (y ∷ ys) h = cases (nat_eq x (f y))
@@ -76,7 +76,7 @@ among-map f x (y ∷ ys) h = cases (nat_eq x (f y))
 pub among-append : (x : ℕ) (xs ys : List ℕ) → is_among x (xs ++ ys) ≡ (is_among x xs || is_among x ys)
 among-append x xs ys = list_any-append (λ y. nat_eq x y) xs ys
 
--- distinct numbers and one more that isn't among them
+-- distinct numbers stay distinct with one more that isn't a member
 pub AreDistinct-push : (xs : List ℕ) (x : ℕ) → AreDistinctCells xs → is_among x xs ≡ false → AreDistinctCells (xs ++ x ∷ [])
 AreDistinct-push [] x d h = (refl, tt)
 AreDistinct-push (y ∷ ys) x d h =
@@ -89,6 +89,6 @@ AreDistinct-push (y ∷ ys) x d h =
       AreDistinct-push ys x d.1 k.1,
     )
 
--- distinct numbers that stand in another list are no more than it is long
+-- distinct numbers that are all members of a list are at most as many as its elements
 pub length-le_from_among : (xs ys : List ℕ) → AreDistinctCells xs → ((x : ℕ) → is_among x xs ≡ true → is_among x ys ≡ true) → length xs ≤ length ys
 length-le_from_among xs ys d h = length-le_from_is_member nat_eq_equiv xs ys (distinct xs d) h

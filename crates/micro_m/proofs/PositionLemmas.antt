@@ -1,4 +1,4 @@
--- Definitions by their positions: the term at a position is that of the cell there, and of no other.
+-- Definitions by their positions: the term at a position is the definition of the cell there.
 use Rattle.std.proofs.Common.{◌≡◌, ℕ, zero, suc, ◌<◌, true, false, cond, nat_eq, List, [], ◌∷◌, length, get_or, map, Some, ap, sym, ◌∙◌, subst, arith}
 use Rattle.std.proofs.lemmas.List.{get_or-map}
 use Rattle.std.proofs.Math.ListN.{length-map}
@@ -46,19 +46,19 @@ pub definition_of-position : (base : Base) (c : ℕ) (t : Tree) → definition_o
     × (term_at base p ≡ t)
 definition_of-position base c t e = position-of base.definitions c t e
 
--- two positions of one cell are one
+-- the positions of one cell are equal
 pub position-one : (base : Base) (p q : ℕ) → AreDistinctCells (targets_of base) → p < length base.definitions → q < length base.definitions
     → target_at base p ≡ target_at base q → p ≡ q
 position-one base p q d hp hq e =
     let long : length (targets_of base) ≡ length base.definitions = length-map base.definitions (λ (x : Definition). x.0) in
     place-one (targets_of base) p q d (omega arith) (omega arith) e
 
--- a cell reads what the term at its position reads
+-- a cell reads the cells that the term at its position reads
 pub Reads-target : (base : Base) (p c : ℕ) → AreDistinctCells (targets_of base) → p < length base.definitions → TermReads (term_at base p) c
     → Reads base (target_at base p) c
 Reads-target base p c d h r = subst (λ o. IsSomeAnd o (λ t. TermReads t c)) (sym (definition_of-target base p d h)) r
 
--- what stands at a position of the list of definitions
+-- the definition at a position of the list
 pub definition-at : (base : Base) (p : ℕ) (d : Definition) → p < length base.definitions → d ≡ get_or base.definitions p d
     → (d.0 ≡ target_at base p) × (d.1 ≡ term_at base p)
 definition-at base p d h e = (

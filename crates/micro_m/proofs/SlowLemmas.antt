@@ -1,4 +1,4 @@
--- Why the definition of a cell's value, computed as it stands, ends: each turn leaves room for the greatest term.
+-- Termination of the direct evaluator: a turn adds more to the measure than the nodes of any term.
 use Rattle.std.proofs.Common.{◌≡◌, ℕ, zero, suc, ◌+◌, ◌*◌, ◌-◌, ◌<◌, ◌≤◌, max, true, false, cond, nat_eq, List, [], ◌∷◌, length, get_or, Some, ap, sym, ◌∙◌}
 use Rattle.std.proofs.Common.{arith}
 use Rattle.micro_m.specs.Trees.{Tree, nodes, nodes_all, nodes_along}
@@ -13,7 +13,7 @@ abbrev pub greatest : List Definition → ℕ
 greatest [] = 0
 greatest (d ∷ ds) = max (nodes d.1) (greatest ds)
 
--- so much does a number of turns bring
+-- the measure of a number of turns
 abbrev pub reach : Base → ℕ → ℕ
 reach base turns = turns * (greatest base.definitions + 2)
 

@@ -1,4 +1,4 @@
--- Arguments of an operator as values, and what a term depends on.
+-- The values of arguments, and the cells on which a term depends.
 use Rattle.std.proofs.Common.{◌≡◌, ℕ, zero, suc, ◌+◌, ◌<◌, ◌≤◌, Bool, true, false, cond, ltb, List, [], ◌∷◌, length, get_or, refl, ap, ◌∙◌, inl, inr, arith, ℤ}
 use Rattle.std.proofs.Common.{pos, negsuc}
 use Rattle.std.proofs.lemmas.Bool.Decides.{nat_tests}
@@ -12,22 +12,22 @@ use Rattle.micro_m.specs.Views.{trees_of}
 use Rattle.micro_m.specs.Values.{Environment, picked_at, picked, picked_value, applied, term_value, argument_values, folded}
 use Rattle.micro_m.specs.Reads.{PickReads, TermReads, ArgumentsRead, StepsRead}
 
--- the value of the argument at a place
+-- the value of the argument at an index
 pub argument_values-at : (values : Environment) (all : List Tree) (at : ℕ) (x : Tree) → at < length all → x ≡ get_or all at x
     → term_value values x ≡ get_or (argument_values values (trees_of all)) at Undef
 argument_values-at values [] at x h e = absurd (omega arith)
 argument_values-at values (a ∷ all) zero x h e = ap (term_value values) e
 argument_values-at values (a ∷ all) (suc at) x h e = argument_values-at values all at x (omega arith) e
 
--- and undefined past the last
+-- undefined past the last
 pub argument_values-past : (values : Environment) (all : List Tree) (at : ℕ) → length all ≤ at → Undef ≡ get_or (argument_values values (trees_of all)) at Undef
 argument_values-past values [] at h = refl
 argument_values-past values (a ∷ all) zero h = absurd (omega arith)
 argument_values-past values (a ∷ all) (suc at) h = argument_values-past values all at (omega arith)
 
--- ---- a term depends on no other cells than it reads
+-- ---- a term depends only on the cells that it reads
 
--- a table comes to a cell of its own
+-- the selected cell is one of the table
 within : (b : Bool) (first size k c : ℕ) → ltb k size ≡ b → cond b (Cell (first + k)) (Fixed Undef) ≡ Cell c → (first ≤ c) × (c < first + size)
 within true first size k c t e = let is : first + k ≡ c = cc in let low : k < size = grind (arith, nat_tests) in (omega arith, omega arith)
 within false first size k c t e = absurd (cc)
@@ -45,7 +45,7 @@ picked_value-same : (p : Picked) (e f : Environment) → ((c : ℕ) → p ≡ Ce
 picked_value-same (Cell c) e f h = h c refl
 picked_value-same (Fixed v) e f h = refl
 
--- a table of which all cells agree, at one index
+-- one index of a table, if all its cells agree
 any-same : (first size : ℕ) (e f : Environment) (v w : Value) → ((c : ℕ) → (first ≤ c) × (c < first + size) → e c ≡ f c) → v ≡ w
     → picked_value e (picked first size v) ≡ picked_value f (picked first size w)
 any-same first size e f v w h is =

@@ -1,4 +1,5 @@
--- Values with turns on a base without cycles: each chain of reads ends within as many turns as there are definitions.
+-- Values by turns on a base without cycles: each chain of reads ends within as many turns as there
+-- are definitions.
 use Rattle.std.proofs.Common.{◌≡◌, ℕ, zero, suc, ◌+◌, ◌<◌, ◌≤◌, true, false, cond, nat_eq, List, [], ◌∷◌, length, map, Option, Some, None, refl, ap, sym, ◌∙◌}
 use Rattle.std.proofs.Common.{subst, add-one, arith}
 use mathlib.Core.Bool.{◌||◌}
@@ -18,12 +19,12 @@ option_cases (Some x) n s = s x refl
 
 -- ---- paths of reads
 
--- The first of these cells reads x, the second the first, and so on.
+-- The first of these cells reads x, the second reads the first, and so on.
 abbrev pub Path : Base → ℕ → List ℕ → Type 0
 Path base x [] = Unit {0}
 Path base x (p ∷ ps) = Reads base p x × Path base p ps
 
--- a cell that reads is one with a definition
+-- a cell that reads another has a definition
 reads-among : (ds : List Definition) (x : ℕ) (P : Tree → Type 0) → IsSomeAnd (definition_among ds x) P → is_among x (map (λ d. d.0) ds) ≡ true
 reads-among [] x P r = absurd r
 reads-among (d ∷ ds) x P r = cases (nat_eq x d.0)
@@ -38,14 +39,15 @@ path-among base x (p ∷ ps) path q h = cases (nat_eq q p)
     (reads-among base.definitions p (λ t. TermReads t x) path.0))
     (λ (f : nat_eq q p ≡ false). path-among base p ps path.1 q (ap (λ b. b || is_among q ps) (sym f) ∙ h))
 
--- a path of distinct cells is no longer than there are definitions
+-- a path of distinct cells is at most as long as the list of definitions
 pub path-length : (base : Base) (x : ℕ) (ps : List ℕ) → Path base x ps → AreDistinctCells ps → length ps ≤ length base.definitions
 path-length base x ps path d =
     let low = length-le_from_among ps (targets_of base) d (path-among base x ps path) in
     let all : length (targets_of base) ≡ length base.definitions = length-map base.definitions (λ (d : Definition). d.0) in
     omega arith
 
--- From y through `back` to x, and a path of further cells that leads to y: where x is one of these, it is on a cycle.
+-- From y through `back` to x, and a path of further cells that leads to y: if x is one of these, it
+-- is on a cycle.
 closes : (base : Base) (x y : ℕ) (back ps : List ℕ) → LeadsTo base y back x → Path base y ps → AreDistinctCells (y ∷ back) → AreDistinctCells ps
     → ((q : ℕ) → is_among q ps ≡ true → is_among q (y ∷ back) ≡ false) → is_among x (y ∷ ps) ≡ true → (cells : List ℕ) × IsCycle base cells
 closes base x y back [] leads path distinct ds apart here =
@@ -60,7 +62,7 @@ closes base x y back (p ∷ ps) leads path distinct ds apart here = cases (nat_e
     (λ (g : nat_eq q p ≡ false). ap (λ b. b || is_among q (y ∷ back)) g ∙ apart q (or-true (nat_eq q p) (is_among q ps) h)))
     (ap (λ b. b || is_among x (p ∷ ps)) (sym f) ∙ here))
 
--- what is read by a path doesn't stand on it, if there is no cycle
+-- without a cycle, a cell that a path reads isn't on the path
 pub off-path : (base : Base) (x : ℕ) (ps : List ℕ) → HasNoCycle base → Path base x ps → AreDistinctCells ps → is_among x ps ≡ false
 off-path base x [] free path ds = refl
 off-path base x (p ∷ ps) free path ds = cases (is_among x (p ∷ ps))
@@ -74,11 +76,11 @@ off-path base x (p ∷ ps) free path ds = cases (is_among x (p ∷ ps))
 
 -- ---- values
 
--- each turn gives the values of the definitions by those of the turn before
+-- each turn computes the definitions from the values of the turn before
 abbrev pub Follows : Base → Environment → (ℕ → Environment) → Type 0
 Follows base given e = (n c : ℕ) → e (suc n) c ≡ option_map_or (term_value (e n)) (definition_of base c) (given c)
 
--- two such maps agree at a cell, if they agree a turn before at all that it reads
+-- two such maps agree at a cell if, one turn before, they agree at all cells that it reads
 agree-step : (base : Base) (given : Environment) (e f : ℕ → Environment) → Follows base given e → Follows base given f → (m n x : ℕ)
     → ((y : ℕ) → Reads base x y → e m y ≡ f n y) → e (suc m) x ≡ f (suc n) x
 agree-step base given e f by_e by_f m n x before =
@@ -95,7 +97,8 @@ one_less : (k n : ℕ) → suc k ≤ n → (j : ℕ) × (n ≡ suc j) × (k ≤ 
 one_less k zero h = absurd (omega arith)
 one_less k (suc j) h = (j, refl, omega arith)
 
--- Two such maps agree at a cell, once there are as many turns as there are definitions off a path that leads to it.
+-- Two such maps agree at a cell after as many turns as there are definitions that aren't on a path
+-- that leads to it.
 pub agree : (base : Base) (given : Environment) (e f : ℕ → Environment) → HasNoCycle base → Follows base given e → Follows base given f
     → (fuel x : ℕ) (ps : List ℕ) → Path base x ps → AreDistinctCells ps → length base.definitions ≤ length ps + fuel → (m n : ℕ) → fuel ≤ m → fuel ≤ n
     → e (suc m) x ≡ f (suc n) x

@@ -1,4 +1,5 @@
--- What a base consists of, and when it is one: each number in it is in range, and nothing stands twice.
+-- The components of a base, and its validity: each number in it is in range, and no cell is defined
+-- twice.
 use Rattle.std.specs.Prelude.{◌≡◌, ℕ, ◌+◌, ◌<◌, ◌≤◌, ◌==◌, Bool, false, List, [], ◌∷◌, map, length, All, Option, None, Some, if◌then◌else◌, slice_index_or}
 use Rattle.std.specs.List.{list_any}
 use Rattle.m_fixed.specs.declared.amount.Value.TheVariants.{Undef}
@@ -8,37 +9,37 @@ use Rattle.micro_m.specs.declared.base.Base.{Base}
 
 -- ---- numbers in lists
 
--- whether a number is among numbers
+-- whether a number is a member of a list
 abbrev pub is_among : ℕ → List ℕ → Bool
 is_among n ns = list_any (λ m. n == m) ns
 
--- no number stands twice
+-- no number occurs twice
 abbrev pub AreDistinctCells : List ℕ → Type 0
 AreDistinctCells [] = Unit {0}
 AreDistinctCells (n ∷ ns) = (is_among n ns ≡ false) × AreDistinctCells ns
 
 -- ---- definitions
 
--- a definition: its cell, its term, and where its formula stands
+-- a definition: its cell, its term, and the place of its formula
 abbrev pub Definition : Type 0
 Definition = ℕ × Tree × Place
 
--- the cells that have definitions, and the terms of these, in order
+-- the defined cells, and their terms, in order
 abbrev pub targets_of : Base → List ℕ
 targets_of base = map (λ d. d.0) base.definitions
 
 abbrev pub terms_of : Base → List Tree
 terms_of base = map (λ d. d.1) base.definitions
 
--- the cell that the definition at a position defines, and its term: where two definitions are `A = 1` and `B = A`,
--- the term at position 1 is the cell of A
+-- the cell and the term of the definition at a position: if the definitions are `A = 1` and
+-- `B = A`, the term at position 1 is the cell of A
 abbrev pub target_at : Base → ℕ → ℕ
 target_at base position = slice_index_or (targets_of base) position 0
 
 abbrev pub term_at : Base → ℕ → Tree
 term_at base position = slice_index_or (terms_of base) position (lit Undef)
 
--- the term that a cell is defined by, if a definition has it
+-- the term that defines a cell, if it has a definition
 abbrev pub definition_among : List Definition → ℕ → Option Tree
 definition_among [] c = None
 definition_among (d ∷ ds) c = if c == d.0 then Some d.1 else definition_among ds c
@@ -49,7 +50,7 @@ definition_of base c = definition_among base.definitions c
 -- ---- a valid base
 
 abbrev mutual
-  -- each cell of a term is one of so many
+  -- the cells of a term are below this number
   pub IsWithin : ℕ → Tree → Type 0
   IsWithin cells (lit value) = Unit {0}
   IsWithin cells (cell c) = c < cells
@@ -65,8 +66,8 @@ abbrev mutual
   StepsAreWithin cells end = Unit {0}
   StepsAreWithin cells (step op operand rest) = IsWithin cells operand × StepsAreWithin cells rest
 
--- A valid base: cells and labels are in range, each table ends within the cells, no cell has two definitions, and none is
--- twice among the constants.
+-- A valid base: cells and labels are in range, each table ends within the cells, no cell has two
+-- definitions, and none occurs twice among the constants.
 pub record IsValidBase (base : Base) : Type 0 where
   pub constants : All (λ constant. constant.0 < base.cells) base.constants
   pub targets : All (λ c. c < base.cells) (targets_of base)

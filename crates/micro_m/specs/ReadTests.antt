@@ -1,20 +1,21 @@
--- Whether a term reads a cell, as a test: what `TermReads` says, computed.
+-- `TermReads` as a test.
 use Rattle.std.specs.Prelude.{ℕ, ◌+◌, ◌==◌, ◌&&◌, ◌||◌, nat_le, nat_lt, Bool, false}
 use Rattle.micro_m.specs.Trees.{Tree, lit, cell, pick, apply, chain, Trees, none, more, Steps, end, step}
 use Rattle.micro_m.specs.declared.table.Picked.{Picked}
 use Rattle.micro_m.specs.declared.table.Picked.TheVariants.{Cell, Fixed}
 use Rattle.micro_m.specs.Values.{picked}
 
--- whether a table comes to this cell
+-- whether indexing a table gave this cell
 abbrev pub is_cell : Picked → ℕ → Bool
 is_cell (Cell d) c = c == d
 is_cell (Fixed value) c = false
 
--- whether the cell is one of so many from a first one on
+-- whether the cell is one of count cells from a first one on
 abbrev pub is_in_run : ℕ → ℕ → ℕ → Bool
 is_in_run first count c = nat_le first c && nat_lt c (first + count)
 
--- whether a table read reads the cell of the table: at a literal the one that it comes to, and at any other index all
+-- whether a table read reads this cell of the table: at a literal only the selected cell, at any
+-- other index all cells
 abbrev pub pick_reads : ℕ → ℕ → Tree → ℕ → Bool
 pick_reads first size (lit index) c = is_cell (picked first size index) c
 pick_reads first size _ c = is_in_run first size c

@@ -1,4 +1,5 @@
--- Which cell reads which, and what a cycle is.
+-- Dependencies between cells, and cycles. A cell depends on its first definition alone, so the laws
+-- need no valid base.
 use Rattle.std.specs.Prelude.{◌≡◌, ℕ, ◌+◌, ◌<◌, ◌≤◌, ◌⊎◌, List, [], ◌∷◌, All, IsSomeAnd}
 use Rattle.micro_m.specs.Trees.{Tree, lit, cell, pick, apply, chain, Trees, none, more, Steps, end, step}
 use Rattle.micro_m.specs.declared.table.Picked.TheVariants.{Cell}
@@ -6,8 +7,8 @@ use Rattle.micro_m.specs.declared.base.Base.{Base}
 use Rattle.micro_m.specs.Bases.{AreDistinctCells, definition_of}
 use Rattle.micro_m.specs.Values.{picked}
 
--- A table read reads these cells of the table: at a literal the one cell that it comes to, if it comes to one, and at any
--- other index all cells.
+-- The cells of the table that a table read reads: at a literal the selected cell, if there is one;
+-- at any other index all cells.
 abbrev pub PickReads : ℕ → ℕ → Tree → ℕ → Type 0
 PickReads first size (lit index) c = picked first size index ≡ Cell c
 PickReads first size _ c = (first ≤ c) × (c < first + size)
@@ -29,16 +30,17 @@ abbrev mutual
   StepsRead end c = ⊥
   StepsRead (step op operand rest) c = TermReads operand c ⊎ StepsRead rest c
 
--- a cell reads what the term reads that defines it; a cell without a definition reads nothing
+-- a cell reads the cells that its term reads; a cell without a definition reads nothing
 abbrev pub Reads : Base → ℕ → ℕ → Type 0
 Reads base x y = IsSomeAnd (definition_of base x) (λ term. TermReads term y)
 
--- from a cell through these cells, each reading the next, to a cell that the last of them reads
+-- from x through these cells, each reading the next, to a cell that the last of them reads
 abbrev pub LeadsTo : Base → ℕ → List ℕ → ℕ → Type 0
 LeadsTo base x [] last = Reads base x last
 LeadsTo base x (y ∷ ys) last = Reads base x y × LeadsTo base y ys last
 
--- a cycle: distinct cells, each reading the next, and the last reading the first; one cell that reads itself is a cycle
+-- a cycle: distinct cells, each reading the next, and the last reading the first; a cell that reads
+-- itself is one too
 abbrev pub IsCycle : Base → List ℕ → Type 0
 IsCycle base [] = ⊥
 IsCycle base (x ∷ xs) = AreDistinctCells (x ∷ xs) × LeadsTo base x xs x
@@ -46,7 +48,7 @@ IsCycle base (x ∷ xs) = AreDistinctCells (x ∷ xs) × LeadsTo base x xs x
 abbrev pub HasNoCycle : Base → Type 0
 HasNoCycle base = (cells : List ℕ) → IsCycle base cells → ⊥
 
--- the least of the cells stands first
+-- the least of the cells is the first
 abbrev pub BeginsWithLeast : List ℕ → Type 0
 BeginsWithLeast [] = Unit {0}
 BeginsWithLeast (x ∷ xs) = All (λ y. x ≤ y) xs

@@ -1,11 +1,13 @@
--- Terms in their final words, as plain data. `REV - SEUIL` over the cells 0 and 1 is
--- `chain (cell 0) (step Sub (cell 1) end)`, and `T[2]` of a table with the cells 5 to 8 is `pick 5 4 (lit (Num (pos 2000000)))`.
+-- Terms after name resolution and expansion, as plain data. `REV - SEUIL` over the cells 0 and 1 is
+-- `chain (cell 0) (step Sub (cell 1) end)`, and `T[2]` of a table with the cells 5 to 8 is
+-- `pick 5 4 (lit (Num (pos 2000000)))`.
 use Rattle.std.specs.Prelude.{ℕ, ◌+◌}
 use Rattle.m_fixed.specs.declared.amount.Value.{Value}
 use Rattle.m_fixed.specs.declared.operator.Op.{Op}
 
 mutual
-  -- a literal, a cell, a table read (its first cell, its size, the index), an operator on arguments, a left fold
+  -- a constant, a cell, a table read (its first cell, its size, the index), an operator on
+  -- arguments, a left fold
   pub data Tree : Type 0 where
     lit : Value → Tree
     cell : ℕ → Tree
@@ -18,13 +20,13 @@ mutual
     none : Trees
     more : Tree → Trees → Trees
 
-  -- how a left fold goes on, each time by an operator and its right operand
+  -- the steps of a left fold, each an operator and its right operand
   pub data Steps : Type 0 where
     end : Steps
     step : Op → Tree → Steps → Steps
 
 abbrev mutual
-  -- how many nodes a term has
+  -- the number of nodes of a term
   pub nodes : Tree → ℕ
   nodes (lit value) = 1
   nodes (cell number) = 1

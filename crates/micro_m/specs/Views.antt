@@ -1,4 +1,4 @@
--- The plain data that a term of the program stands for.
+-- Terms of the program as plain data.
 use Rattle.std.specs.Prelude.{List, [], ◌∷◌}
 use Rattle.micro_m.specs.declared.term.MNode.{MNode}
 use Rattle.micro_m.specs.declared.term.MNode.TheVariants.{Lit, Cell, Pick, Apply, Chain}

@@ -1,3 +1,4 @@
--- How the logic stores terms, and that their parts are smaller. No reader of the contracts needs it.
+-- The encoding of terms in the logic, and that parts are smaller than the whole. Contracts don't
+-- need it.
 pub mod Coding
 pub mod Falls

@@ -1,4 +1,4 @@
-//! Laws of the meaning. Each function does nothing: its contract is the law.
+//! Laws of the semantics: empty functions whose contracts are the laws.
 
 ghost use Rattle.std.specs.Prelude.{◌≡◌, ◌<◌, ℕ, length};
 ghost use Rattle.micro_m.specs.Trees.{Tree};
@@ -6,7 +6,7 @@ ghost use Rattle.micro_m.specs.declared.base.Base.{Base};
 ghost use Rattle.micro_m.specs.Values.{Environment, term_value, value_in, value_of, IsSolution};
 ghost use Rattle.micro_m.specs.Reads.{TermReads, HasNoCycle};
 
-/// A term depends on no other cells than it reads.
+/// The value of a term depends only on the cells that it reads.
 pub fn only_reads_matter()
     ensures { (term : Tree) (e f : Environment) → ((c : ℕ) → TermReads term c → e c ≡ f c) → term_value e term ≡ term_value f term }
 {}
@@ -16,12 +16,13 @@ pub fn values_solve()
     ensures { (base : Base) (given : Environment) → HasNoCycle base → IsSolution base given (value_of base given) }
 {}
 
-/// Nothing else does: a base without cycles has one solution.
+/// The solution of a base without cycles is unique. To show that a computation gives the values of
+/// a base, show that it gives a solution.
 pub fn solution_is_one()
     ensures { (base : Base) (given values : Environment) → HasNoCycle base → IsSolution base given values → (c : ℕ) → values c ≡ value_of base given c }
 {}
 
-/// More turns than there are definitions change nothing.
+/// Turns beyond the number of definitions change nothing.
 pub fn further_turns_change_nothing()
     ensures { (base : Base) (given : Environment) → HasNoCycle base → (turns c : ℕ) → length base.definitions < turns
         → value_in base given turns c ≡ value_of base given c }

@@ -1,7 +1,9 @@
-//! What a base of rules means: its terms in their final words, and the values of its cells.
+//! The semantics of a base of rules: its terms after name resolution and expansion, and the values
+//! of its cells.
 //!
-//! The meaning says nothing of an order: the values are the one solution of the definitions, read as
-//! equations. This crate knows nothing of source text, names of variables, files or printed lines.
+//! Uses values and their operators. Knows nothing of source text, names of variables, files or
+//! printed lines. It defines no order of evaluation: the values are the unique solution of the
+//! definitions, read as equations.
 #![tactic(auto)]
 
 mod base;

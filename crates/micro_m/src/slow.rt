@@ -1,4 +1,4 @@
-//! The definition of a cell's value, computed as it stands: for tests on small bases.
+//! A direct evaluator of the definition of a cell's value, for tests on small bases.
 
 ghost use Rattle.std.specs.Prelude.{◌≡◌, slice_index_or, option_copied};
 ghost use Rattle.m_fixed.specs.declared.amount.Value.TheVariants.{Undef};
@@ -11,12 +11,12 @@ use crate::value::value_at;
 use crate::{Base, MNode, MTerm, Step};
 use m_fixed::{Op, Value, apply};
 
-/// The value of a cell with this many turns, by the definition: without turns it is undefined, without
-/// a definition it is the environment's, and else it is the term's value, where the cells have their
-/// values with one turn less. One turn more than there are definitions gives the cell's value, if the
-/// base has no cycle.
+/// The value of a cell by recursion at most `turns` deep: undefined for 0 turns; the environment's
+/// value for a cell without a definition; otherwise the value of its term, whose cells are
+/// evaluated with one turn less. If the base has no cycle, one turn more than there are definitions
+/// gives the cell's value.
 ///
-/// A cell is computed anew wherever it is read, so this is for tests on small bases. Takes no memory.
+/// Each read evaluates the cell again, so the time may be exponential. Takes no memory.
 pub fn slow_value(base: &Base, env: &[Value], cell: u32, turns: u32) -> Value
     ensures { result ≡ value_in base.now (environment env.now) turns cell }
 {
@@ -36,7 +36,7 @@ fn slow_cell(base: &Base, env: &[Value], cell: usize, turns: u32) -> Value
     }
 }
 
-/// The term that a cell is defined by, if a definition has it.
+/// The term that defines a cell, if it has a definition.
 fn definition_of(base: &Base, cell: usize) -> Option<&MTerm>
     ensures { option_copied result ≡ definition_of base.now cell }
 {
@@ -48,7 +48,7 @@ fn definition_of(base: &Base, cell: usize) -> Option<&MTerm>
     None
 }
 
-/// The value of a term where the cells have their values with this many turns.
+/// The value of a term whose cells are evaluated with this many turns.
 #[cycle(slow)]
 fn slow_term(base: &Base, env: &[Value], term: &MTerm, turns: u32) -> Value
     ensures { result ≡ term_value (value_in base.now (environment env.now) turns) term.now }
@@ -75,7 +75,7 @@ fn slow_term(base: &Base, env: &[Value], term: &MTerm, turns: u32) -> Value
     }
 }
 
-/// The value of the argument at a place, and undefined where there is none.
+/// The value of the argument at this index; undefined if it is missing.
 #[cycle(slow)]
 fn slow_argument(base: &Base, env: &[Value], arguments: &[MTerm], at: usize, turns: u32) -> Value
     ensures { result ≡ slice_index_or (argument_values (value_in base.now (environment env.now) turns) (trees_of arguments.now)) at Undef }
@@ -86,7 +86,7 @@ fn slow_argument(base: &Base, env: &[Value], arguments: &[MTerm], at: usize, tur
     }
 }
 
-/// A left fold, gone on with from a value so far.
+/// A left fold from a start value.
 #[cycle(slow)]
 fn slow_fold(base: &Base, env: &[Value], so_far: Value, steps: &[Step], turns: u32) -> Value
     ensures { result ≡ folded (value_in base.now (environment env.now) turns) so_far (steps_of steps.now) }

@@ -1,4 +1,4 @@
-//! A table read at an index.
+//! Reads of tables at an index.
 
 ghost use Rattle.std.specs.Prelude.{◌≡◌};
 ghost use Rattle.micro_m.specs.Values.{picked, picked_at};
@@ -8,17 +8,17 @@ use m_fixed::{Amount, Value};
 /// One unit, in millionths.
 const UNIT: i128 = 1_000_000;
 
-/// What a table comes to at an index.
+/// The result of indexing a table.
 #[derive(Clone, Copy, Debug, PartialEq, Eq)]
 pub enum Picked {
     /// One of its cells.
     Cell(usize),
-    /// A value, whatever its cells are.
+    /// A value that doesn't depend on its cells.
     Fixed(Value),
 }
 
-/// What a table, of which the first cell and the size are given, comes to at an index. The index is cut toward zero to whole
-/// units: of four cells from 5 on, 2.9 gives the cell 7, -1 gives 0, and 4 gives undefined.
+/// The cell or the value of a table at an index, which is truncated toward zero to whole units. Of
+/// the four cells from 5 on, 2.9 selects cell 7; -1 gives 0, and 4 gives undefined.
 pub fn pick(first: u32, size: u32, index: Value) -> Picked
     ensures { result ≡ picked first size index }
 {

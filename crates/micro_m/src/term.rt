@@ -1,4 +1,4 @@
-//! Terms in their final words: each name is a cell, each loop is unrolled.
+//! Terms after name resolution and expansion: each name is a cell, and there are no loops.
 
 ghost use Rattle.std.specs.Prelude.{◌≡◌, IfOk};
 ghost use Rattle.micro_m.specs.Views.{tree_of};
@@ -7,30 +7,30 @@ use m_fixed::{Op, Value};
 use std::alloc::{AllocError, Global};
 use std::marker::Model;
 
-/// A term, which contracts see as a `Tree`.
+/// A term. Contracts see it as a `Tree`.
 #[cycle(term)]
 #[derive(Drop)]
 pub struct MTerm {
     pub node: MNode,
 }
 
-/// What stands at the top of a term.
+/// The root of a term.
 #[cycle(term)]
 #[derive(Drop)]
 pub enum MNode {
-    /// A value: a number as written, or undefined where a conditional has no `sinon`.
+    /// A constant: a number from the source, or undefined for a missing `sinon`.
     Lit(Value),
     /// A cell's value.
     Cell(u32),
-    /// A table read at an index: its first cell, how many cells it has, the index.
+    /// A table read at an index: the first cell, the number of cells, the index.
     Pick(u32, u32, Box<MTerm>),
-    /// An operator and its arguments. One that is missing is undefined.
+    /// An operator and its arguments. Missing arguments are undefined.
     Apply(Op, Vec<MTerm>),
-    /// A left fold: `a - b + c` begins with `a` and goes on by `- b` and by `+ c`.
+    /// A left fold: `a - b + c` is `a` and the steps `- b` and `+ c`.
     Chain(Box<MTerm>, Vec<Step>),
 }
 
-/// How a left fold goes on: an operator and its right operand.
+/// A step of a left fold: an operator and its right operand.
 #[cycle(term)]
 #[derive(Drop)]
 pub struct Step {
@@ -58,7 +58,7 @@ impl Model for MTerm {
 }
 
 impl MTerm {
-    /// The term with this at its top.
+    /// The term with this root.
     pub fn new(node: MNode) -> MTerm
         ensures { result ≡ tree_of node }
     {

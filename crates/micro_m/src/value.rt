@@ -1,4 +1,4 @@
-//! The value of a term where the cells have values, and the first check that fails over them.
+//! Evaluation of terms and checks, given the values of the cells.
 
 ghost use Rattle.std.specs.Prelude.{◌≡◌, slice_index_or};
 ghost use Rattle.m_fixed.specs.declared.amount.Value.TheVariants.{Undef};
@@ -11,8 +11,8 @@ use crate::{Base, Failure, MNode, MTerm, Step};
 use m_fixed::{Op, Value, apply};
 use m_places::{ErrorKind, Label};
 
-/// The value of a term where each cell has the value at its number, and a cell beyond them is undefined: where the cells 0
-/// and 1 are 10 and 4, that of the cell 0 less the cell 1 is 6. Takes no memory.
+/// The value of a term, given the value of each cell by its number; a cell beyond them is
+/// undefined. If the cells 0 and 1 are 10 and 4, cell 0 minus cell 1 is 6. Takes no memory.
 #[cycle(value)]
 pub fn term_value(term: &MTerm, values: &[Value]) -> Value
     ensures { result ≡ term_value (environment values.now) term.now }
@@ -28,7 +28,7 @@ pub fn term_value(term: &MTerm, values: &[Value]) -> Value
     }
 }
 
-/// An operator on its arguments. One that is missing is undefined.
+/// An operator on its arguments. Missing arguments are undefined.
 #[cycle(value)]
 fn applied(op: Op, arguments: &[MTerm], values: &[Value]) -> Value
     ensures { result ≡ applied op (argument_values (environment values.now) (trees_of arguments.now)) }
@@ -39,7 +39,7 @@ fn applied(op: Op, arguments: &[MTerm], values: &[Value]) -> Value
     apply(op, first, second, third)
 }
 
-/// The value of the argument at a place, and undefined where there is none.
+/// The value of the argument at this index; undefined if it is missing.
 #[cycle(value)]
 fn argument_value(arguments: &[MTerm], at: usize, values: &[Value]) -> Value
     ensures { result ≡ slice_index_or (argument_values (environment values.now) (trees_of arguments.now)) at Undef }
@@ -50,7 +50,7 @@ fn argument_value(arguments: &[MTerm], at: usize, values: &[Value]) -> Value
     }
 }
 
-/// A left fold, gone on with from a value so far.
+/// A left fold from a start value.
 #[cycle(value)]
 fn folded(so_far: Value, steps: &[Step], values: &[Value]) -> Value
     ensures { result ≡ folded (environment values.now) so_far (steps_of steps.now) }
@@ -62,7 +62,7 @@ fn folded(so_far: Value, steps: &[Step], values: &[Value]) -> Value
     value
 }
 
-/// The value at a cell's number, and undefined beyond the last.
+/// The value of a cell; undefined beyond the last.
 pub(crate) fn value_at(values: &[Value], cell: usize) -> Value
     ensures { result ≡ environment values.now cell }
 {
@@ -81,8 +81,9 @@ fn picked_value(picked: Picked, values: &[Value]) -> Value
     }
 }
 
-/// The first check of a base, in the order of the source, that stops a run where the cells have these values: its condition is
-/// over, or it is a number other than 0 and its error is an `anomalie`. Takes no memory.
+/// The first check of a base, in the order of the source, that stops a run, given the values of the
+/// cells: its condition is over, or its condition is a number other than 0 and its error is an
+/// `anomalie`. Takes no memory.
 pub fn first_failing(base: &Base, values: &[Value]) -> Option<Failure>
     ensures { result ≡ failure_among base.now.labels (environment values.now) base.now.checks }
 {
@@ -95,7 +96,8 @@ pub fn first_failing(base: &Base, values: &[Value]) -> Option<Failure>
     None
 }
 
-/// What a check comes to by its condition's value and its error's kind: only a number other than 0 fails, and over is told.
+/// The failure of a check, from its condition's value and its error's kind: a number other than 0
+/// fails if the kind stops a run; over always does.
 fn failure_of(condition: Value, kind: ErrorKind, label: u32) -> Option<Failure>
     ensures { result ≡ failure_of condition kind label }
 {
@@ -112,7 +114,8 @@ fn failure_of(condition: Value, kind: ErrorKind, label: u32) -> Option<Failure>
     }
 }
 
-/// The kind of the error of the label with this number. A number without a label is that of an error that stops a run.
+/// The kind of the error of the label with this number. A number without a label counts as
+/// `anomalie`.
 pub fn kind_at(labels: &[Label], number: u32) -> ErrorKind
     ensures { result ≡ kind_at labels.now number }
 {
@@ -122,7 +125,8 @@ pub fn kind_at(labels: &[Label], number: u32) -> ErrorKind
     }
 }
 
-/// Whether an error of this kind stops a run. One of another kind is noted, and the run goes on.
+/// Whether an error of this kind stops a run. Errors of other kinds are noted, and the run
+/// continues.
 pub fn is_stopping(kind: ErrorKind) -> bool
     ensures { result ≡ is_stopping kind }
 {

@@ -1,4 +1,5 @@
--- A path whose last cell reads a cell of the path shows a cycle, from whichever of its cells on.
+-- A path whose last cell reads a cell of the path closes a cycle, which can begin with any of its
+-- cells.
 use Rattle.std.proofs.Common.{◌≡◌, ℕ, zero, suc, ◌+◌, ◌-◌, ◌<◌, ◌≤◌, true, false, nat_eq, List, [], ◌∷◌, ◌++◌, length, get_or, take, drop, refl, ap, sym, ◌∙◌}
 use Rattle.std.proofs.Common.{subst, inl, inr, ◌⊎◌, arith}
 use mathlib.Core.Bool.{◌||◌}
@@ -15,7 +16,7 @@ use Rattle.rule_order.specs.declared.search.Frame.{Frame}
 use Rattle.rule_order.proofs.OrderLemmas.{All-among}
 use Rattle.rule_order.proofs.SearchLemmas.{among-at_or, eq_cases}
 
--- ---- distinct numbers, turned round
+-- ---- rotations of distinct numbers
 
 left : (n : ℕ) (xs ys : List ℕ) → is_among n xs ≡ true → is_among n (xs ++ ys) ≡ true
 left n xs ys h = among-append n xs ys ∙ ap (λ b. b || is_among n ys) h
@@ -58,7 +59,7 @@ swap-distinct : (xs ys : List ℕ) → AreDistinctCells (xs ++ ys) → AreDistin
 swap-distinct [] ys d = subst (λ (zs : List ℕ). AreDistinctCells zs) (sym (append-nil ys)) d
 swap-distinct (x ∷ xs) ys d = put x ys xs (swap-distinct xs ys d.1) (not-right x xs ys d.0) (not-left x xs ys d.0)
 
--- ---- reads along a ring
+-- ---- reads along a cycle
 
 back-reads : (base : Base) (xs ys : List ℕ) → ReadsNext base (xs ++ ys) → ReadsNext base ys
 back-reads base [] ys h = h
@@ -85,7 +86,7 @@ leads-join : (base : Base) (x : ℕ) (xs : List ℕ) (y : ℕ) (ys : List ℕ) (
 leads-join base x [] y ys last h k = (h, k)
 leads-join base x (z ∷ xs) y ys last h k = (h.0, leads-join base z xs y ys last h.1 k)
 
--- a ring that begins with c, begun with another of its cells
+-- a cycle that begins with c, rotated to begin with another of its cells
 turned : (base : Base) (c : ℕ) (xs : List ℕ) (y : ℕ) (ys rest : List ℕ) → c ∷ rest ≡ xs ++ y ∷ ys → AreDistinctCells (c ∷ rest) → LeadsTo base c rest c
     → IsCycle base ((y ∷ ys) ++ xs)
 turned base c [] y ys rest e d l =
@@ -96,7 +97,7 @@ turned base c (x ∷ xs) y ys rest e d l =
     let k = leads-split base x xs y ys x is.1 in
     (swap-distinct (x ∷ xs) (y ∷ ys) is.0, leads-join base y ys x xs y k.1 k.0)
 
--- the cycle that is shown, where the path has the cell at one place, and the ring from there on begins at another
+-- the returned cycle: the path from index j on, rotated by l
 pub shown : (base : Base) (zs : List ℕ) (c j l : ℕ) → AreDistinctCells zs → ReadsNext base zs → LastReads base zs c → j < length zs → get_or zs j 0 ≡ c
     → l < length (drop j zs) → IsCycle base (drop l (drop j zs) ++ take l (drop j zs))
 shown base zs c j l d next last low here within =
@@ -133,7 +134,7 @@ shown-least rs l within least =
         (λ (t : is_among n ys ≡ true). right n xs (y ∷ ys) (or-true (nat_eq n y) (is_among n ys) t))
         (λ (g : is_among n ys ≡ false). absurd (clash h (among-append n ys xs ∙ ap (λ b. b || is_among n xs) g ∙ f))))
 
--- ---- the cells of a path at the values that the code has
+-- ---- the cells of a path, as the code slices it
 
 ring-is : {X : Type 0} (xs : List X) (j : ℕ) → take (length xs - j) (drop j xs) ≡ drop j xs
 ring-is xs j = take_all (length xs - j) (drop j xs) (omega (arith, length-drop j xs))
@@ -154,7 +155,7 @@ gathered path ring j l r n2 n1 n0 is e2 e1 e0 none =
 cell-at : (path : List Frame) (i : ℕ) (f : Frame) → i < length path → f ≡ get_or path i f → get_or (cells_of path) i 0 ≡ f.cell
 cell-at path i f h e = get_or-map (λ (g : Frame). g.cell) path i f 0 h ∙ ap (λ (g : Frame). g.cell) (sym e)
 
--- a turn of the look for the least cell
+-- a step of the search for the least cell
 pub least-turn : (ring : List Frame) (least now place : ℕ) (f g : Frame) → place < length ring → least < length ring → f ≡ get_or ring place f
     → g ≡ get_or ring least g → ((k : ℕ) → k < place → get_or (cells_of ring) least 0 ≤ get_or (cells_of ring) k 0)
     → ((f.cell < g.cell) × (now ≡ place)) ⊎ ((g.cell ≤ f.cell) × (now ≡ least))

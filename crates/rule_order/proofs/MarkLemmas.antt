@@ -11,7 +11,7 @@ use Rattle.rule_order.specs.inner.Marks.{mark_of, IsSettled, IsSearch}
 use Rattle.rule_order.proofs.SearchLemmas.{eq_cases, mark-same, mark-other}
 use Rattle.rule_order.proofs.WalkLemmas.{mark-is}
 
--- so many definitions from the first on have marked their cells, and no other cell has a mark
+-- the first definitions, this many, have marked their cells, and no other cell is marked
 pub record AreMarked (base : Base) (marks : List Mark) (done : ℕ) : Type 0 where
   pub size : length marks ≡ base.cells
   pub marked : (p : ℕ) → p < done → mark_of marks (target_at base p) ≡ Waiting p
@@ -87,7 +87,7 @@ marked-all base marks i all m = record {
     waiting_open : {q : ℕ} → Waiting q ≡ Open → ⊥
     waiting_open e = cc
 
--- the definition at a place of the list marks a cell of the base
+-- the definition at an index marks a cell of the base
 pub definition-low : (base : Base) (items : List Definition) (i n : ℕ) (d : Definition) → IsValidBase base → items ≡ base.definitions → i < length items
     → d ≡ get_or items i d → n ≡ base.cells → (d.0 < n) × (d.0 ≡ target_at base i) × (i < length base.definitions)
 definition-low base items i n d valid same_items low is size =
@@ -97,7 +97,7 @@ definition-low base items i n d valid same_items low is size =
     let e = at.0 in
     (omega arith, e, here)
 
--- the mark that is looked up for the definition at a position is that of its cell
+-- the mark that the code reads for the definition at a position is that of its cell
 pub looked-up-mark : (base : Base) (marks : List Mark) (items : List Definition) (p : ℕ) (d : Definition) (m : Mark) → IsValidBase base
     → length marks ≡ base.cells → items ≡ base.definitions → p < length base.definitions → d ≡ get_or items p d → m ≡ get_or marks (get_or items p d).0 m
     → ((get_or items p d).0 < length marks) × (mark_of marks (target_at base p) ≡ m)

@@ -1,4 +1,5 @@
--- What an order says: the cells at its positions are distinct and are all that have definitions, so there is no cycle.
+-- Consequences of an order: the cells at its positions are distinct and are all cells with
+-- definitions, and there is no cycle.
 use Rattle.std.proofs.Common.{◌≡◌, ℕ, suc, ◌<◌, true, false, nat_eq, List, [], ◌∷◌, length, get_or, Some, None, refl, ap, sym, ◌∙◌, subst, inl, inr, ◌⊎◌, arith}
 use mathlib.Core.Bool.{◌||◌}
 use Rattle.std.specs.Option.{IsSomeAnd}
@@ -17,14 +18,14 @@ All-tail P x xs h = λ k d l. h (suc k) d (omega arith)
 pub All-head : {X : Type 0} (P : X → Type 0) (x : X) (xs : List X) → All P (x ∷ xs) → P x
 All-head P x xs h = h 0 x (omega arith)
 
--- a number among those of which all hold
+-- a member of a list satisfies what all elements do
 pub All-among : (P : ℕ → Type 0) (x : ℕ) (xs : List ℕ) → All P xs → is_among x xs ≡ true → P x
 All-among P x [] h e = absurd (cc)
 All-among P x (y ∷ ys) h e = cases (nat_eq x y)
     (λ (t : nat_eq x y ≡ true). subst P (sym (same x y t)) (All-head P y ys h))
     (λ (f : nat_eq x y ≡ false). All-among P x ys (All-tail P y ys h) (ap (λ b. b || is_among x ys) (sym f) ∙ e))
 
--- the cell at a position of a list is among the cells at these positions
+-- the cell at a member of a list of positions is a member of the cells at these positions
 pub among-cells : (base : Base) (p : ℕ) (ps : List ℕ) → is_among p ps ≡ true → is_among (target_at base p) (cells_at base ps) ≡ true
 among-cells base p [] h = absurd (cc)
 among-cells base p (q ∷ qs) h = cases (nat_eq p q)
@@ -35,13 +36,13 @@ among-cells base p (q ∷ qs) h = cases (nat_eq p q)
     or-true (nat_eq (target_at base p) (target_at base q)) (is_among (target_at base p) (cells_at base qs))
     (among-cells base p qs (ap (λ b. b || is_among p qs) (sym f) ∙ h)))
 
--- and a cell among them is that at one of the positions
+-- and conversely
 pub cells-among : (base : Base) (c : ℕ) (ps : List ℕ) → is_among c (cells_at base ps) ≡ true → (p : ℕ) × (is_among p ps ≡ true) × (target_at base p ≡ c)
 cells-among base c ps h =
     let k = among-map (target_at base) c ps h in
     (get_or ps k.0 0, among-at ps k.0 k.1, k.2 0)
 
--- distinct positions are those of distinct cells
+-- the cells at distinct positions are distinct
 pub cells-distinct : (base : Base) (ps : List ℕ) → AreDistinctCells (targets_of base) → All (λ p. p < length base.definitions) ps → AreDistinctCells ps
     → AreDistinctCells (cells_at base ps)
 cells-distinct base [] once within d = tt
@@ -57,7 +58,7 @@ cells-distinct base (p ∷ ps) once within d = (
   cells-distinct base ps once (All-tail (λ n. n < length base.definitions) p ps within) d.1,
 )
 
--- a cell that reads stands at one of the positions of an order
+-- a cell that reads another is at one of the positions of an order
 reads-ordered : (base : Base) (sequence : List ℕ) (x y : ℕ) → IsOrder base sequence → Reads base x y → is_among x (cells_at base sequence) ≡ true
 reads-ordered base sequence x y order r =
     option_cases (definition_of base x)
@@ -66,7 +67,7 @@ reads-ordered base sequence x y order r =
     let p = definition_of-position base x t s in
     subst (λ c. is_among c (cells_at base sequence) ≡ true) p.2 (among-cells base p.0 sequence (order.every p.0 p.1)))
 
--- each cell of a ring of reads reads a cell of the ring
+-- each cell of a cycle reads a cell of the cycle
 ring-reads : (base : Base) (x : ℕ) (xs : List ℕ) (last c : ℕ) → LeadsTo base x xs last → is_among c (x ∷ xs) ≡ true
     → (d : ℕ) × Reads base c d × ((is_among d xs ≡ true) ⊎ (d ≡ last))
 ring-reads base x [] last c leads h = cases (nat_eq c x)
@@ -78,7 +79,8 @@ ring-reads base x (y ∷ ys) last c leads h = cases (nat_eq c x)
     let k = ring-reads base y ys last c leads.1 (ap (λ b. b || is_among c (y ∷ ys)) (sym f) ∙ h) in
     (k.0, k.1, elim k.2 [ inl t ↦ inl (or-true (nat_eq k.0 y) (is_among k.0 ys) t) | inr e ↦ inr e ]))
 
--- no cell of a ring stands at the positions of which all that the ring reads does: the first of them would read a later one
+-- a cycle can't be among cells each of which reads only earlier ones: its first cell would read a
+-- later one
 no-ring : (base : Base) (x : ℕ) (xs ps : List ℕ) → LeadsTo base x xs x → AreDistinctCells (targets_of base) → All (λ p. p < length base.definitions) ps
     → ReadsEarlier base ps → ((c : ℕ) → is_among c (x ∷ xs) ≡ true → is_among c (cells_at base ps) ≡ true) → ⊥
 no-ring base x xs [] leads once within earlier all = clash (all x (ap (λ b. b || is_among x xs) (itself x))) refl

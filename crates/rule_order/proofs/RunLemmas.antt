@@ -1,4 +1,4 @@
--- The runs of a term have exactly the cells that it reads, and keep within the base.
+-- The runs of a term have exactly the cells that it reads, and are within the base.
 use Rattle.std.proofs.Common.{◌≡◌, ℕ, zero, suc, ◌+◌, ◌<◌, ◌≤◌, List, [], ◌∷◌, ◌++◌, length, get_or, refl, ap, inl, inr, ◌⊎◌, arith}
 use Rattle.std.specs.List.{AllByRecursion}
 use Rattle.m_fixed.specs.declared.amount.Value.{Value}
@@ -42,7 +42,7 @@ AnyHas-at [] c i d h r = absurd (omega arith)
 AnyHas-at (r ∷ rs) c zero d h k = inl k
 AnyHas-at (r ∷ rs) c (suc i) d h k = inr (AnyHas-at rs c i d (omega arith) k)
 
--- ---- what a term reads
+-- ---- the cells that a term reads
 
 of-literal : (p : Picked) (c : ℕ) → p ≡ Cell c → AnyHas (runs_of p) c
 of-literal (Cell d) c e = let is : d ≡ c = cc in inl (omega arith, omega arith)

@@ -1,4 +1,5 @@
--- The steps of the search: a definition is begun, or placed, and what holds of the marks, the path and the sequence stays true.
+-- The steps of the search, beginning and placing a definition, preserve the invariant of the marks,
+-- the path and the sequence.
 use Rattle.std.proofs.Common.{◌≡◌, ℕ, zero, suc, ◌<◌, ◌≤◌, true, false, nat_eq, List, [], ◌∷◌, ◌++◌, length, get_or, set, refl, ap, sym, ◌∙◌, subst, inl, inr}
 use Rattle.std.proofs.Common.{◌⊎◌, arith}
 use mathlib.Core.Bool.{◌||◌}
@@ -62,7 +63,7 @@ mark-same marks c m h = get_or-set_same marks c m Settled h
 pub mark-other : (marks : List Mark) (c d : ℕ) (m : Mark) → (d ≡ c → ⊥) → mark_of (set marks c m) d ≡ mark_of marks d
 mark-other marks c d m h = get_or-set_other marks c d m Settled h
 
--- a cell that isn't settled has a mark
+-- an unsettled cell has a mark
 pub mark-low : (marks : List Mark) (c : ℕ) → (IsSettled marks c → ⊥) → c < length marks
 mark-low [] c h = absurd (h refl)
 mark-low (m ∷ ms) zero h = omega arith
@@ -104,7 +105,7 @@ LastReads-push base [] y c r = r
 LastReads-push base (x ∷ []) y c r = r
 LastReads-push base (x ∷ z ∷ zs) y c r = LastReads-push base (z ∷ zs) y c r
 
--- one more at the end, which reads nothing that isn't settled and which nothing before it reads
+-- one more position at the end, which reads only settled cells and which no earlier one reads
 ReadsEarlier-push : (base : Base) (ps : List ℕ) (p : ℕ) → ReadsEarlier base ps
     → ((q : ℕ) → is_among q (ps ++ p ∷ []) ≡ true → TermReads (term_at base q) (target_at base p) → ⊥) → ReadsEarlier base (ps ++ p ∷ [])
 ReadsEarlier-push base [] p h away = (
@@ -130,7 +131,7 @@ ReadsEarlier-push base (q ∷ qs) p h away = (
 
 -- ---- the two steps
 
--- a definition that waits is begun at the end of the path
+-- a waiting definition is pushed onto the path
 pub begun-step : (base : Base) (marks : List Mark) (path sequence : List ℕ) (p : ℕ) → IsValidBase base → IsSearch base marks path sequence
     → mark_of marks (target_at base p) ≡ Waiting p → LastReads base (cells_at base path) (target_at base p)
     → IsSearch base (set marks (target_at base p) Open) (path ++ p ∷ []) sequence
@@ -188,7 +189,7 @@ begun-step base marks path sequence p valid s waits reads =
     mark_settled : Open ≡ Settled → ⊥
     mark_settled e = cc
 
--- the last definition of the path is placed, if all that it reads is settled
+-- the last definition of the path is placed, if all cells that it reads are settled
 pub placed-step : (base : Base) (marks : List Mark) (path sequence : List ℕ) (p : ℕ) → IsValidBase base → IsSearch base marks (path ++ p ∷ []) sequence
     → ((c : ℕ) → TermReads (term_at base p) c → IsSettled marks c) → IsSearch base (set marks (target_at base p) Settled) path (sequence ++ p ∷ [])
 placed-step base marks path sequence p valid s reads =
@@ -245,14 +246,14 @@ placed-step base marks path sequence p valid s reads =
     settled_waiting : {q : ℕ} → Settled ≡ Waiting q → ⊥
     settled_waiting e = cc
 
--- ---- the end
+-- ---- the result
 
 pub among-at_or : (xs : List ℕ) (i d : ℕ) → i < length xs → is_among (get_or xs i d) xs ≡ true
 among-at_or [] i d h = absurd (omega arith)
 among-at_or (x ∷ xs) zero d h = ap (λ b. b || is_among x xs) (itself x)
 among-at_or (x ∷ xs) (suc i) d h = or-true (nat_eq (get_or xs i d) x) (is_among (get_or xs i d) xs) (among-at_or xs i d (omega arith))
 
--- once all cells with definitions are settled, the sequence is an order
+-- if all cells with definitions are settled, the sequence is an order
 pub ordered : (base : Base) (marks : List Mark) (sequence : List ℕ) → IsSearch base marks [] sequence
     → ((p : ℕ) → p < length base.definitions → IsSettled marks (target_at base p)) → IsOrder base sequence
 ordered base marks sequence s all = record {

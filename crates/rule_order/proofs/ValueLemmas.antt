@@ -22,12 +22,12 @@ use Rattle.micro_m.proofs.TurnLemmas.{option_cases, one-solution}
 use Rattle.rule_order.specs.Orders.{cells_at, ReadsEarlier, IsOrder}
 use Rattle.rule_order.proofs.OrderLemmas.{All-head, All-among, cells-among, cells-distinct, ordered-free}
 
--- the values after the definitions at these positions, one after the other
+-- the values after the definitions at these positions are computed one after the other
 abbrev pub filled : Base → List ℕ → List Value → List Value
 filled base [] values = values
 filled base (p ∷ later) values = filled base later (set values (target_at base p) (term_value (environment values) (term_at base p)))
 
--- cells that none of them defines stay as they are
+-- the values of other cells are unchanged
 filled-others : (base : Base) (ps : List ℕ) (values : List Value) (c : ℕ) → is_among c (cells_at base ps) ≡ false
     → environment (filled base ps values) c ≡ environment values c
 filled-others base [] values c away = refl
@@ -37,7 +37,7 @@ filled-others base (p ∷ ps) values c away =
     ∙ get_or-set_other values (target_at base p) c (term_value (environment values) (term_at base p)) Undef
     (λ e. clash (subst (λ n. nat_eq c n ≡ true) e (itself c)) k.0)
 
--- and the others have the values of their terms
+-- and the defined cells have the values of their terms
 filled-defined : (base : Base) (ps : List ℕ) (values : List Value) (p : ℕ) → ReadsEarlier base ps → AreDistinctCells (cells_at base ps)
     → All (λ q. target_at base q < length values) ps → is_among p ps ≡ true →
     environment (filled base ps values) (target_at base p) ≡ term_value (environment (filled base ps values)) (term_at base p)
@@ -59,7 +59,7 @@ filled-defined base (q ∷ ps) values p earlier once within h =
     (λ k d l. let w = within (suc k) d (omega arith) in omega (arith, length-set values t v))
     (ap (λ b. b || is_among p ps) (sym f) ∙ h))
 
--- computed in an order, they solve the definitions
+-- computed in an order, the values solve the definitions
 filled-solves : (base : Base) (sequence : List ℕ) (values : List Value) → IsValidBase base → IsOrder base sequence → length values ≡ base.cells
     → IsSolution base (environment values) (environment (filled base sequence values))
 filled-solves base sequence values valid order size c =
@@ -98,7 +98,7 @@ filled-values base sequence values valid order size c =
     one-solution base (environment values) (environment (filled base sequence values)) (ordered-free base sequence valid order)
     (filled-solves base sequence values valid order size) c
 
--- the first failure and the notes depend on no more than the values
+-- the first failure and the notes depend only on the values
 pub failure_among-same : (labels : List Label) (e f : Environment) (checks : List Check) → ((c : ℕ) → e c ≡ f c)
     → failure_among labels e checks ≡ failure_among labels f checks
 failure_among-same labels e f [] h = refl
@@ -113,7 +113,7 @@ notes_among-same labels e f (check ∷ checks) h =
 
 -- ---- the loop over the positions
 
--- the definition that is looked up at a place of an order
+-- the definition that the code reads at an index of an order
 pub looked-up : (base : Base) (sequence items : List ℕ) (definitions : List Definition) (i : ℕ) (d : Definition) → IsOrder base sequence
     → definitions ≡ base.definitions → items ≡ sequence → i < length items → d ≡ get_or definitions (get_or items i 0) d →
     (get_or items i 0 < length base.definitions) × (d.0 ≡ target_at base (get_or items i 0)) × (d.1 ≡ term_at base (get_or items i 0))

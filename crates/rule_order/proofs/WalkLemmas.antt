@@ -1,4 +1,4 @@
--- The turns of the search, with the frames of the path and what is known to be settled.
+-- The steps of the search, with the frames of the path and the cells that are known to be settled.
 use Rattle.std.proofs.Common.{◌≡◌, ℕ, zero, suc, ◌<◌, ◌≤◌, true, List, [], ◌∷◌, ◌++◌, length, get_or, set, take, drop, refl, ap, sym, ◌∙◌, subst, inl, inr}
 use Rattle.std.proofs.Common.{arith}
 use Rattle.std.proofs.lemmas.Bool.{cases_lt}
@@ -70,9 +70,9 @@ frames-kept : (base : Base) (old new : List Mark) (path : List Frame) → ((c : 
     → All (IsFrame base new) path
 frames-kept base old new path kept h = λ k d l. frame-kept base old new (get_or path k d) kept (h k d l)
 
--- ---- the turns
+-- ---- the steps
 
--- a definition that waits is begun
+-- a waiting definition is begun
 pub walk-begun : (base : Base) (marks : List Mark) (known sequence : List ℕ) (path : List Frame) (frame : Frame) (p : ℕ) → IsValidBase base
     → IsWalk base marks known sequence path → mark_of marks (target_at base p) ≡ Waiting p → LastReads base (cells_of path) (target_at base p)
     → IsFrameAt base p frame →
@@ -109,7 +109,7 @@ walk-begun base marks known sequence path frame p valid w waits reads f =
     settled_waiting : {q : ℕ} → Settled ≡ Waiting q → ⊥
     settled_waiting e = cc
 
--- what a frame of which all runs are settled reads
+-- the cells that a frame reads are settled if all of its runs are
 frame-read : (base : Base) (marks : List Mark) (frame : Frame) → IsFrame base marks frame
     → AllPassed marks frame.reads.items frame.next (length frame.reads.items) → (c : ℕ) → TermReads (term_at base frame.position) c → IsSettled marks c
 frame-read base marks frame f rest c r =
@@ -119,7 +119,7 @@ frame-read base marks frame f rest c r =
     (k.2 (run 0 0)) in
     elim (cases_lt k.0 frame.next) [ inl l ↦ f.passed k.0 (run 0 0) (omega arith) l c here | inr l ↦ rest k.0 (run 0 0) l low c here ]
 
--- the last of the path is placed, if all that it reads is settled
+-- the last definition of the path is placed, if all cells that it reads are settled
 pub walk-placed : (base : Base) (marks : List Mark) (known now sequence : List ℕ) (path : List Frame) (frame : Frame) → IsValidBase base
     → IsWalk base marks known sequence (path ++ frame ∷ []) → KnowsSettled marks now → length now ≡ base.cells
     → AllPassed marks frame.reads.items frame.next (length frame.reads.items) →
@@ -151,7 +151,7 @@ walk-placed base marks known now sequence path frame valid w knows size rest =
     open_settled : Open ≡ Settled → ⊥
     open_settled e = cc
 
--- the last of the path stops at a cell that isn't settled
+-- the last definition of the path stops at an unsettled cell
 pub walk-stopped : (base : Base) (marks : List Mark) (known now sequence : List ℕ) (path : List Frame) (frame : Frame) (place c : ℕ) → IsValidBase base
     → IsWalk base marks known sequence (path ++ frame ∷ []) → KnowsSettled marks now → length now ≡ base.cells
     → StopsAt marks frame.reads.items frame.next place c →
@@ -181,7 +181,7 @@ walk-stopped base marks known now sequence path frame place c valid w knows size
       subst (λ (cs : List ℕ). LastReads base cs c) (sym (frames-push path moved)) (LastReads-push base (cells_of path) frame.cell c reads),
     )
 
--- ---- what the turns ask for
+-- ---- the preconditions of the steps
 
 pub frame-fits : (base : Base) (marks : List Mark) (known sequence : List ℕ) (path : List Frame) (frame : Frame) → IsValidBase base
     → IsWalk base marks known sequence (path ++ frame ∷ []) → RunsFit (length marks) frame.reads.items
@@ -205,9 +205,9 @@ frame-low base marks known sequence path frame valid w =
     let e = f.cell in
     omega arith
 
--- ---- the turns at the values that the code has
+-- ---- the steps on the values that the code has
 
--- an element by another default
+-- an element with another default
 other_default : {X : Type 0} (xs : List X) (i : ℕ) (d e : X) → i < length xs → get_or xs i d ≡ get_or xs i e
 other_default [] i d e h = absurd (omega arith)
 other_default (x ∷ xs) zero d e h = refl
@@ -255,7 +255,7 @@ turn-stopped base marks slice known lent now n sequence path after frame reads p
     subst (λ (fs : List Frame). IsWalk base marks (take n (now ++ drop (length now) known)) sequence fs × LastReads base (cells_of fs) c) (sym pushed)
     (subst (λ (ks : List ℕ). IsWalk base marks ks sequence (path ++ record frame { next = place } ∷ [])) (sym is) walk.0, walk.1)
 
--- a cell that was begun is on the path, and there it closes a cycle
+-- an open cell is on the path, where it closes a cycle
 pub on-path : (base : Base) (marks : List Mark) (known sequence : List ℕ) (path slice : List Frame) (c : ℕ) (m : Mark) → IsWalk base marks known sequence path
     → (IsSettled marks c → ⊥) → m ≡ get_or marks c m → m ≡ Open → slice ≡ path → is_among c (cells_of slice) ≡ true
 on-path base marks known sequence path slice c m w unsettled is begun same_path =
@@ -273,7 +273,7 @@ closed-cycle base marks known sequence path slice c P w last same_path shows =
     (subst (λ (cs : List ℕ). ReadsNext base cs) (sym (cells ∙ is)) w.search.path_reads)
     (subst (λ (cs : List ℕ). LastReads base cs c) (sym cells) last)
 
--- before a definition is begun at an empty path, its cell waits for it or is settled
+-- if the path is empty, the cell of a definition is waiting or settled
 pub waits : (base : Base) (marks : List Mark) (known sequence : List ℕ) (p : ℕ) → IsValidBase base → p < length base.definitions
     → IsWalk base marks known sequence [] → (IsSettled marks (target_at base p) → ⊥) → mark_of marks (target_at base p) ≡ Waiting p
 waits base marks known sequence p valid low w unsettled = by (mark_of marks (target_at base p)) refl
@@ -285,7 +285,7 @@ waits base marks known sequence p valid low w unsettled = by (mark_of marks (tar
         let k = w.search.waiting (target_at base p) q e in
         e ∙ ap Waiting (position-one base q p valid.defined_once k.0 low k.1)
 
--- there are no more definitions than cells
+-- there are at most as many definitions as cells
 pub few-definitions : (base : Base) → IsValidBase base → length base.definitions ≤ base.cells
 few-definitions base valid =
     let all : length (targets_of base) ≡ length base.definitions = length-map base.definitions (λ (d : Definition). d.0) in

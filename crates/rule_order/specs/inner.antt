@@ -1,3 +1,3 @@
--- What the contracts of inner functions speak of. Those of the public calls need none of it.
+-- Definitions that only the contracts of inner functions use.
 pub mod Marks
 pub mod Runs

@@ -1,4 +1,4 @@
-//! A cycle, shown from its least cell on.
+//! A cycle, rotated to begin with its least cell.
 
 ghost use Rattle.std.specs.Prelude.{◌≡◌, ◌<◌, ◌≤◌, ◌^◌, ◌++◌, ℕ, true, length, map, All, IfOk, OnOk, slice_index_or};
 ghost use Rattle.micro_m.specs.declared.base.Base.{Base};
@@ -10,7 +10,8 @@ use crate::search::Frame;
 use m_places::Seq;
 use std::alloc::{AllocError, Global};
 
-/// The cells of a path from this one on, which is on the path and which the last one reads, beginning with the least.
+/// The cycle that a path closes if its last cell reads this cell of the path: the cells from this
+/// one on, rotated to begin with the least.
 pub fn shown_cycle(alloc: Global, path: &[Frame], cell: usize) -> Result<Seq<u32>, AllocError>
     requires fits { All (λ f. f.cell < 2 ^ 32) path.now }
     requires there { is_among cell (cells_of path.now) ≡ true }
@@ -26,7 +27,7 @@ pub fn shown_cycle(alloc: Global, path: &[Frame], cell: usize) -> Result<Seq<u32
     Ok(Seq::from_vec(cells))
 }
 
-/// The place of a cell on a path that has it.
+/// The index of a cell of the path.
 fn place_of(path: &[Frame], cell: usize) -> usize
     requires { is_among cell (cells_of path.now) ≡ true }
     ensures within { result < length path.now }
@@ -40,7 +41,7 @@ fn place_of(path: &[Frame], cell: usize) -> usize
     unreachable!()
 }
 
-/// The place of the least cell.
+/// The index of the least cell.
 fn place_of_least(ring: &[Frame]) -> usize
     requires { 0 < length ring.now }
     ensures within { result < length ring.now }

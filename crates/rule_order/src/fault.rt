@@ -1,4 +1,4 @@
-//! Why a base has no order.
+//! Errors of ordering.
 
 ghost use Rattle.std.specs.Prelude.{◌≡◌};
 ghost use Rattle.rule_order.specs.declared.fault.OrderFault.TheVariants.{Memory};
@@ -9,9 +9,10 @@ use std::alloc::{AllocError, AllocFailed};
 /// Why a base has no order.
 #[derive(Drop)]
 pub enum OrderFault {
-    /// Distinct cells, each reading the next and the last the first, beginning with the least number.
+    /// Distinct cells, each reading the next and the last reading the first. The first one has the
+    /// least number.
     Cycle(Seq<u32>),
-    /// There was no memory.
+    /// Out of memory.
     Memory,
 }
 

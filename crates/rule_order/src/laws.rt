@@ -1,4 +1,4 @@
-//! Laws of orders. Each function does nothing: its contract is the law.
+//! Laws of orders: empty functions whose contracts are the laws.
 
 ghost use Rattle.std.specs.Prelude.{ℕ, List};
 ghost use Rattle.micro_m.specs.declared.base.Base.{Base};

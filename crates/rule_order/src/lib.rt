@@ -1,6 +1,7 @@
-//! Definitions in an order in which each stands after those that it reads, or a cycle that shows that there is none.
+//! A topological order of the definitions of a base: each after those that it reads; or a cycle,
+//! which proves that there is none.
 //!
-//! This crate stands on the meaning of a base and knows nothing of source text, names of variables or printed lines.
+//! Uses the semantics of bases. Knows nothing of source text, names of variables or printed lines.
 #![tactic(auto)]
 
 mod cycle;

@@ -13,18 +13,21 @@ use m_places::Seq;
 use micro_m::Base;
 use std::alloc::Global;
 
-/// A base, and the positions of its definitions in an order in which each stands after all definitions of cells that it reads.
+/// A base, and the positions of its definitions in an order in which each comes after all
+/// definitions of cells that it reads.
 #[derive(Drop)]
 pub struct Ordered {
     pub base: Base,
     pub sequence: Seq<u32>,
 }
 
-/// Puts the definitions of a valid base in an order: each after all definitions of cells that it reads. Where `A = B` stands
-/// before `B = 1`, the sequence is 1, 0. The base that is handed back is the one that was handed in.
+/// Orders the definitions of a valid base: each comes after all definitions of cells that it reads.
+/// For `A = B` and then `B = 1` the sequence is 1, 0. The base is returned unchanged.
 ///
-/// Where there is no order, it shows distinct cells, each reading the next and the last the first, beginning with the least
-/// number. The work is linear in the parts of the terms and the cells, and no call is as deep as a chain of definitions.
+/// If there is no order, the error is a cycle: distinct cells, each reading the next and the last
+/// reading the first, beginning with the least number. The time is linear in the parts of the terms
+/// and the number of cells. The depth of recursion doesn't depend on the length of chains of
+/// definitions.
 pub fn order(alloc: Global, base: Base) -> Result<Ordered, OrderFault>
     requires { IsValidBase base }
     ensures outcome { Outcome Memory result

@@ -1,4 +1,4 @@
-//! What a term reads, as runs of neighbouring cells.
+//! The cells that a term reads, as runs of neighbouring cells.
 
 ghost use Rattle.std.specs.Prelude.{◌≡◌, ◌∷◌, [], ◌++◌, OnOk, option_to_list};
 ghost use Rattle.micro_m.specs.Views.{trees_of, steps_of};
@@ -14,7 +14,8 @@ pub struct Run {
     pub count: usize,
 }
 
-/// Adds the runs that a term reads, in the order in which they stand in it. A table is one run, however many cells it has.
+/// Appends the runs that a term reads, in the order of the term. A table is one run, of any number
+/// of cells.
 #[cycle(reads)]
 pub fn add_reads(term: &MTerm, runs: &mut Vec<Run>) -> Result<(), AllocError>
     ensures { OnOk result (runs.new.items ≡ runs.old.items ++ runs_in term.now) }
@@ -60,7 +61,7 @@ fn add_along(steps: &[Step], runs: &mut Vec<Run>) -> Result<(), AllocError>
     Ok(())
 }
 
-/// Adds what a table read reads of its table.
+/// Appends the run of a table that a table read reads.
 fn add_table(first: u32, size: u32, index: &MTerm, runs: &mut Vec<Run>) -> Result<(), AllocError>
     ensures { OnOk result (runs.new.items ≡ runs.old.items ++ picked_runs first size index.now) }
 {
@@ -70,7 +71,8 @@ fn add_table(first: u32, size: u32, index: &MTerm, runs: &mut Vec<Run>) -> Resul
     }
 }
 
-/// What a table read reads of its table: at a literal the one cell that it comes to, if it comes to one, and else all cells.
+/// The cells of the table that a table read reads: at a literal the selected cell, if there is one;
+/// otherwise all cells.
 fn table_run(first: u32, size: u32, index: &MTerm) -> Option<Run>
     ensures { option_to_list result ≡ picked_runs first size index.now }
 {

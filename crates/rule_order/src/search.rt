@@ -1,4 +1,5 @@
-//! The search for an order: definitions are begun and placed along their reads, with a path of one's own in place of recursion.
+//! A depth-first search along the reads of definitions. It keeps its own stack, the path, instead
+//! of recursing, and builds no graph.
 
 ghost use Rattle.std.specs.Prelude.{◌≡◌, ◌+◌, ◌<◌, ◌≤◌, ◌^◌, ◌∷◌, ◌++◌, [], IsTrue, ◌↔◌, length, IfOk, IfSome, IfNone, OnOk};
 ghost use Rattle.std.specs.List.{sum_by};
@@ -16,19 +17,19 @@ use crate::reads::{Run, add_reads};
 use micro_m::Base;
 use std::alloc::{AllocError, Global};
 
-/// How far a cell is while an order is sought.
+/// The state of a cell in the search.
 #[derive(Clone, Copy)]
 pub enum Mark {
-    /// It has no definition, or its definition was placed.
+    /// It has no definition, or its definition is in the sequence.
     Settled,
-    /// Its definition, at this position, wasn't begun.
+    /// It has the definition at this position, which isn't begun.
     Waiting(usize),
-    /// Its definition was begun, and isn't placed yet.
+    /// Its definition is on the path.
     Open,
 }
 
-/// A definition that was begun: its position and cell, what it reads, and the first of these runs that may have a cell which
-/// isn't settled.
+/// A definition on the path: its position and cell, the runs that it reads, and the index of the
+/// first run that may have an unsettled cell. A frame is dropped when its definition is placed.
 #[derive(Drop)]
 pub struct Frame {
     pub position: usize,
@@ -37,7 +38,9 @@ pub struct Frame {
     pub next: usize,
 }
 
-/// The marks of the cells, how many cells from each one on are known to be settled, and the positions that were placed.
+/// The state of the search. `known` has for each cell a number of cells, from it on, that are
+/// settled; so the second read of a table takes one step. `sequence` has the positions that are
+/// placed.
 #[derive(Drop)]
 pub struct Search {
     pub marks: Vec<Mark>,
@@ -45,7 +48,8 @@ pub struct Search {
     pub sequence: Vec<u32>,
 }
 
-/// The positions of a base's definitions, each after all definitions of cells that it reads, or a cycle of the base.
+/// The positions of a base's definitions, each after those of all cells that it reads, or a cycle
+/// of the base.
 pub fn sequence_of(alloc: Global, base: &Base) -> Result<Vec<u32>, OrderFault>
     requires { IsValidBase base.now }
     ensures outcome { Outcome Memory result
@@ -62,7 +66,7 @@ pub fn sequence_of(alloc: Global, base: &Base) -> Result<Vec<u32>, OrderFault>
     Ok(search.sequence)
 }
 
-/// The marks before the search: each cell with a definition waits for it.
+/// The marks before the search: each cell with a definition is waiting.
 fn first_marks(alloc: Global, base: &Base) -> Result<Vec<Mark>, AllocError>
     requires { IsValidBase base.now }
     ensures { IfOk result (λ marks. IsSearch base.now marks.items [] []) }
@@ -75,7 +79,8 @@ fn first_marks(alloc: Global, base: &Base) -> Result<Vec<Mark>, AllocError>
 }
 
 impl Search {
-    /// Places the definition at a position after all that it reads, if it wasn't placed before.
+    /// Places the definition at a position, after all definitions that it reads. No change if it is
+    /// already placed.
     fn place(&mut self, alloc: Global, base: &Base, position: usize) -> Result<(), OrderFault>
         requires valid { IsValidBase base.now }
         requires fits { base.now.cells < 2 ^ 32 }
@@ -97,7 +102,7 @@ impl Search {
         Ok(())
     }
 
-    /// Begins the definition at a position, which waits, at the end of the path.
+    /// Pushes the waiting definition at a position onto the path.
     fn begin(
         &mut self,
         alloc: Global,
@@ -120,8 +125,9 @@ impl Search {
         Ok(())
     }
 
-    /// A turn of the search for the last frame of a path, which was taken off it: the definition is placed, if all that it reads
-    /// is settled, and else the first that isn't is begun after it.
+    /// One step of the search, for the last frame, which has been popped off the path. If all cells
+    /// that it reads are settled, its definition is placed; otherwise it is pushed back, and the
+    /// first unsettled cell is visited.
     fn turn(
         &mut self,
         alloc: Global,
@@ -157,8 +163,8 @@ impl Search {
         }
     }
 
-    /// Goes on from the last frame of a path to a cell that it reads and that isn't settled: begins its definition, or shows a
-    /// cycle where it is on the path already.
+    /// Visits an unsettled cell that the last frame reads: begins its definition, or returns a
+    /// cycle if it is already on the path.
     fn go_on(
         &mut self,
         alloc: Global,
@@ -187,7 +193,7 @@ impl Search {
     }
 }
 
-/// The frame of a definition that begins.
+/// The frame of a definition that is begun.
 fn frame_at(alloc: Global, base: &Base, position: usize) -> Result<Frame, AllocError>
     requires { position < length base.now.definitions }
     ensures { IfOk result (IsFrameAt base.now position) }
@@ -203,7 +209,7 @@ fn frame_at(alloc: Global, base: &Base, position: usize) -> Result<Frame, AllocE
     })
 }
 
-/// The first run from a place on that has a cell which isn't settled, and the first such cell.
+/// The first run, from an index on, with an unsettled cell, and its first such cell.
 fn first_unsettled(
     reads: &[Run],
     from: usize,
@@ -226,7 +232,7 @@ fn first_unsettled(
     None
 }
 
-/// The first cell of a run that isn't settled. What is known to be settled isn't looked at again.
+/// The first unsettled cell of a run. Cells that are known to be settled are skipped.
 fn unsettled_in(run: Run, marks: &[Mark], known: &mut [usize]) -> Option<usize>
     requires fits { run.first + run.count ≤ length marks.now }
     requires size { length known.old ≡ length marks.now }
@@ -247,7 +253,8 @@ fn unsettled_in(run: Run, marks: &[Mark], known: &mut [usize]) -> Option<usize>
     }
 }
 
-/// How many cells of a run are settled from its first one on, where so many are known to be, and so many at least.
+/// A number of cells, from the first cell of a run on, that are settled; it ends at an unsettled
+/// cell or covers the run. The first `known` ones are known to be settled.
 fn passed_from(run: Run, known: usize, marks: &[Mark]) -> usize
     requires fits { run.first + run.count ≤ length marks.now }
     requires knows { RunIsSettled marks.now record run { count = known } }

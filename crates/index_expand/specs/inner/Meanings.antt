@@ -1,4 +1,5 @@
--- What a term is, whatever letters and `X` stand for: two terms of one meaning have one expansion in each instance.
+-- The meaning of a term: its expansion as a function of the bindings of letters and `X`. Terms of
+-- the same meaning have the same expansion in each instance.
 use Rattle.std.specs.Prelude.{ℕ, Option}
 use Rattle.m_ast.specs.declared.plain_term.PLink.{PLink}
 use Rattle.m_ast.specs.declared.plain_term.PMember.{PMember}

@@ -1,4 +1,4 @@
--- What a list of links or members becomes, element by element, and sums of operands.
+-- The expansion of links and members, element by element, and sums of operands.
 use Rattle.std.specs.Prelude.{ℕ, List, [], ◌∷◌, Option}
 use Rattle.m_fixed.specs.declared.operator.Op.TheVariants.{Add}
 use Rattle.m_fixed.specs.declared.amount.Value.TheVariants.{Undef}
@@ -17,11 +17,11 @@ link_expanded cell_number letters link = record { op = link.op; term = expanded 
 abbrev pub member_expanded : Option ℕ → Letters → Member → PMember
 member_expanded cell_number letters member = record { low = expanded cell_number letters member.low; high = expanded cell_number letters member.high }
 
--- an instance of a loop's body as a further operand of a sum
+-- an instance of a loop's body, as a further operand of a sum
 abbrev pub instance_link : Option ℕ → Syntax → Letters → PLink
 instance_link cell_number body bound = record { op = Add; term = expanded cell_number bound body }
 
--- a chain, or its first operand where there are no more
+-- a chain; without links, its first operand
 abbrev pub chain_of : Syntax → List PLink → Syntax
 chain_of a [] = a
 chain_of a (b ∷ rest) = chain a (links_of (b ∷ rest))

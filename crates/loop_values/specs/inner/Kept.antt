@@ -1,4 +1,4 @@
--- Indexes that stand for all indexes of headers.
+-- Indexes with the same instances as all indexes of headers.
 use Rattle.std.specs.Prelude.{◌≡◌, ℕ, ◌<◌, Bool, true, false, ◌==◌, List, slice_index_or}
 use Rattle.std.specs.List.{list_any}
 use Rattle.m_ast.specs.declared.header.Index.{Index}
@@ -9,7 +9,7 @@ use Rattle.loop_values.specs.Headers.{instances}
 abbrev pub binds : ℕ → List Index → Bool
 binds letter indexes = list_any (λ index. index.letter == letter) indexes
 
--- those that were kept have the instances of all, and bind each letter that is marked as bound
+-- the kept indexes have the instances of all, and bind each letter that is marked as bound
 pub record AreKept (kept : List Index) (bound : List Bool) (all : List Index) : Type 0 where
   pub same : (letters : Letters) → instances kept letters ≡ instances all letters
   pub marked : (letter : ℕ) → letter < 256 → slice_index_or bound letter false ≡ true → binds letter kept ≡ true

@@ -1,10 +1,10 @@
--- What letters stand for once indexes are left.
+-- The bindings of letters after the loops of indexes.
 use Rattle.std.specs.Prelude.{ℕ, List, [], ◌∷◌, Option, slice_set}
 use Rattle.m_ast.specs.declared.header.Index.{Index}
 use Rattle.loop_values.specs.Letters.{Letters}
 
--- The letters, where that of each index stands again for what it stood for outside of the indexes: the values beside them, in their
--- order. Of a letter that stands twice the value beside its first index is that of outside.
+-- The letters, with the previous binding of each index restored. `outer` holds these in the order
+-- of the indexes; if a letter is bound twice, the one of its first index decides.
 abbrev pub unbound : List Index → List (Option (List ℕ)) → Letters → Letters
 unbound [] outer letters = letters
 unbound (index ∷ rest) [] letters = letters

@@ -1,4 +1,5 @@
--- Reading as a function: what stands at the start of the tokens, and the tokens after it, or none.
+-- Parsing as a function, against which the readers are proved: the tree at the start of the tokens
+-- and the remaining tokens, or none.
 use Rattle.std.specs.Prelude.{◌≡◌, ◌==◌, ◌||◌, ℕ, ℤ, neg_ℤ, Bool, cond, List, [], ◌∷◌, ◌++◌, length, Option, Some, None, Result, Ok, Err}
 use Rattle.std.specs.Str.Parse.{digits_value}
 use Rattle.m_places.specs.declared.place.Place.{Place}
@@ -22,7 +23,7 @@ use Rattle.m_items.specs.declared.attributes.AttributeLists.{AttributeLists}
 use Rattle.m_items.specs.declared.lists.Listed.{Listed}
 use Rattle.m_items.specs.declared.lists.Listed.TheVariants.{Words, Texts}
 
--- What a reader of the code returned is what reading gives, unless memory ran out.
+-- A reader of the code returned the result of this function, unless it ran out of memory.
 abbrev pub Fails : {A : Type 0} → ItemFault → Option A → Type 0
 Fails NoItem read = read ≡ None
 Fails Memory read = Unit {0}
@@ -49,15 +50,15 @@ amount_at ts = choose (sign_at signs.Minus ts) (open_at amount ts) (λ o. open_a
 unfoldable pub number_at : List Token → Option (Option ℤ × List Token)
 number_at ts = choose (sign_at signs.Equal ts) (Some (None, ts)) (λ o. amount_at o.1 >>= λ z. Some (Some z.0, z.1))
 
--- the attributes as they are spelled
+-- the attributes in the order of the source
 abbrev pub attributes_at : List Token → Option (List Attribute × List Token)
 attributes_at ts = chain_at word attribute number_at (length ts) [] ts
 
--- what the code keeps of attributes
+-- the two lists that the code keeps
 abbrev pub lists : AttributeLists → Attributes
 lists a = (a.words.items, a.pairs.items)
 
--- those lists, with one attribute more
+-- those lists, with one more attribute
 abbrev pub with_one_more : Attributes → List ℕ → Option ℤ → Attributes
 with_one_more l w None = (l.0 ++ w ∷ [], l.1)
 with_one_more l w (Some z) = (l.0, l.1 ++ (w, z) ∷ [])
@@ -113,7 +114,7 @@ constant_at n ts = do
   s ← sign_at signs.Semicolon z.1
   Some (items.Variable (variable n (Constant z.0) no_attributes None), s.1)
 
--- Lists of words, and of texts: what stands between two parts, and what a part is.
+-- Lists of words, and of texts: their separators and elements.
 abbrev pub between : Listed → ASign
 between Words = signs.Comma
 between Texts = signs.Colon
@@ -128,7 +129,7 @@ list_at listed = joined_at (is_sign (between listed)) (open_at (part listed))
 abbrev pub is_four_or_five : ℕ → Bool
 is_four_or_five n = n == 4 || n == 5
 
--- an error, if it has as many texts as it may
+-- an error item, if it has four or five texts
 abbrev pub error_of : List ℕ × Place → ErrorKind → List (List ℕ) → Option Item
 error_of n k texts = cond (is_four_or_five (length texts)) (Some (items.Error (error_item n k texts))) None
 

@@ -1,4 +1,5 @@
--- Reading as a function: what stands at the start of the tokens, and the tokens after it, or none.
+-- Parsing as a function, against which the readers are proved: the tree at the start of the tokens
+-- and the remaining tokens, or none.
 use Rattle.std.specs.Prelude.{List, [], length, Option, Some}
 use Rattle.m_lexer.specs.declared.token.Token.{Token}
 use Rattle.m_lexer.specs.declared.token.Key.TheVariants as keys

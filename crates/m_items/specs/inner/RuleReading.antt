@@ -1,4 +1,5 @@
--- Reading as a function: what stands at the start of the tokens, and the tokens after it, or none.
+-- Parsing as a function, against which the readers are proved: the tree at the start of the tokens
+-- and the remaining tokens, or none.
 use Rattle.std.specs.Prelude.{◌≡◌, ℕ, zero, suc, Bool, true, false, cond, List, [], ◌∷◌, ◌++◌, length, Option, Some, None, Result, Ok, Err}
 use Rattle.std.specs.Str.Parse.{digits_value}
 use Rattle.std.specs.declared.alloc.AllocError.{AllocError}
@@ -31,16 +32,16 @@ use Rattle.m_items.specs.declared.head.Head.{Head}
 
 -- Parts.
 
--- running out of memory stays that, and no term is no item
+-- without a term there is no item; out of memory stays the same
 abbrev pub item_fault_of : TermFault → ItemFault
 item_fault_of NoTerm = NoItem
 item_fault_of Memory = faults.Memory
 
--- a term, before a token that may follow one
+-- a term that is followed by a token that may follow one
 unfoldable pub term_at : List Token → Option (Syntax × List Token)
 term_at ts = expr_at (inner_at BRACKET_DEPTH) ts >>= λ t. cond (begins_by follows t.1) (Some t) None
 
--- a header, before a colon
+-- a header that is followed by a colon
 unfoldable pub headed_at : List Token → Option (Header × List Token)
 headed_at ts = header_at ts >>= λ h. cond (begins_by (is_sign signs.Colon) h.1) (Some h) None
 
@@ -49,7 +50,7 @@ unfoldable pub behind_words : List Token → List Token
 behind_words [] = []
 behind_words (t ∷ ts) = choose (word t) (t ∷ ts) (λ w. behind_words ts)
 
--- at most n further ones, after those that are done: as many as can be read
+-- at most n further ones, after the finished ones: as many as can be read
 unfoldable pub many_at : {A : Type 0} → (List Token → Option (A × List Token)) → ℕ → List A → List Token → List A × List Token
 many_at p zero done ts = (done, ts)
 many_at p (suc n) done ts = choose (p ts) (done, ts) (λ x. many_at p n (done ++ x.0 ∷ []) x.1)
@@ -58,7 +59,8 @@ many_at p (suc n) done ts = choose (p ts) (done, ts) (λ x. many_at p n (done ++
 unfoldable pub one_or_more_at : {A : Type 0} → (List Token → Option (A × List Token)) → List Token → Option (List A × List Token)
 one_or_more_at p ts = p ts >>= λ x. Some (many_at p (length x.1) (x.0 ∷ []) x.1)
 
--- What a reader of one of many returned is what reading gives, unless memory ran out. Where it gives none, the tokens stay.
+-- A reader of an optional element returned the result of this function, unless it ran out of
+-- memory. If there is none, the cursor is unchanged.
 abbrev pub GivesOne : {A : Type 0} → Result (Option A) AllocError → Option (A × List Token) → List Token → List Token → Type 0
 GivesOne (Ok (Some x)) read before rest = read ≡ Some (x, rest)
 GivesOne (Ok None) read before rest = (read ≡ None) × (rest ≡ before)
@@ -122,7 +124,7 @@ rule_at ts = do
 
 -- Verifications.
 
--- after a condition: the word of the error
+-- after a condition: the name of the error
 unfoldable pub error_at : List Token → Option (List ℕ × List Token)
 error_at ts = do
   a ← key_at keys.Alors ts

@@ -1,4 +1,4 @@
--- The tables in which look-ups find declarations.
+-- The invariant of the tables.
 use Rattle.std.specs.Prelude.{◌≡◌, ◌<◌, ◌≤◌, ◌+◌, ◌^◌, [], ◌∷◌, ◌++◌, length}
 use Rattle.m_places.specs.declared.limits.TheConstants.{CELLS}
 use Rattle.m_ast.specs.declared.item.Item.{Item}
@@ -9,11 +9,12 @@ use Rattle.m_ast.specs.Items.{variable_cells}
 use Rattle.m_symbols.specs.declared.symbols.Tables.{Tables}
 use Rattle.m_symbols.specs.Declarations.{Declared, names_of, codes_of, owners_from, inputs_from, error_names_of}
 
--- what tables say is declared
+-- the declarations that tables hold
 abbrev pub declared_in : Tables → Declared
 declared_in t = record { variables = t.variables.items; errors = t.errors.items }
 
--- each table has what it is for, of the variables and errors that are declared
+-- each table is the index of the declared variables and errors that its name states, and counts fit
+-- their types
 pub record AreIndexed (t : Tables) : Type 0 where
   pub names : t.names ≡ names_of t.variables.items
   pub codes : t.codes ≡ codes_of t.variables.items
@@ -24,19 +25,19 @@ pub record AreIndexed (t : Tables) : Type 0 where
   pub few_variables : length t.variables.items < 2 ^ 32
   pub few_errors : length t.errors.items < 2 ^ 32
 
--- there is room for a further declaration
+-- there is room for one more declaration
 abbrev pub HasRoom : Tables → Type 0
 HasRoom t = (length t.variables.items + 1 < 2 ^ 32) × (length t.errors.items + 1 < 2 ^ 32)
 
--- with a further variable, whose first cell comes after those that are there
+-- with one more variable, whose first cell is the next free one
 abbrev pub with_variable : Declared → VariableItem → Declared
 with_variable d v = record d { variables = d.variables ++ record { item = v; first_cell = length (owners_from 0 d.variables); cells = variable_cells v } ∷ [] }
 
--- with a further error
+-- with one more error
 abbrev pub with_error : Declared → ErrorItem → Declared
 with_error d e = record d { errors = d.errors ++ e ∷ [] }
 
--- with what a further item declares
+-- with the declaration of one more item
 abbrev pub with_item : Declared → Item → Declared
 with_item d (Variable v) = with_variable d v
 with_item d (Error e) = with_error d e

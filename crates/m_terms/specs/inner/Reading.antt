@@ -1,4 +1,5 @@
--- Reading as a function: the tree at the start of the tokens and the tokens after it, or none.
+-- Parsing as a function, against which the readers are proved: the tree at the start of the tokens
+-- and the remaining tokens, or none.
 use Rattle.std.specs.Prelude.{◌≡◌, ℕ, zero, suc, Bool, true, false, List, [], ◌∷◌, ◌++◌, length, Option, Some, None, Result, Ok, Err}
 use Rattle.m_places.specs.declared.place.Place.{Place}
 use Rattle.m_fixed.specs.declared.amount.Value.TheVariants.{Undef, Num}
@@ -29,7 +30,7 @@ use Rattle.m_terms.specs.Headers.{point, letter, span, index, header}
 use Rattle.m_terms.specs.Grammar.{one, two, three, addition, addition_of, multiplication, multiplication_of, conjunction, conjunction_of, disjunction}
 use Rattle.m_terms.specs.Grammar.{disjunction_of, comparison, function_of, link, member, gathered}
 
--- What a reader of the code returned is what reading gives, unless memory ran out.
+-- A reader of the code returned the result of this function, unless it ran out of memory.
 abbrev pub Fails : {A : Type 0} → TermFault → Option A → Type 0
 Fails NoTerm read = read ≡ None
 Fails Memory read = Unit {0}
@@ -95,7 +96,7 @@ walked_at ts = do
   vs ← places_at o.1
   Some (index l.0 vs.0, vs.1)
 
--- an index by words, or by signs
+-- an index in either notation
 abbrev pub index_at : Bool → List Token → Option (Index × List Token)
 index_at true = walked_at
 index_at false = assigned_at
@@ -111,7 +112,7 @@ abbrev pub header_from : List Index → Option Header
 header_from [] = None
 header_from (i ∷ is) = Some (header i is)
 
--- whether these tokens begin with one of which the table says something
+-- whether the table is defined at the first of these tokens
 abbrev pub begins_by : (Token → Option (Unit {0})) → List Token → Bool
 begins_by table ts = choose (open_at table ts) false (λ o. true)
 
@@ -124,7 +125,7 @@ header_at ts = do
   h ← header_from is.0
   Some (h, is.1)
 
--- Terms, where e reads what stands inside of brackets.
+-- Terms, where `e` reads the content of brackets.
 
 -- an expression and a token after it
 unfoldable pub until_at : (List Token → Option (Syntax × List Token)) → Mark → List Token → Option (Syntax × List Token)
@@ -171,7 +172,7 @@ loop_at e ts = do
   t ← until_at e (OfSign signs.CloseParen) c.1
   Some (loop h.0 t.0, t.1)
 
--- after a reserved word that is no function
+-- after a reserved word that isn't a function
 unfoldable pub other_word_at : (List Token → Option (Syntax × List Token)) → AKey → Place → List Token → Option (Syntax × List Token)
 other_word_at e keys.X p ts = Some (the_x p, ts)
 other_word_at e keys.Si p ts = choice_at e ts
@@ -218,7 +219,7 @@ plain_word t = word_of t.kind t.place
 unfoldable pub signed_at : List Token → Option (Syntax × List Token)
 signed_at ts = choose (mark_at (OfSign signs.Minus) ts) (open_at number ts) (λ o. open_at number o.1 >>= λ z. Some (one ops.Neg z.0, z.1))
 
--- amounts, from a to b, or a alone
+-- one amount, or a range of amounts
 unfoldable pub ends_at : List Token → Option (Member × List Token)
 ends_at ts = do
   a ← signed_at ts
@@ -240,7 +241,7 @@ inside_at outside t ts = members_at ts >>= λ ms. Some (among outside t (members
 unfoldable pub outside_at : Syntax → List Token → Option (Syntax × List Token)
 outside_at t ts = mark_at (OfKey keys.Dans) ts >>= λ d. inside_at true t d.1
 
--- what follows a sum that isn't compared
+-- after a sum that no comparison follows
 unfoldable pub membership_at : Syntax → List Token → Option (Syntax × List Token)
 membership_at t ts = choose (mark_at (OfKey keys.Dans) ts) (choose (mark_at (OfKey keys.Non) ts) (Some (t, ts)) (λ n. outside_at t n.1))
     (λ d. inside_at false t d.1)
@@ -259,7 +260,7 @@ conjunction_at e = gathered_at conjunction (negation_at e)
 abbrev pub expr_at : (List Token → Option (Syntax × List Token)) → List Token → Option (Syntax × List Token)
 expr_at e = gathered_at disjunction (conjunction_at e)
 
--- the operators of a level of left folds, and what stands between them
+-- the operators of a level of left folds, and their operands
 abbrev pub operator_of : Level → Kind → Option Op
 operator_of Disjunction = disjunction_of
 operator_of Conjunction = conjunction_of

@@ -1,4 +1,4 @@
--- The marks of cells while an order is sought, and what they say of the definitions that were placed and of those on the path.
+-- The invariant of the search: the marks of cells, the placed definitions, and those on the path.
 use Rattle.std.specs.Prelude.{◌≡◌, ℕ, ◌+◌, ◌<◌, ◌≤◌, true, List, [], ◌∷◌, map, length, All, slice_index_or}
 use Rattle.micro_m.specs.declared.base.Base.{Base}
 use Rattle.micro_m.specs.Bases.{is_among, AreDistinctCells, target_at, term_at}
@@ -17,7 +17,7 @@ use Rattle.rule_order.specs.inner.Runs.{run, IsInRun, runs_in}
 abbrev pub mark_of : List Mark → ℕ → Mark
 mark_of marks c = slice_index_or marks c Settled
 
--- how many steps a cell is away from being settled
+-- the number of steps until a cell is settled
 abbrev pub steps_left : Mark → ℕ
 steps_left Settled = 0
 steps_left Open = 1
@@ -26,7 +26,7 @@ steps_left (Waiting position) = 2
 abbrev pub IsSettled : List Mark → ℕ → Type 0
 IsSettled marks c = mark_of marks c ≡ Settled
 
--- no cell is farther from being settled than before
+-- no cell is farther from being settled
 abbrev pub HasAdvanced : List Mark → List Mark → Type 0
 HasAdvanced old new = (c : ℕ) → steps_left (mark_of new c) ≤ steps_left (mark_of old c)
 
@@ -36,19 +36,19 @@ HasAdvanced old new = (c : ℕ) → steps_left (mark_of new c) ≤ steps_left (m
 abbrev pub RunIsSettled : List Mark → Run → Type 0
 RunIsSettled marks r = (c : ℕ) → IsInRun r c → IsSettled marks c
 
--- from each cell on, so many cells are settled
+-- for each cell, this many cells from it on are settled
 abbrev pub KnowsSettled : List Mark → List ℕ → Type 0
 KnowsSettled marks known = (f : ℕ) → RunIsSettled marks (run f (slice_index_or known f 0))
 
--- the runs end within so many cells
+-- the runs end at most at this cell
 abbrev pub RunsFit : ℕ → List Run → Type 0
 RunsFit cells runs = All (λ r. r.first + r.count ≤ cells) runs
 
--- all runs from one place up to another are settled
+-- the runs from one index up to another are settled
 abbrev pub AllPassed : List Mark → List Run → ℕ → ℕ → Type 0
 AllPassed marks runs low high = (i : ℕ) (d : Run) → low ≤ i → i < high → RunIsSettled marks (slice_index_or runs i d)
 
--- From one place on, the runs are settled up to another, which has a cell that isn't.
+-- From one index on, the runs are settled up to another index, whose run has an unsettled cell.
 pub record StopsAt (marks : List Mark) (runs : List Run) (low place cell : ℕ) : Type 0 where
   pub from : low ≤ place
   pub within : place < length runs
@@ -64,7 +64,7 @@ ReadsNext base [] = Unit {0}
 ReadsNext base (x ∷ []) = Unit {0}
 ReadsNext base (x ∷ y ∷ rest) = Reads base x y × ReadsNext base (y ∷ rest)
 
--- the last of these cells reads this one, if there is a last
+-- the last of these cells, if there is one, reads c
 abbrev pub LastReads : Base → List ℕ → ℕ → Type 0
 LastReads base [] c = Unit {0}
 LastReads base (x ∷ []) c = Reads base x c
@@ -76,8 +76,9 @@ positions_of frames = map (λ f. f.position) frames
 abbrev pub cells_of : List Frame → List ℕ
 cells_of frames = map (λ f. f.cell) frames
 
--- What holds while an order is sought, where these definitions were placed, and those on the path were begun and aren't placed:
--- the marks tell which is which, each on the path reads the next, and what was placed reads nothing that isn't settled.
+-- The invariant, with the positions of the begun definitions in `path` and of the placed ones in
+-- `sequence`: the marks agree with both, each definition on the path reads the next, and placed
+-- definitions read only settled cells.
 pub record IsSearch (base : Base) (marks : List Mark) (path sequence : List ℕ) : Type 0 where
   pub size : length marks ≡ base.cells
   pub path_within : (p : ℕ) → is_among p path ≡ true → p < length base.definitions
@@ -93,7 +94,7 @@ pub record IsSearch (base : Base) (marks : List Mark) (path sequence : List ℕ)
   pub closed : (p c : ℕ) → is_among p sequence ≡ true → TermReads (term_at base p) c → IsSettled marks c
   pub earlier : ReadsEarlier base sequence
 
--- the frame of a definition that was begun just now
+-- the frame of a definition that has just begun
 pub record IsFrameAt (base : Base) (p : ℕ) (frame : Frame) : Type 0 where
   pub position : frame.position ≡ p
   pub cell : frame.cell ≡ target_at base p
@@ -108,7 +109,7 @@ pub record IsFrame (base : Base) (marks : List Mark) (frame : Frame) : Type 0 wh
   pub next : frame.next ≤ length frame.reads.items
   pub passed : AllPassed marks frame.reads.items 0 frame.next
 
--- what holds between two turns of the search, where these frames are on the path
+-- the invariant between two steps of the search, with these frames as the path
 pub record IsWalk (base : Base) (marks : List Mark) (known sequence : List ℕ) (path : List Frame) : Type 0 where
   pub search : IsSearch base marks (positions_of path) sequence
   pub frames : All (IsFrame base marks) path

@@ -1,4 +1,5 @@
--- What a term reads, as runs of neighbouring cells: a table that is read at an index that isn't a literal is one run.
+-- The cells that a term reads, as runs of neighbouring cells: a table that is read at an index that
+-- isn't a literal is one run.
 use Rattle.std.specs.Prelude.{ℕ, ◌+◌, ◌<◌, ◌≤◌, List, [], ◌∷◌, ◌++◌}
 use Rattle.micro_m.specs.Trees.{Tree, lit, cell, pick, apply, chain, Trees, none, more, Steps, end, step}
 use Rattle.micro_m.specs.declared.table.Picked.{Picked}
@@ -6,7 +7,7 @@ use Rattle.micro_m.specs.declared.table.Picked.TheVariants.{Cell, Fixed}
 use Rattle.micro_m.specs.Values.{picked}
 use Rattle.rule_order.specs.declared.reads.Run.{Run}
 
--- a run of so many cells from a first one on
+-- a run of count cells from a first one on
 abbrev pub run : ℕ → ℕ → Run
 run first count = record { first = first; count = count }
 
@@ -18,13 +19,13 @@ abbrev pub runs_of : Picked → List Run
 runs_of (Cell c) = run c 1 ∷ []
 runs_of (Fixed value) = []
 
--- what a table read reads of its table
+-- the run of its table that a table read reads
 abbrev pub picked_runs : ℕ → ℕ → Tree → List Run
 picked_runs first size (lit index) = runs_of (picked first size index)
 picked_runs first size _ = run first size ∷ []
 
 abbrev mutual
-  -- all runs of a term, in the order in which they stand in it
+  -- all runs of a term, in the order of the term
   pub runs_in : Tree → List Run
   runs_in (lit value) = []
   runs_in (cell c) = run c 1 ∷ []

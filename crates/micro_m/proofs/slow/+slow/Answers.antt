@@ -26,7 +26,7 @@ pub slow_cell-slow_term-requires : goal.slow_cell-slow_term-requires
 slow_cell-slow_term-requires t c =
     (omega (arith, reach-less c.args.base.now c.args.cell c.args.turns c.in-Some.term.now (omega arith) (sym c.in-Some.ensures)), tt)
 
--- a cell without a definition has what is given
+-- a cell without a definition has the given value
 given-value : (base : Base) (given : Environment) (turns c : ℕ) → 1 ≤ turns → None ≡ definition_of base c → given c ≡ value_in base given turns c
 given-value base given zero c h none = absurd (omega arith)
 given-value base given (suc turns) c h none = ap (λ o. option_map_or (term_value (value_in base given turns)) o (given c)) none
