@@ -80,7 +80,7 @@ lines_over base given earlier [] = earlier
 lines_over base given earlier (c ∷ cells) = lines_over base given (earlier ++ line_over base given earlier c ∷ []) cells
 
 -- The lines that explain a cell's value over an environment: one for each cell that it needs. If
--- `IRN = REV` is defined and `REV` is 2500.5, the lines for `IRN` are `REV = 2500.5` and `IRN =
--- 2500.5`.
+-- `IRN = REV` is defined and `REV` is 2500.5, the lines for `IRN` are `REV = 2500.5` and
+-- `IRN = 2500.5`.
 abbrev pub why_lines : Ordered → Environment → ℕ → List ReportLine
 why_lines ordered given c = lines_over ordered.base given [] (needed_cells ordered c)
