@@ -135,7 +135,7 @@ module _ (rules : List ℕ → Env → RunState) (body : ℕ → Env → RunStat
     block_run no_actions env = goes [] env
     block_run (an_action action rest) env = then_do (action_run action env) (block_run rest)
 
--- The effect of a call of a function, with calls nested at most `turns` deep. If there is no ring
+-- The effect of a call of a function, with calls nested at most `turns` deep. If there is no cycle
 -- of calls, as many turns as functions are enough.
 abbrev pub called : (List ℕ → Env → RunState) → List (List Action) → ℕ → ℕ → Env → RunState
 called rules bodies zero f env = goes [] env

@@ -81,7 +81,8 @@ abbrev pub CallsLeadTo : Core → ℕ → List ℕ → ℕ → Type 0
 CallsLeadTo core f [] last = Calls core f last
 CallsLeadTo core f (g ∷ gs) last = Calls core f g × CallsLeadTo core g gs last
 
--- A ring: distinct functions, each calling the next, and the last calling the first. One function that calls itself is a ring.
+-- A ring is a cycle of calls: distinct functions, each calling the next, and the last calling the
+-- first. One function that calls itself is a ring.
 abbrev pub IsRing : Core → List ℕ → Type 0
 IsRing core [] = ⊥
 IsRing core (f ∷ fs) = AreDistinctCells (f ∷ fs) × CallsLeadTo core f fs f

@@ -17,9 +17,9 @@ use std::alloc::{AllocError, Global};
 
 /// The weight of a driver over the rules of a base, with sums that saturate at
 /// 18,446,744,073,709,551,615. Each function that `main` reaches is computed once, after those that
-/// it calls, with a work list in place of recursion, so a chain of calls takes no stack. If
-/// functions call each other in a ring, which no valid driver has, each is computed once for each
-/// level of calls. The only error is running out of memory.
+/// it calls, with a work list in place of recursion, so a chain of calls takes no stack. If there
+/// is a cycle of calls, which no valid driver has, each function is computed once for each level of
+/// calls. The only error is running out of memory.
 pub fn weight(alloc: Global, core: &Core, base: &Base) -> Result<u64, AllocError>
     ensures { IfOk result (λ w. w ≡ min (weight_of core.now base.now) 18_446_744_073_709_551_615) }
 {
@@ -31,7 +31,7 @@ pub fn weight(alloc: Global, core: &Core, base: &Base) -> Result<u64, AllocError
     weigh_by_levels(alloc, core, rules, base.cells)
 }
 
-/// The weights of the functions that `main` reaches, itself included, except those on a ring of
+/// The weights of the functions that `main` reaches, itself included, except those on a cycle of
 /// calls.
 fn table_of(alloc: Global, core: &Core, rules: u64, cells: u32) -> Result<Table, AllocError>
     ensures { IfOk result (λ table. (base : Base) → rules ≡ capped (base_weight base) → cells ≡ base.cells
