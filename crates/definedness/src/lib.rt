@@ -3,7 +3,7 @@
 //!
 //! Uses the values and operators of m_fixed alone. Knows nothing of programs, and takes no memory.
 //!
-//! A fact holds whether undefined is possible, whether Over is, and the interval of the possible
+//! A fact records whether undefined is possible, whether Over is, and the interval of the possible
 //! numbers. Its invariants are hidden by its model. Bounds of products and quotients are computed
 //! from the ends by `apply`; a result that overflows counts as the nearest number beyond the
 //! amounts.

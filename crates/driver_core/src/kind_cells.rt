@@ -73,7 +73,7 @@ impl KindCells {
         Ok(cells)
     }
 
-    /// A copy that shares the index.
+    /// A copy that shares the index. With 2^64 - 1 copies of one index the error is out of memory.
     pub fn copy(&self, alloc: Global) -> Result<KindCells, AllocError>
         ensures { IfOk result (λ copy. copy ≡ self.now) }
     {

@@ -96,13 +96,13 @@ one-other z e h =
 
 -- ---- silent checks don't stop
 
--- where the guard is quiet
+-- if the guard is quiet
 guard-stops : (f : Possible) (v : Value) → is_quiet f ≡ true → Holds f v → is_one v ≡ true → ⊥
 guard-stops f Undef e h is = cc is
 guard-stops f (Num z) e h is = one-other z is (quiet-zero f z e h)
 guard-stops f Over e h is = cc is
 
--- where the condition isn't over, and is quiet or looked at for over only
+-- if the condition isn't over, and is quiet or checked for over only
 condition-stops : (f : Possible) (v : Value) (over_only : Bool) (number : ℕ) (stop : Stop) → f.over ≡ false → (is_quiet f ≡ true) ⊎ (over_only ≡ true)
     → Holds f v → stop_of over_only number v ≡ Some stop → ⊥
 condition-stops f Undef over_only number stop o q h e = cc e

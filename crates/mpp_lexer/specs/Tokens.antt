@@ -51,7 +51,7 @@ IsTooGreat t = IsNumber t × (amount_read (text_value t) ≡ Err TooGreat)
 abbrev pub NoToken : List ℕ → Type 0
 NoToken bytes = (t others : List ℕ) → bytes ≡ t ++ others → IsToken t → ⊥
 
--- The tokens of a line. They may be separated by spaces, a comment goes from `#` to the end of the
+-- The tokens of a line. They may be separated by spaces, a comment extends from `#` to the end of the
 -- line, and each token is the longest at its position: `A <-1 # now` has the tokens `A`, `<-` and
 -- `1`.
 pub data TokensOf : List ℕ → List DriverPiece → Type 0 where

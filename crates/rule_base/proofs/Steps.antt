@@ -170,7 +170,7 @@ finished texts application items declared base (Ok made) s d o h =
 finished texts application items declared base (Err fault) s d o h = λ n. cycle_reported texts application declared base fault
     (base_made texts application items declared base s d o) (h n)
 
--- what was placed is placed still
+-- placed declarations stay placed
 pub placed_after : (declared : Declared) (base : Base) (result : Result RuleBase RuleFault) (bad : RuleFault → Type 0) → IsPlaced declared
     → Outcome Memory result (λ made. (made.symbols ≡ declared) × (made.ordered.base ≡ base) × IsOrder base made.ordered.sequence) bad
     → IfOk result (λ made. IsPlaced made.symbols)

@@ -25,9 +25,9 @@ struct Checked {
 }
 
 /// The position, from 0, of the first unsound line of a derivation; `None` exactly if the
-/// derivation is sound. A line is unsound if an earlier line has its cell, if it reads a cell that
-/// no earlier line has, or if its value differs: from its term's value under the earlier lines, or
-/// without a definition from the environment's.
+/// derivation is sound, as one without lines is. A line is unsound if an earlier line has its cell,
+/// if it reads a cell that no earlier line has, or if its value differs: from its term's value
+/// under the earlier lines, or without a definition from the environment's.
 ///
 /// The base is valid, the environment has a value for each of its cells, and each line's cell is
 /// one of them. The order of the definitions is irrelevant. The time is linear in the cells, the

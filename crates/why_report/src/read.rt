@@ -20,8 +20,8 @@ use std::alloc::{AllocError, Global};
 
 /// Parses a derivation. A line is a cell's printed name, one space, and `= ` with an amount,
 /// `undefined` or `over`: `T[1] = 2500.50`. A line ends at a line feed, which may be missing after
-/// the last; a last line `.` is skipped, and an empty line or one with a carriage return is
-/// malformed.
+/// the last; a last line `.` is skipped. An empty line, one with a carriage return, or a `.` that
+/// isn't last is malformed.
 ///
 /// The error is the number, from 1, of the first malformed line, or running out of memory.
 pub fn read_report(
