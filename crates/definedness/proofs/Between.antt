@@ -1,4 +1,4 @@
--- What lies between what the ends give: products and quotients of numbers of two intervals.
+-- Monotonicity: products and quotients of numbers of two intervals are between those of the ends.
 use Rattle.std.proofs.Common.{◌≡◌, ℕ, zero, suc, ◌<◌, ℤ, pos, negsuc, ◌+ℤ◌, neg_ℤ, ◌≤ℤ◌, ◌*ℤ◌, ◌⊎◌, ap, ◌∙◌, subst, inl, inr, ⊎_elim, arith}
 use Rattle.std.proofs.lemmas.Int.{ints, clamps}
 use lib.IntN.{zero-*ℤ, suc_ℤ-*ℤ, *ℤ_comm, *ℤ-negsuc}
@@ -40,9 +40,9 @@ two_steps p q r s u v z a b c =
       at_most high u v z (at_most high p q u h.0 h.1 a) (at_most high r s v h.2 h.3 b) c,
     )
 
--- ---- what grows and what falls keeps what is between
+-- ---- monotone functions keep what is between
 
--- a function that grows, at these numbers
+-- a monotone function, at these numbers
 grown : (p q z p' q' z' : ℤ) → (p ≤ℤ z → p' ≤ℤ z') → (z ≤ℤ q → z' ≤ℤ q') → (q ≤ℤ z → q' ≤ℤ z') → (z ≤ℤ p → z' ≤ℤ p') → Between p q z → Between p' q' z'
 grown p q z p' q' z' a b c d h = ⊎_elim (λ i. inl (a i.0, b i.1)) (λ i. inr (c i.0, d i.1)) h
 
@@ -85,7 +85,7 @@ products_between (negsuc n) a b x l u =
     let t = grows (suc n) x b u in
     inr (omega (arith, ints), omega (arith, ints))
 
--- the same with the numbers before it
+-- the same with the factors exchanged
 pub multiples_between : (k a b x : ℤ) → a ≤ℤ x → x ≤ℤ b → Between (a *ℤ k) (b *ℤ k) (x *ℤ k)
 multiples_between k a b x l u = subst (λ p. Between p (b *ℤ k) (x *ℤ k)) (*ℤ_comm k a)
     (subst (λ p. Between (k *ℤ a) p (x *ℤ k)) (*ℤ_comm k b) (subst (Between (k *ℤ a) (k *ℤ b)) (*ℤ_comm k x) (products_between k a b x l u)))

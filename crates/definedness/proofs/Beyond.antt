@@ -1,4 +1,4 @@
--- What is known of numbers beyond the amounts.
+-- Numbers beyond the amounts.
 use Rattle.std.proofs.Common.{◌≡◌, ℕ, zero, suc, ◌+◌, ◌*◌, ◌<◌, ◌≤◌, Bool, true, false, ℤ, pos, negsuc, neg_ℤ, ◌-ℤ◌, ◌*ℤ◌, ◌≤ℤ◌, ◌<ℤ◌, ◌⊎◌, unsigned_abs, refl}
 use Rattle.std.proofs.Common.{ap, sym, ◌∙◌, inl, inr, ⊎_elim, arith}
 use Rattle.std.proofs.lemmas.Bool.{le-leb, lt-leb, cases_lt}
@@ -89,7 +89,7 @@ size_of_amount (negsuc n) h = let l = h.low in omega (arith, ints)
 pub bounded_amount : (z : ℤ) → IsAmount z → bounded z ≡ Num z
 bounded_amount z h = bounded_small z (size_of_amount z h)
 
--- a number that is no value's is beyond the amounts
+-- a number that no value has is beyond the amounts
 pub bounded_is_num : (z w : ℤ) → bounded z ≡ Num w → (w ≡ z) × (unsigned_abs z ≤ most)
 bounded_is_num z w e = ⊎_elim
     (λ (h : most < unsigned_abs z). absurd (over_num w (sym (bounded_great z h) ∙ e)))
@@ -188,9 +188,9 @@ corner_beyond op x y v e is none =
     (λ (h : v ≡ Over). sym (is_beyond op x y e (bounded_is_over (result_of op x y) (sym b ∙ h))))
     none
 
--- ---- numbers of the program
+-- ---- numbers in the code
 
--- a number as the program keeps it is that number
+-- a number as the code stores it is that number
 pub kept : (r z : ℤ) → FitsSigned w128 r → r ≡ z → cast_signed w128 (cast_unsigned w128 r) ≡ z
 kept r z f e = to_z-of_z w128 r f ∙ e
 
@@ -224,7 +224,7 @@ pub opposites_kept : (g z : ℤ) → FitsSigned w128 g → unsigned_abs g ≤ mo
     (neg_ℤ z, z)
 opposites_kept g z f h e = rw (kept g g f refl, opposite_kept g h) (rw e refl)
 
--- ---- quotients, by what divisors there are
+-- ---- quotients, by the possible divisors
 
 pub quotients_by_others : (r s : ℤ × ℤ) → has_zero s ≡ false → quotients r s ≡ corners Div r s
 unfolding quotients

@@ -50,7 +50,7 @@ cut_limited r = by_lt_z r.1 lowest_amount
 bounded_limited : (u o : Bool) (r : ℤ × ℤ) → bounded_fact u o (limited_range r) ≡ bounded_fact u o r
 bounded_limited u o r = rw (leaves_limited r, cut_limited r) refl
 
--- what is cut and what leaves the amounts is the same of two intervals that differ in how far they are beyond
+-- intervals that differ only in how far beyond the amounts they are have the same fact
 pub bounded_same : (u o : Bool) (r s : ℤ × ℤ) → limited_range r ≡ limited_range s → bounded_fact u o r ≡ bounded_fact u o s
 bounded_same u o r s e = sym (bounded_limited u o r) ∙ ap (bounded_fact u o) e ∙ bounded_limited u o s
 
@@ -100,7 +100,7 @@ some_value u o n low high h e = ⊎_elim
     (λ (s : is_some (cut_to_amounts (low, high)) ≡ true). or_right (u || n) _ s)
     (leaves_or_some low high h)
 
--- a pair as the program keeps it is that pair
+-- a pair as the code stores it is that pair
 pub range_is_kept : (r : ℤ × ℤ) → FitsSigned w128 r.0 → FitsSigned w128 r.1
     → ◌≡◌ {A = ℤ × ℤ} (cast_signed w128 (cast_unsigned w128 r.0), cast_signed w128 (cast_unsigned w128 r.1)) r
 range_is_kept r f g = rw (to_z-of_z w128 r.0 f, to_z-of_z w128 r.1 g) refl

@@ -1,4 +1,4 @@
--- The ends of what an operator gives of two intervals are results of numbers of these.
+-- The bounds of an operator's results are results for numbers of the intervals.
 use Rattle.std.proofs.Common.{◌≡◌, ℕ, ◌<◌, Bool, true, false, not, ℤ, pos, negsuc, neg_ℤ, ◌≤ℤ◌, ◌<ℤ◌, ◌⊎◌, unsigned_abs, refl, ap, sym, ◌∙◌, subst, inl, inr}
 use Rattle.std.proofs.Common.{⊎_elim, arith}
 use mathlib.Core.Bool.{◌&&◌, ◌||◌}
@@ -128,7 +128,7 @@ greatest_size_is r s h i = by_lt_z (neg_ℤ r.0) r.1
 
 -- ---- tests
 
--- some numbers of the intervals, of which the test says so
+-- some numbers of the intervals for which the test has this result
 record IsTested (t : ℤ → ℤ → Bool) (b : Bool) (r s : ℤ × ℤ) : Type 0 where
   pub first : ℤ
   pub second : ℤ
@@ -183,7 +183,7 @@ not_at_most_tested r s h i e = tested int_le false r s r.1 s.0 (high r h) (low s
     turned : (x y : ℤ) → int_lt y x ≡ true → int_le x y ≡ false
     turned x y e = grind (arith, ints)
 
--- the same with the two in the other order
+-- the same with the two exchanged
 turned : (t : ℤ → ℤ → Bool) (b : Bool) (r s : ℤ × ℤ) → IsTested t b r s → IsTested (λ x y. t y x) b s r
 turned t b r s w = tested (λ x y. t y x) b s r w.second w.first w.in_second w.in_first w.is
 

@@ -63,7 +63,7 @@ bounded_holds u o r z h =
     (or_right (int_lt r.0 lowest_amount) (int_lt highest_amount r.1) (below highest_amount r.1 (omega (arith, ints))))))
     (λ le. rw (bounded_amount z (amount_of_size z ge le)) (in_cut r z h ge le)))
 
--- ---- what an operator gives of intervals
+-- ---- an operator on intervals
 
 undef_of_ranges : (op : Op) (u o : Bool) (r s : Option (ℤ × ℤ)) → u ≡ true → (fact_of_ranges op u o r s).undef ≡ true
 undef_of_ranges op u o (Some r) (Some s) h = h
@@ -81,7 +81,7 @@ number_of_ranges op u o (Some r) (Some s) x y h i = bounded_holds u o (results_o
 number_of_ranges op u o None s x y h i = absurd h
 number_of_ranges op u o (Some r) None x y h i = absurd i
 
--- ---- arguments that can be nothing but Over
+-- ---- arguments that can only be Over
 
 alone_over : (f : Possible) (v : Value) → is_over_alone f ≡ true → Holds f v → v ≡ Over
 alone_over f Undef e h = absurd (true≢false (sym e ∙ ap (λ b. not b && is_none f.range) h))
@@ -111,7 +111,7 @@ two_strict f g k a b v hf hg p q h = go (is_over_alone f) (is_over_alone g) refl
 
 -- ---- one argument
 
--- an operator of one argument that keeps undefined and Over
+-- an operator of one argument that preserves undefined and Over
 one_holds : (op : Op) (f : Possible) (a : Value) → of_one op Over ≡ Over → of_one op Undef ≡ Undef
     → ((x : ℤ) → of_one op (Num x) ≡ bounded (result_of op x (pos 0))) → Holds f a
     → Holds (if is_over_alone f then over_alone else fact_of_ranges op f.undef f.over f.range (Some (alone (pos 0)))) (of_one op a)
@@ -202,7 +202,7 @@ number_widened op f g x y some h i = go f.range g.range some
     go None (Some s) some = there
     go (Some r) s some = there
 
--- where undefined counts as 0 beside a number
+-- where undefined counts as 0 if the other is a number
 widened_holds : (op : Op) (f g : Possible) (a b : Value) → counts_undefined_as_zero op ≡ true → Holds f a → Holds g b
     → Holds (fact_of_two_widened op f g) (of_two op a b)
 widened_holds op f g Over b e h i = over_widened op f g (or_left f.over g.over h)
@@ -224,7 +224,7 @@ two_holds op f g a b h i = two_strict f g (fact_of_two op f g) a b (of_two op a 
     go false e = subst (λ z. Holds (if z then fact_of_two_widened op f g else fact_of_ranges op (f.undef || g.undef) (f.over || g.over) f.range g.range)
         (of_two op a b)) (sym e) (strict_holds op f g a b e h i)
 
--- ---- the two that select
+-- ---- the two operators that select
 
 other_truth : (o : Bool) (r : Option (ℤ × ℤ)) → o ≡ true → InRange (truths_of o r) (pos 0)
 other_truth o None h = in_alone (pos 0)
@@ -388,7 +388,7 @@ one_of_holds true true (Some r) w e = absurd (none_some w e)
 one_of_holds true false (Some r) w e = absurd (none_some w e)
 one_of_holds false true (Some r) w e = absurd (none_some w e)
 
--- and this one is
+-- and this one is possible
 pub one_value_holds : (f : Possible) (w : Value) → one_value f ≡ Some w → Holds f w
 one_value_holds f w e = one_of_holds f.undef f.over f.range w e
 

@@ -1,4 +1,4 @@
--- What an operator gives of numbers of two intervals lies where the ends of the intervals say.
+-- The results of an operator on numbers of two intervals are within the bounds.
 use Rattle.std.proofs.Common.{◌≡◌, ℕ, zero, suc, eqb, Bool, true, false, not, ℤ, pos, negsuc, ◌+ℤ◌, ◌-ℤ◌, neg_ℤ, ◌≤ℤ◌, unsigned_abs, refl, sym, ⊎_elim, arith}
 use mathlib.Core.Bool.{◌&&◌, ◌||◌}
 use Rattle.std.proofs.lemmas.Bool.{true≢false, or_left, or_right, eqb-true, cases_Bool}
@@ -215,7 +215,7 @@ results_hold Truth r s x y h i = in_truths (has_other r) (has_zero r) (not (is_z
 results_hold Choose r s x y h i = i
 results_hold At r s x y h i = equal_holds (cut_range r) (cut_range s) (cut x) (cut y) (cut_in r x h) (cut_in s y i)
 
--- the results of intervals that have a number are an interval that has one
+-- the bounds for nonempty intervals are ordered
 pub results_ordered : (op : Op) (r s : ℤ × ℤ) → r.0 ≤ℤ r.1 → s.0 ≤ℤ s.1 → (results_of op r s).0 ≤ℤ (results_of op r s).1
 results_ordered op r s h i =
     let b = results_hold op r s r.0 s.0 (same r.0, h) (same s.0, i) in

@@ -37,7 +37,7 @@ div_across y a b x e l u =
     (subst (λ v. Between v (rounded (b *ℤ pos unit) y) (rounded (x *ℤ pos unit) y)) (quotient_at a y e)
     (divided_between (a *ℤ pos unit) (b *ℤ pos unit) (x *ℤ pos unit) y e (multiples_between (pos unit) a b x l u))))
 
--- ---- one number that is divided
+-- ---- one dividend
 
 nearer : (m n : ℕ) → m ≤ n → pos m ≤ℤ pos n
 nearer m n h = omega (arith, ints)

@@ -1,4 +1,4 @@
--- Rounded quotients grow with the number that is divided, and come nearer to zero as the divisor grows.
+-- Rounded quotients grow with the dividend, and approach zero as the divisor grows.
 use Rattle.std.proofs.Common.{◌≡◌, ℕ, zero, suc, ◌+◌, ◌*◌, ◌/◌, ◌<◌, ◌≤◌, false, ℤ, pos, negsuc, neg_ℤ, ◌≤ℤ◌, refl, sym, arith}
 use Rattle.std.proofs.Math.Nat.{div-mul-le_self, zero-mul}
 use Rattle.std.proofs.lemmas.Int.{ints}
@@ -23,7 +23,7 @@ twice q d = omega arith
 one_more : (p d : ℕ) → suc p * d ≡ p * d + d
 one_more p d = omega arith
 
--- 2 q e ≤ 2 n + e gives the same for a lesser divisor
+-- 2 q e ≤ 2 n + e implies the same for a lesser divisor
 lesser_divisor : (q n d e : ℕ) → d ≤ e → q * (2 * e) ≤ 2 * n + e → q * (2 * d) ≤ 2 * n + d
 lesser_divisor zero n d e h k = rw zero-mul (omega arith)
 lesser_divisor (suc p) n d e h k =

@@ -1,4 +1,4 @@
--- Whole units grow with the number, and those of an amount are an amount.
+-- Rounding to whole units is monotone, and maps amounts to amounts.
 use Rattle.std.proofs.Common.{◌≡◌, ◌⊎◌, ℤ, pos, negsuc, neg_ℤ, ◌+ℤ◌, ◌-ℤ◌, ◌≤ℤ◌, sym, ◌∙◌, arith, ⊎_elim}
 use Rattle.std.proofs.lemmas.Int.{ints}
 use Rattle.std.specs.Int.{is_negative}
@@ -26,7 +26,7 @@ floor_grows (pos m) (negsuc n) h = omega (arith, ints)
 units_grow : (x y : ℤ) → x ≤ℤ y → units x ≤ℤ units y
 units_grow x y h = omega (arith, ints)
 
--- away from zero by what `arr` adds
+-- moved away from zero by what `arr` adds
 abbrev moved : ℤ → ℤ
 moved x = if is_negative x then x -ℤ pos arr_shift else x +ℤ pos arr_shift
 

@@ -27,14 +27,15 @@ pub record IsFact (f : Possible) : Type 0 where
   pub some : IsTrue (f.undef || f.over || is_some f.range)
   pub within : IsWithin f.range
 
--- ---- what a fact tells
+-- ---- what follows from a fact
 
--- the number of an interval that has one alone
+-- the number of an interval that has only one
 abbrev pub one_number : Option (ℤ × ℤ) → Option Value
 one_number None = None
 one_number (Some r) = if int_eq r.0 r.1 then Some (Num r.0) else None
 
--- the value where one alone is possible: undefined, Over, or the number of an interval of one number
+-- the only possible value, if there is only one: undefined, Over, or the number of an interval of
+-- one number
 abbrev pub one_of : Bool → Bool → Option (ℤ × ℤ) → Option Value
 one_of true false None = Some Undef
 one_of false true None = Some Over
@@ -44,7 +45,7 @@ one_of _ _ _ = None
 abbrev pub one_value : Possible → Option Value
 one_value f = one_of f.undef f.over f.range
 
--- nothing but numbers is possible
+-- only numbers are possible
 abbrev pub is_number : Possible → Bool
 is_number f = not f.undef && not f.over
 
@@ -52,7 +53,7 @@ is_number f = not f.undef && not f.over
 abbrev pub lacks_zero : Possible → Bool
 lacks_zero f = is_some f.range && not (may_be_zero f.range)
 
--- nothing but Over is possible
+-- only Over is possible
 abbrev pub is_over_alone : Possible → Bool
 is_over_alone f = not f.undef && is_none f.range
 
@@ -72,16 +73,17 @@ fact_of_input = record { undef = true; over = false; range = Some (lowest_amount
 
 -- ---- operators
 
--- the numbers of an interval as values: what is beyond the amounts is Over
+-- the fact of the numbers of an interval as values: those beyond the amounts are Over
 abbrev pub bounded_fact : Bool → Bool → ℤ × ℤ → Possible
 bounded_fact undef over r = record { undef = undef; over = over || leaves_amounts r; range = cut_to_amounts r }
 
--- what the operator gives of numbers of two intervals, beside undefined and Over: no number where one has none
+-- the fact of the operator on numbers of two intervals, with undefined and Over as given; no number
+-- is possible if an argument has none
 abbrev pub fact_of_ranges : Op → Bool → Bool → Option (ℤ × ℤ) → Option (ℤ × ℤ) → Possible
 fact_of_ranges op undef over (Some r) (Some s) = bounded_fact undef over (results_of op r s)
 fact_of_ranges op undef over _ _ = record { undef = undef; over = over; range = None }
 
--- Present: 0 where it can't be a number, 1 where it can't be undefined
+-- Present: without 0 if the argument is never undefined, without 1 if it is never a number
 abbrev pub presence : Bool → Option (ℤ × ℤ) → ℤ × ℤ
 presence undef None = alone (pos 0)
 presence undef (Some r) = truths true undef
@@ -90,11 +92,12 @@ abbrev pub fact_of_one : Op → Possible → Possible
 fact_of_one Present a = record { undef = false; over = a.over; range = Some (presence a.undef a.range) }
 fact_of_one op a = fact_of_ranges op a.undef a.over a.range (Some (alone (pos 0)))
 
--- the interval, where undefined counts as 0
+-- the possible numbers, if undefined counts as 0
 abbrev pub widened : Possible → Option (ℤ × ℤ)
 widened f = if f.undef then join (Some (alone (pos 0))) f.range else f.range
 
--- of two arguments where undefined counts as 0 beside a number: no number where neither has one
+-- of two arguments, where undefined counts as 0 if the other is a number; no number is possible if
+-- neither has one
 abbrev pub fact_of_two_widened : Op → Possible → Possible → Possible
 fact_of_two_widened op a b =
     if is_none a.range && is_none b.range
@@ -107,8 +110,8 @@ fact_of_two op a b =
     then fact_of_two_widened op a b
     else fact_of_ranges op (a.undef || b.undef) (a.over || b.over) a.range b.range
 
--- a truth, of an argument that may be no number: 0 where it can't be a number other than 0, 1 where it can be
--- nothing else
+-- a truth, of an argument that may be no number: only 0 if it is never a number other than 0, only
+-- 1 if it always is one
 abbrev pub truths_of : Bool → Option (ℤ × ℤ) → ℤ × ℤ
 truths_of other None = alone (pos 0)
 truths_of other (Some r) = truths (has_other r) (other || has_zero r)
@@ -116,28 +119,29 @@ truths_of other (Some r) = truths (has_other r) (other || has_zero r)
 abbrev pub truth_fact : Possible → Possible
 truth_fact a = record { undef = false; over = false; range = Some (truths_of (a.undef || a.over) a.range) }
 
--- the values of either
+-- the value is one or the other
 abbrev pub either : Possible → Possible → Possible
 either a b = record { undef = a.undef || b.undef; over = a.over || b.over; range = join a.range b.range }
 
--- the values of the branches that may be taken, if one may be
+-- the branches that may be taken, if one may be
 abbrev pub branches : Bool → Bool → Possible → Possible → Option Possible
 branches true true a b = Some (either a b)
 branches true false a b = Some a
 branches false true a b = Some b
 branches false false a b = None
 
--- undefined and Over where they are possible of the condition, and the values of the branches
+-- undefined and Over if the condition may be, and the values of the branches
 abbrev pub under_condition : Possible → Option Possible → Possible
 under_condition c None = record { undef = c.undef; over = c.over; range = None }
 under_condition c (Some f) = record { undef = c.undef || f.undef; over = c.over || f.over; range = f.range }
 
--- a choice: the first branch where the condition may be a number other than 0, the second where it may be 0
+-- a choice: of the first branch if the condition may be a number other than 0, of the second if it
+-- may be 0
 abbrev pub choice : Possible → Possible → Possible → Possible
 choice c a b = under_condition c (branches (may_be_other c.range) (may_be_zero c.range) a b)
 
--- What is known of an operator's value, from what is known of its arguments. Nothing but Over is possible where
--- that is so of an argument at which it looks, but for the two that select.
+-- The fact of an operator's value, from the facts of its arguments. Except for the two operators
+-- that select, only Over is possible if that is so of an argument that the operator uses.
 unfoldable pub fact_of : Op → Possible → Possible → Possible → Possible
 fact_of Choose a b c = choice a b c
 fact_of Truth a b c = truth_fact a

@@ -1,4 +1,5 @@
--- Intervals of whole numbers of millionths. An interval is its least and its greatest number; `None` has no number.
+-- Intervals of integers, which count millionths. An interval is its least and its greatest number;
+-- `None` has no number.
 use Rattle.std.specs.Prelude.{Bool, false, ◌&&◌, ◌||◌, ℤ, pos, neg_ℤ, ◌≤ℤ◌, int_lt, int_le, Option, Some, None, if◌then◌else◌}
 use Rattle.std.specs.Int.{int_min, int_max}
 use Rattle.m_fixed.specs.Amounts.{IsAmount, most}
@@ -18,7 +19,7 @@ pub record IsInterval (r : ℤ × ℤ) : Type 0 where
   pub ordered : r.0 ≤ℤ r.1
   pub high : IsAmount r.1
 
--- the same of an interval, if there is one
+-- the same of an interval that may not exist
 abbrev pub IsWithin : Option (ℤ × ℤ) → Type 0
 IsWithin None = Unit {0}
 IsWithin (Some r) = IsInterval r
@@ -27,11 +28,11 @@ IsWithin (Some r) = IsInterval r
 abbrev pub alone : ℤ → ℤ × ℤ
 alone x = (x, x)
 
--- the least interval round two
+-- the least interval that contains two
 abbrev pub hull : ℤ × ℤ → ℤ × ℤ → ℤ × ℤ
 hull r s = (int_min r.0 s.0, int_max r.1 s.1)
 
--- the least interval round those that are there
+-- the least interval that contains those that exist
 abbrev pub join : Option (ℤ × ℤ) → Option (ℤ × ℤ) → Option (ℤ × ℤ)
 join None s = s
 join (Some r) None = Some r
@@ -40,11 +41,11 @@ join (Some r) (Some s) = Some (hull r s)
 abbrev pub has_zero : ℤ × ℤ → Bool
 has_zero r = int_le r.0 (pos 0) && int_le (pos 0) r.1
 
--- it has a number other than 0
+-- it contains a number other than 0
 abbrev pub has_other : ℤ × ℤ → Bool
 has_other r = int_lt r.0 (pos 0) || int_lt (pos 0) r.1
 
--- the same of an interval, if there is one
+-- the same of an interval that may not exist
 abbrev pub may_be_zero : Option (ℤ × ℤ) → Bool
 may_be_zero None = false
 may_be_zero (Some r) = has_zero r

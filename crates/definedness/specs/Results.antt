@@ -1,4 +1,4 @@
--- Which numbers an operator may give where its arguments are numbers of intervals, by the ends of the intervals.
+-- Bounds of an operator's results for numbers of intervals, from the ends of the intervals.
 use Rattle.std.specs.Prelude.{◌≡◌, Bool, true, not, ◌&&◌, ◌||◌, ℤ, pos, neg_ℤ, ◌*ℤ◌, int_lt, int_le, if◌then◌else◌}
 use Rattle.std.specs.Int.{int_min, int_max}
 use Rattle.m_fixed.specs.declared.operator.Op.{Op}
@@ -14,23 +14,23 @@ use Rattle.definedness.specs.Ranges.{InRange, alone, has_zero, has_other}
 abbrev pub truths : Bool → Bool → ℤ × ℤ
 truths passes fails = (truth (not fails), truth passes)
 
--- a number of the first interval may be below one of the second
+-- some number of the first interval is below one of the second
 abbrev pub may_be_less : ℤ × ℤ → ℤ × ℤ → Bool
 may_be_less r s = int_lt r.0 s.1
 
--- a number of the first interval may be at most one of the second
+-- some number of the first interval is at most one of the second
 abbrev pub may_be_at_most : ℤ × ℤ → ℤ × ℤ → Bool
 may_be_at_most r s = int_le r.0 s.1
 
--- the two may be one number
+-- the intervals have a common number
 abbrev pub may_be_equal : ℤ × ℤ → ℤ × ℤ → Bool
 may_be_equal r s = may_be_at_most r s && may_be_at_most s r
 
--- the two may be two numbers
+-- two numbers of the intervals can differ
 abbrev pub may_differ : ℤ × ℤ → ℤ × ℤ → Bool
 may_differ r s = may_be_less r s || may_be_less s r
 
--- whole units, cut toward zero, of all its numbers
+-- the integer parts of its numbers
 abbrev pub cut_range : ℤ × ℤ → ℤ × ℤ
 cut_range r = (cut r.0, cut r.1)
 
@@ -42,7 +42,7 @@ least_of p q r s = int_min (int_min p q) (int_min r s)
 unfoldable pub greatest_of : ℤ → ℤ → ℤ → ℤ → ℤ
 greatest_of p q r s = int_max (int_max p q) (int_max r s)
 
--- from the least to the greatest of what the operator gives of the ends
+-- from the least to the greatest result of the operator on the ends
 abbrev pub corners : Op → ℤ × ℤ → ℤ × ℤ → ℤ × ℤ
 corners op r s = (
   least_of (result_of op r.0 s.0) (result_of op r.0 s.1) (result_of op r.1 s.0) (result_of op r.1 s.1),
@@ -62,16 +62,17 @@ least_size r = int_max (int_max r.0 (neg_ℤ r.1)) (pos 0)
 abbrev pub sizes : ℤ × ℤ → ℤ × ℤ
 sizes r = (least_size r, greatest_size r)
 
--- quotients: of divisors other than 0 the corners, and of 0 alone 0. Where 0 is one of several divisors, no
--- quotient is greater than that by a millionth
+-- quotients: for divisors other than 0 the corners, and for 0 alone 0. If 0 is one of several
+-- divisors, the bound is the quotient by one millionth
 unfoldable pub quotients : ℤ × ℤ → ℤ × ℤ → ℤ × ℤ
 quotients r s =
     if has_zero s
     then (if has_other s then (neg_ℤ (greatest_size r *ℤ pos unit), greatest_size r *ℤ pos unit) else alone (pos 0))
     else corners Div r s
 
--- From the least to the greatest of what the operator gives of numbers of the two intervals, without a
--- bound; one of one argument looks at the first. Of the operators that select it says nothing of use.
+-- From the least to the greatest result of the operator on numbers of the two intervals, without
+-- overflow; an operator of one argument uses the first. It isn't used for the operators that
+-- select.
 abbrev pub results_of : Op → ℤ × ℤ → ℤ × ℤ → ℤ × ℤ
 results_of Add r s = (result_of Add r.0 s.0, result_of Add r.1 s.1)
 results_of Sub r s = (result_of Sub r.0 s.1, result_of Sub r.1 s.0)
@@ -100,7 +101,7 @@ results_of Truth r _ = truths (has_other r) (has_zero r)
 results_of Choose _ s = s
 results_of At r s = truths (may_be_equal (cut_range r) (cut_range s)) (may_differ (cut_range r) (cut_range s))
 
--- z is what the operator gives of some number of each interval
+-- z is a result of the operator on some number of each interval
 pub record IsResult (op : Op) (r s : ℤ × ℤ) (z : ℤ) : Type 0 where
   pub first : ℤ
   pub second : ℤ
@@ -108,7 +109,8 @@ pub record IsResult (op : Op) (r s : ℤ × ℤ) (z : ℤ) : Type 0 where
   pub in_second : InRange s second
   pub is : result_of op first second ≡ z
 
--- the least and the greatest result are known exactly: of all but quotients by numbers some of which are 0
+-- the least and the greatest result are exact: for all operators except quotients with 0 among the
+-- divisors
 abbrev pub is_exact : Op → ℤ × ℤ → Bool
 is_exact Div s = not (has_zero s && has_other s)
 is_exact _ s = true

@@ -1,4 +1,4 @@
-//! A fact, and what it tells.
+//! A fact, and what follows from it.
 ghost use Rattle.std.specs.Prelude.{◌≡◌, ◌||◌, IsTrue, is_some};
 ghost use Rattle.definedness.specs.Facts.{Possible, IsFact, fact_of_value, fact_of_input, over_alone, one_value, is_number, lacks_zero};
 
@@ -6,16 +6,16 @@ use crate::range::{LEAST, MOST, Range, alone, amount, has_zero};
 use m_fixed::{Amount, Value};
 use std::marker::Model;
 
-/// Which values are possible: `undef` and `over` say whether undefined and Over are, and `range` has the least and
-/// the greatest number, or is `None` where no number is. At least one value is possible. Of a sum of two inputs
-/// undefined, Over and every amount are.
+/// A set of possible values: `undef` and `over` are whether undefined and Over are possible, and
+/// `range` is the least and the greatest possible number, or `None` if no number is possible. At
+/// least one value is possible. For a sum of two inputs undefined, Over and every amount are.
 #[derive(Clone, Copy, Debug)]
 pub struct Fact {
     /// Undefined is possible.
     pub undef: bool,
     /// Over is possible.
     pub over: bool,
-    /// The least and the greatest possible number, if there is one.
+    /// The least and the greatest possible number, or `None`.
     pub range: Option<(Amount, Amount)>,
 }
 
@@ -32,7 +32,7 @@ impl Model for Fact {
 }
 
 impl Fact {
-    /// These values, at least one.
+    /// The fact of these values, of which there is at least one.
     pub(crate) fn new(undef: bool, over: bool, range: Option<Range>) -> Fact
         requires { IsTrue (undef || over || is_some range) }
         ensures { result ≡ record { undef = undef; over = over; range = range } }
@@ -51,7 +51,7 @@ impl Fact {
         }
     }
 
-    /// The value where one alone is possible: `Value::Undef` of a fact that has nothing but undefined.
+    /// The only possible value, if there is only one: `Value::Undef` if only undefined is possible.
     pub fn one_value(self) -> Option<Value>
         ensures { result ≡ one_value self }
     {
@@ -85,7 +85,7 @@ impl Fact {
         }
     }
 
-    /// Whether nothing but numbers is possible.
+    /// Whether only numbers are possible.
     pub fn is_number(self) -> bool
         ensures { result ≡ is_number self }
     {
@@ -103,7 +103,7 @@ impl Fact {
     }
 }
 
-/// What is known of a literal: its value alone is possible.
+/// The fact of a literal: only its value is possible.
 pub fn fact_of_value(value: Value) -> Fact
     ensures { result ≡ fact_of_value value }
 {
@@ -114,7 +114,7 @@ pub fn fact_of_value(value: Value) -> Fact
     }
 }
 
-/// What is known of an input: it is undefined, or any amount.
+/// The fact of an input: undefined or any amount.
 pub fn fact_of_input() -> Fact
     ensures { result ≡ fact_of_input }
 {
@@ -125,7 +125,7 @@ pub fn fact_of_input() -> Fact
     Fact::new(true, false, Some(all))
 }
 
-/// Nothing but Over is possible.
+/// The fact of which only Over is possible.
 pub(crate) fn over_alone() -> Fact
     ensures { result ≡ over_alone }
 {

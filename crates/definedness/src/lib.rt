@@ -1,7 +1,12 @@
-//! Facts: which values a node of a program may have, from what is known of its arguments.
+//! Facts about the values of a program's nodes: an abstract interpretation of each operator that
+//! derives the possible values of its result from those of its arguments.
 //!
-//! A fact says whether a value may be undefined, whether it may be Over, and between which numbers it
-//! lies. This crate stands on `m_fixed` alone, takes no memory, and knows nothing of programs.
+//! Uses the values and operators of m_fixed alone. Knows nothing of programs, and takes no memory.
+//!
+//! A fact records whether undefined is possible, whether Over is, and the interval of the possible
+//! numbers. Its invariants are hidden by its model. Bounds of products and quotients are computed
+//! from the ends by `apply`; a result that overflows counts as the nearest number beyond the
+//! amounts.
 #![tactic(auto)]
 
 mod fact;

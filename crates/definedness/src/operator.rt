@@ -1,4 +1,4 @@
-//! What is known of an operator's value.
+//! The facts of operators.
 ghost use Rattle.std.specs.Prelude.{◌≡◌, ◌||◌, ◌&&◌, ◌≤ℤ◌, pos, IsTrue, is_some};
 ghost use Rattle.definedness.specs.Facts.{fact_of, is_over_alone, bounded_fact, fact_of_ranges, presence, fact_of_one};
 ghost use Rattle.definedness.specs.Facts.{widened, fact_of_two_widened, fact_of_two, truths_of, truth_fact, either, branches, choice};
@@ -14,8 +14,9 @@ use crate::range::{
 use crate::results::{results_of, truths};
 use m_fixed::{Amount, Op};
 
-/// What is known of an operator's value from what is known of its arguments: of `Op::Mul` and two inputs that it
-/// may be undefined, Over and any amount; of `Op::Present` that it is 0 or 1. Arguments past the arity are ignored.
+/// The fact of an operator's value, from the facts of its arguments. Of `Op::Mul` and two inputs
+/// undefined, Over and any amount are possible; of `Op::Present` 0 or 1. Arguments past the arity
+/// are ignored.
 #[tactic(auto, unfolding(crate::specs::Facts::fact_of))]
 pub fn fact_of(op: Op, a: Fact, b: Fact, c: Fact) -> Fact
     ensures { result ≡ fact_of op a b c }
@@ -62,14 +63,14 @@ pub fn fact_of(op: Op, a: Fact, b: Fact, c: Fact) -> Fact
     }
 }
 
-/// Whether nothing but Over is possible.
+/// Whether only Over is possible.
 fn is_over_alone(fact: Fact) -> bool
     ensures { result ≡ is_over_alone fact }
 {
     !fact.undef && fact.range.is_none()
 }
 
-/// What is known of numbers from `low` to `high` as values: what is beyond the amounts is Over.
+/// The fact of numbers from `low` to `high` as values: those beyond the amounts are Over.
 fn bounded_fact(undef: bool, over: bool, low: i128, high: i128) -> Fact
     requires { limited low ≤ℤ limited high }
     ensures { result ≡ bounded_fact undef over (low, high) }
@@ -78,7 +79,7 @@ fn bounded_fact(undef: bool, over: bool, low: i128, high: i128) -> Fact
     Fact::new(undef, over || leaves, cut_to_amounts(low, high))
 }
 
-/// What the operator gives of numbers of two intervals, beside undefined and Over.
+/// The fact of the operator on numbers of two intervals, together with `undef` and `over`.
 fn fact_of_ranges(op: Op, undef: bool, over: bool, a: Option<Range>, b: Option<Range>) -> Fact
     requires { IsTrue (undef || over || is_some a && is_some b) }
     ensures { result ≡ fact_of_ranges op undef over a b }
@@ -97,7 +98,7 @@ fn fact_of_ranges(op: Op, undef: bool, over: bool, a: Option<Range>, b: Option<R
 
 // ---- one argument
 
-/// What an operator of one argument gives.
+/// The fact of an operator of one argument.
 fn fact_of_one(op: Op, a: Fact) -> Fact
     ensures { result ≡ fact_of_one op a }
 {
@@ -109,7 +110,7 @@ fn fact_of_one(op: Op, a: Fact) -> Fact
     }
 }
 
-/// Whether a value that may be undefined and a number of the interval is given.
+/// The results of `Present` on a value that may be undefined or a number of the interval.
 fn presence(undef: bool, range: Option<Range>) -> Range
     ensures { result ≡ presence undef range }
 {
@@ -126,7 +127,7 @@ fn zero_alone() -> Range
     alone(Amount::zero())
 }
 
-/// 0 to 1, without 0 where the test can't fail and without 1 where it can't pass.
+/// 0 to 1, without 0 if the test can't fail and without 1 if it can't pass.
 fn truth_range(passes: bool, fails: bool) -> Range
     requires { IsTrue (passes || fails) }
     ensures { result ≡ truths passes fails }
@@ -140,7 +141,7 @@ fn truth_range(passes: bool, fails: bool) -> Range
 
 // ---- two arguments
 
-/// What an operator of two arguments gives.
+/// The fact of an operator of two arguments.
 fn fact_of_two(op: Op, a: Fact, b: Fact) -> Fact
     ensures { result ≡ fact_of_two op a b }
 {
@@ -156,7 +157,7 @@ fn fact_of_two(op: Op, a: Fact, b: Fact) -> Fact
     }
 }
 
-/// What an operator gives for which undefined counts as 0 beside a number.
+/// The fact of an operator for which undefined counts as 0 if the other argument is a number.
 fn fact_of_two_widened(op: Op, a: Fact, b: Fact) -> Fact
     ensures { result ≡ fact_of_two_widened op a b }
 {
@@ -173,7 +174,7 @@ fn fact_of_two_widened(op: Op, a: Fact, b: Fact) -> Fact
     }
 }
 
-/// The possible numbers, where undefined counts as 0.
+/// The possible numbers, if undefined counts as 0.
 fn widened(fact: Fact) -> Option<Range>
     ensures { result ≡ widened fact }
 {
@@ -184,9 +185,9 @@ fn widened(fact: Fact) -> Option<Range>
     }
 }
 
-// ---- the two that select
+// ---- the two operators that select
 
-/// A truth.
+/// The fact of a truth.
 fn truth_fact(a: Fact) -> Fact
     ensures { result ≡ truth_fact a }
 {
@@ -194,7 +195,7 @@ fn truth_fact(a: Fact) -> Fact
     Fact::new(false, false, Some(truths))
 }
 
-/// The truth of a value that may be no number.
+/// The truth of a value that, by `other`, may be something else than a number.
 fn truths_of(other: bool, range: Option<Range>) -> Range
     ensures { result ≡ truths_of other range }
 {
@@ -204,7 +205,8 @@ fn truths_of(other: bool, range: Option<Range>) -> Range
     }
 }
 
-/// A choice: the first branch where the condition may be a number other than 0, the second where it may be 0.
+/// The fact of a choice: of the first branch if the condition may be a number other than 0, of the
+/// second if it may be 0.
 fn choice(c: Fact, a: Fact, b: Fact) -> Fact
     ensures { result ≡ choice c a b }
 {
@@ -219,7 +221,7 @@ fn choice(c: Fact, a: Fact, b: Fact) -> Fact
     }
 }
 
-/// The values of the branches that may be taken, if one may be.
+/// The fact of the branches that may be taken, if one may be.
 fn branches(first: bool, second: bool, a: Fact, b: Fact) -> Option<Fact>
     ensures { result ≡ branches first second a b }
 {
@@ -234,7 +236,7 @@ fn branches(first: bool, second: bool, a: Fact, b: Fact) -> Option<Fact>
     }
 }
 
-/// The values of either.
+/// The fact of a value that is one or the other.
 fn either(a: Fact, b: Fact) -> Fact
     ensures { result ≡ either a b }
 {

@@ -14,7 +14,7 @@ pub(crate) const MOST: i128 = 10_000_000_000_000_000_000;
 /// The least amount, in millionths.
 pub(crate) const LEAST: i128 = -10_000_000_000_000_000_000;
 
-/// The amounts from the least to the greatest. There is at least one.
+/// The amounts from the least to the greatest, which are at least one.
 #[derive(Clone, Copy)]
 pub(crate) struct Range {
     pub(crate) low: Amount,
@@ -35,7 +35,7 @@ impl Model for Range {
 }
 
 impl Range {
-    /// What each interval is.
+    /// The order of an interval's ends.
     pub(crate) fn shows_order(self)
         ensures { self.0 ≤ℤ self.1 }
     {
@@ -43,7 +43,7 @@ impl Range {
     }
 }
 
-/// The amount of so many millionths.
+/// The amount of this number of millionths.
 pub(crate) fn amount(millionths: i128) -> Amount
     requires { IsAmount millionths }
     ensures { result ≡ millionths }
@@ -62,21 +62,21 @@ pub(crate) fn alone(x: Amount) -> Range
     Range { low: x, high: x }
 }
 
-/// Whether the interval has 0.
+/// Whether the interval contains 0.
 pub(crate) fn has_zero(range: Range) -> bool
     ensures { result ≡ has_zero range }
 {
     range.low.millionths() <= 0 && 0 <= range.high.millionths()
 }
 
-/// Whether the interval has a number other than 0.
+/// Whether the interval contains a number other than 0.
 pub(crate) fn has_other(range: Range) -> bool
     ensures { result ≡ has_other range }
 {
     range.low.millionths() < 0 || 0 < range.high.millionths()
 }
 
-/// Whether there is an interval that has 0.
+/// Whether there is an interval and it contains 0.
 pub(crate) fn may_be_zero(range: Option<Range>) -> bool
     ensures { result ≡ may_be_zero range }
 {
@@ -86,7 +86,7 @@ pub(crate) fn may_be_zero(range: Option<Range>) -> bool
     }
 }
 
-/// Whether there is an interval that has a number other than 0.
+/// Whether there is an interval and it contains a number other than 0.
 pub(crate) fn may_be_other(range: Option<Range>) -> bool
     ensures { result ≡ may_be_other range }
 {
@@ -96,7 +96,7 @@ pub(crate) fn may_be_other(range: Option<Range>) -> bool
     }
 }
 
-/// The least interval round two.
+/// The least interval that contains two.
 fn hull(a: Range, b: Range) -> Range
     ensures { result ≡ hull a b }
 {
@@ -106,7 +106,7 @@ fn hull(a: Range, b: Range) -> Range
     }
 }
 
-/// The least interval round those that are there.
+/// The least interval that contains those that exist.
 pub(crate) fn join(a: Option<Range>, b: Option<Range>) -> Option<Range>
     ensures { result ≡ join a b }
 {
@@ -141,7 +141,7 @@ pub(crate) fn lesser(x: Amount, y: Amount) -> Amount
     }
 }
 
-/// The amounts among the numbers from `low` to `high`, if there are any.
+/// The amounts from `low` to `high`, if there are any.
 pub(crate) fn cut_to_amounts(low: i128, high: i128) -> Option<Range>
     requires { limited low ≤ℤ limited high }
     ensures { result ≡ cut_to_amounts (low, high) }
@@ -155,7 +155,7 @@ pub(crate) fn cut_to_amounts(low: i128, high: i128) -> Option<Range>
     })
 }
 
-/// Whether numbers from `low` to `high` are beyond the amounts.
+/// Whether some number from `low` to `high` is beyond the amounts.
 pub(crate) fn leaves_amounts(low: i128, high: i128) -> bool
     ensures { result ≡ leaves_amounts (low, high) }
 {

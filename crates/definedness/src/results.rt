@@ -1,4 +1,4 @@
-//! Between which numbers the results of an operator lie, by the ends of its arguments' intervals.
+//! Bounds of an operator's results, from the ends of its arguments' intervals.
 ghost use Rattle.std.specs.Prelude.{◌≡◌, ◌⊎◌, pos, ◌+ℤ◌, ◌-ℤ◌, ◌*ℤ◌, ◌*◌, ◌≤◌, unsigned_abs};
 ghost use Rattle.m_fixed.specs.declared.operator.Op.TheVariants.{Add, Sub, Mul, Div, Neg, Abs, Max, Min, Arr, Inf, Eq, At};
 ghost use Rattle.m_fixed.specs.Amounts.{IsAmount, unit, most};
@@ -14,7 +14,8 @@ use m_fixed::{Amount, Op, Value, apply};
 /// One unit, in millionths.
 const UNIT: i128 = 1_000_000;
 
-/// The least and the greatest result, in millionths. One that is beyond the amounts may be another that is.
+/// The least and the greatest result, in millionths. A result beyond the amounts may be replaced by
+/// another beyond them, on the same side.
 pub(crate) fn results_of(op: Op, a: Range, b: Range) -> (i128, i128)
     ensures { limited_range result ≡ limited_range (results_of op a b) }
 {
@@ -54,49 +55,49 @@ pub(crate) fn results_of(op: Op, a: Range, b: Range) -> (i128, i128)
 
 // ---- tests
 
-/// 0 to 1, without 0 where the test can't fail and without 1 where it can't pass.
+/// 0 to 1, without 0 if the test can't fail and without 1 if it can't pass.
 pub(crate) fn truths(passes: bool, fails: bool) -> (i128, i128)
     ensures { result ≡ truths passes fails }
 {
     (if fails { 0 } else { UNIT }, if passes { UNIT } else { 0 })
 }
 
-/// Whether a number of the first interval may be below one of the second.
+/// Whether some number of the first interval is below one of the second.
 fn may_be_less(a: Range, b: Range) -> bool
     ensures { result ≡ may_be_less a b }
 {
     a.low.millionths() < b.high.millionths()
 }
 
-/// Whether a number of the first interval may be at most one of the second.
+/// Whether some number of the first interval is at most one of the second.
 fn may_be_at_most(a: Range, b: Range) -> bool
     ensures { result ≡ may_be_at_most a b }
 {
     a.low.millionths() <= b.high.millionths()
 }
 
-/// Whether two numbers of the intervals may be one.
+/// Whether the intervals have a common number.
 fn may_be_equal(a: Range, b: Range) -> bool
     ensures { result ≡ may_be_equal a b }
 {
     may_be_at_most(a, b) && may_be_at_most(b, a)
 }
 
-/// Whether two numbers of the intervals may differ.
+/// Whether two numbers of the intervals can differ.
 fn may_differ(a: Range, b: Range) -> bool
     ensures { result ≡ may_differ a b }
 {
     may_be_less(a, b) || may_be_less(b, a)
 }
 
-/// Whether the two are equal.
+/// The results of a test for equality.
 fn meetings(a: Range, b: Range) -> (i128, i128)
     ensures { result ≡ results_of Eq a b }
 {
     truths(may_be_equal(a, b), may_differ(a, b))
 }
 
-/// Whole units, cut toward zero, of all the numbers: so many millionths stand for them.
+/// The integer parts of the numbers, as an interval that counts units in place of millionths.
 fn cut_range(a: Range) -> Range
     ensures { result ≡ cut_range a }
 {
@@ -106,7 +107,7 @@ fn cut_range(a: Range) -> Range
     }
 }
 
-/// Whole units, cut toward zero.
+/// The integer part of an amount, in units.
 fn cut(x: Amount) -> i128
     ensures { result ≡ cut x }
 {
@@ -145,7 +146,7 @@ fn least_size(a: Range) -> i128
     a.low.millionths().max(-a.high.millionths()).max(0)
 }
 
-/// Whole units of an amount, which are an amount.
+/// The result of rounding an amount to whole units, which is an amount.
 fn whole(op: Op, x: Amount) -> i128
     requires whole { (op ≡ Arr) ⊎ (op ≡ Inf) }
     requires amount { IsAmount x }
@@ -157,7 +158,7 @@ fn whole(op: Op, x: Amount) -> i128
     }
 }
 
-/// The quotients of the numbers.
+/// The quotients of numbers of two intervals.
 fn quotients(a: Range, b: Range) -> (i128, i128)
     ensures { limited_range result ≡ limited_range (quotients a b) }
 {
@@ -171,7 +172,8 @@ fn quotients(a: Range, b: Range) -> (i128, i128)
     (-greatest, greatest)
 }
 
-/// The greatest absolute value of the numbers in place of millionths of a unit: no quotient is greater.
+/// An upper bound of the absolute value of quotients: a divisor is at least one millionth in
+/// absolute value.
 fn greatest_quotient(a: Range) -> i128
     ensures value { result ≡ greatest_size a *ℤ pos unit }
     ensures bound { unsigned_abs result ≤ most * unit }
@@ -179,7 +181,7 @@ fn greatest_quotient(a: Range) -> i128
     greatest_size(a) * UNIT
 }
 
-/// The greatest absolute value of the numbers.
+/// The greatest absolute value of the numbers of an interval.
 fn greatest_size(a: Range) -> i128
     ensures value { result ≡ greatest_size a }
     ensures bound { unsigned_abs result ≤ most }
@@ -211,7 +213,7 @@ fn greatest_of(p: i128, q: i128, r: i128, s: i128) -> i128
     p.max(q).max(r.max(s))
 }
 
-/// A product or a quotient. One that is Over is the nearest number beyond the amounts.
+/// A product or a quotient; if it is Over, the nearest number beyond the amounts.
 fn corner(op: Op, x: Amount, y: Amount) -> i128
     requires { (op ≡ Mul) ⊎ (op ≡ Div) }
     ensures { result ≡ limited (result_of op x y) }

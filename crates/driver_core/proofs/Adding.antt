@@ -1,4 +1,4 @@
--- What an index has after one more cell.
+-- An index after one more cell.
 use Rattle.std.proofs.Common.{◌≡◌, ◌≤◌, ◌<◌, ◌+◌, ◌-◌, ℕ, ℤ, zero, suc, Bool, true, false, cond, not, ltb, List, [], ◌∷◌, ◌++◌, length, drop, get_or, inl, inr}
 use Rattle.std.proofs.Common.{refl, sym, ap, ◌∙◌, subst, append_assoc, length-append, add-one, arith}
 use mathlib.Core.Bool.{◌||◌, ◌&&◌}
@@ -142,13 +142,13 @@ module _ (names later : List (List ℕ)) (groups after : BTreeMap (ℕ × ℤ) (
       let g = grows names later x n number in
       others m v (key-other n m value v (λ k. omega (arith, w, h, k))) ∙ numbered m v (omega (arith, g, h))
 
--- ---- the pairs of an input, from the last one on
+-- ---- the pairs of an input, from the last to the first
 
 pub or-nothing : (t : Bool) → (t || false) ≡ t
 or-nothing true = refl
 or-nothing false = refl
 
--- a pair with an attribute of which one is kept
+-- a pair whose attribute has a value already
 taken-by : (o : Option ℤ) (value v : ℤ) (cell : ℕ) (first : List ℕ) (s b : Bool) → (b ≡ true → s ≡ is_some o)
     → (first ++ cond (is_one_of o (v ∷ [])) (cell ∷ []) []) ++ cond (not s && (b && int_eq value v)) (cell ∷ []) []
     ≡ first ++ cond (is_one_of (option_or o (cond b (Some value) None)) (v ∷ [])) (cell ∷ []) []
@@ -161,13 +161,13 @@ taken-by (Some y) value v cell first false true h = absurd (false≢true (h refl
 taken-by (Some y) value v cell first true b h = append-nil (first ++ cond (is_one_of (Some y) (v ∷ [])) (cell ∷ []) [])
 taken-by (Some y) value v cell first false false h = append-nil (first ++ cond (is_one_of (Some y) (v ∷ [])) (cell ∷ []) [])
 
--- what is seen of attributes
+-- the attributes seen so far
 seen-by : (o : Option ℤ) (value : ℤ) (s b : Bool) → s ≡ is_some o → (s || b) ≡ is_some (option_or o (cond b (Some value) None))
 seen-by None value s true h = ap (λ t. t || true) h
 seen-by None value s false h = ap (λ t. t || false) h
 seen-by (Some y) value s b h = ap (λ t. t || b) h
 
--- one pair more
+-- one more pair
 pub one-seen : (ps : List (List ℕ × ℤ)) (pair : List ℕ × ℤ) (seen now : List (List ℕ)) → ((a : List ℕ) → has a seen ≡ is_some (last_value a ps))
     → ((a : List ℕ) → has a now ≡ (has a seen || bytes_eq a pair.0))
     → (a : List ℕ) → has a now ≡ is_some (last_value a (pair ∷ ps))
@@ -184,7 +184,7 @@ one-taken ps pair seen cell first so_far now h k g a v =
     ∙ taken-by (last_value a ps) pair.1 v cell (group_in first a v) (has pair.0 seen) (bytes_eq a pair.0) (λ e. ap (λ y. has y seen) (sym (same a pair.0 e))
     ∙ h a)
 
--- the last of what is left, before what is done
+-- the last of the remaining ones, before those done
 pub back-one : {A : Type 0} (xs : List A) (left : ℕ) (x : A) → 0 < left → left ≤ length xs → x ≡ get_or xs (left - 1) x → drop (left - 1) xs ≡ x ∷ drop left xs
 back-one xs left x h k e =
     let l : left - 1 < length xs = omega (arith, h, k) in
@@ -194,7 +194,7 @@ back-one xs left x h k e =
 pub front-one : {A : Type 0} (xs : List A) (i : ℕ) (x : A) → i < length xs → x ≡ get_or xs i x → drop i xs ≡ x ∷ drop (i + 1) xs
 front-one xs i x l e = drop_more xs i x l ∙ ap (λ y. y ∷ drop (i + 1) xs) (sym e)
 
--- ---- variables in turn
+-- ---- variables in order
 
 suc-turn : (vs : List Variable) (i : ℕ) (x : Variable) (a : List ℕ) (values : List ℤ) → slice_get vs i ≡ Some x
     → cells_with a values (drop i vs) ≡ of_kind a values x ++ cells_with a values (drop (suc i) vs)

@@ -1,4 +1,4 @@
--- Groups of cells, one value after the other.
+-- Groups of cells, value by value.
 use Rattle.std.proofs.Common.{◌≡◌, ◌+◌, ◌<◌, ◌≤◌, ℕ, ℤ, Bool, true, false, cond, List, [], ◌∷◌, ◌++◌, refl, sym, ap, ◌∙◌, append_assoc, not, ◌^◌, lit<, arith}
 use mathlib.Core.Bool.{◌||◌, ◌&&◌}
 use Rattle.std.proofs.lemmas.List.{append-nil}
@@ -27,7 +27,7 @@ joined-push index a [] v = append-nil (group_at index a v)
 joined-push index a (w ∷ vs) v = ap (λ l. group_at index a w ++ l) (joined-push index a vs v)
     ∙ sym (append_assoc (group_at index a w) (joined index a vs) (group_at index a v))
 
--- ---- each value once
+-- ---- distinct values
 
 pub same-int : (x y : ℤ) → int_eq x y ≡ true → x ≡ y
 same-int x y = (Decides-int_eq x y).0
@@ -42,7 +42,7 @@ or-cond : (b c : Bool) → cond b true c ≡ (b || c)
 or-cond true c = refl
 or-cond false c = refl
 
--- with one more value that is seen
+-- one more value is seen
 pub seen-more : (old new : BTreeSet ℤ) (value w : ℤ) → w ≡ value → ((q : ℤ) → contains int_cmp new q ≡ cond (int_eq w q) true (contains int_cmp old q))
     → (v : ℤ) → contains int_cmp new v ≡ (int_eq v value || contains int_cmp old v)
 seen-more old new value w e u v =
@@ -57,19 +57,19 @@ pub kept-more : (seen : BTreeSet ℤ) (index : KindIndex) (a : ℕ) (value w : �
 kept-more seen index a value w fresh old new e f t g =
     g ∙ ap (λ b. old ++ cond b [] (group_at index a value)) (sym (ap (contains int_cmp seen) (sym e) ∙ not-true (contains int_cmp seen w) (sym f ∙ t)))
 
--- an amount in 128 bits is the same
+-- an amount fits 128 bits
 below_half : (n : ℕ) → n ≤ most → n < 2 ^ 127
 below_half n h = let l : most < 2 ^ 127 = lit< tt in omega (arith, h, l)
 
 pub amount-kept : (z : ℤ) → IsAmount z → cast_signed w128 (cast_unsigned w128 z) ≡ z
 amount-kept z h = to_z-of_z w128 z (fits_signed_from_abs w128 z (below_half _ (size_of_amount z h)))
 
--- a value that stands again adds nothing
+-- a repeated value adds nothing
 again : (y v : ℤ) (vs : List ℤ) (b : Bool) → int_eq y v ≡ b → has_amount v vs ≡ true → (b || has_amount y vs) ≡ has_amount y vs
 again y v vs true e h = let s = same-int y v e in sym (ap (λ x. has_amount x vs) s ∙ h)
 again y v vs false e h = refl
 
--- a value that doesn't stand again is another than those after it
+-- a value that doesn't occur again differs from those after it
 apart : (y v : ℤ) (vs : List ℤ) (b : Bool) → int_eq y v ≡ b → has_amount v vs ≡ false → has_amount y vs ≡ true → b ≡ false
 apart y v vs true e h k = let s = same-int y v e in absurd (false≢true (sym h ∙ ap (λ x. has_amount x vs) (sym s) ∙ k))
 apart y v vs false e h k = refl
@@ -120,7 +120,7 @@ with-none : (a : List ℕ) (all : List Variable) → cells_with a [] all ≡ []
 with-none a [] = refl
 with-none a (x ∷ all) = none-by a all (is_input x.item.role) (last_value a x.item.pairs) x.first_cell (with-none a all)
 
--- a value more, unless it stands again
+-- one more value, unless it occurs again
 pub kept-turn : (c : ℕ) (old now group rest : List ℕ) (s t : Bool) → now ≡ old ++ cond s [] group → s ≡ t → times c old ≡ times c rest
     → times c now ≡ times c (cond t [] group ++ rest)
 kept-turn c old now group rest s t e f h =
@@ -131,7 +131,7 @@ kept-turn c old now group rest s t e f h =
 
 -- ---- an index
 
--- the group of one more value, unless it stands again
+-- the group of one more value, unless it occurs again
 more-by : (c : ℕ) (all : List Variable) (a : List ℕ) (v : ℤ) (vs : List ℤ) (group rest : List ℕ) (b : Bool) → has_amount v vs ≡ b
     → group ≡ cells_with a (v ∷ []) all → times c rest ≡ times c (cells_with a vs all)
     → times c (cond b [] group ++ rest) ≡ times c (cells_with a (v ∷ vs) all)
@@ -151,7 +151,7 @@ nothing-by c all a v vs false e g h =
     let m = with-more c a v vs all e in
     omega (arith, h, k, m)
 
--- the groups of an attribute's values, each value once, have the cells of the kind
+-- the groups of an attribute's distinct values have the cells of the kind
 groups-of : (c : ℕ) (all : List Variable) (index : KindIndex) (a : List ℕ) (n : Option ℕ) → ((v : ℤ) → group_of index v n ≡ cells_with a (v ∷ []) all)
     → (vs : List ℤ)
     → times c (groups_of index vs n) ≡ times c (cells_with a vs all)

@@ -29,7 +29,7 @@ body-at w [] (suc f) e = sym e
 body-at w (b ∷ bs) zero e = refl
 body-at w (b ∷ bs) (suc f) e = body-at w bs f e
 
--- before the first level nothing costs anything
+-- before the first level all weights are 0
 pub level-first : (core : Core) (base : Base) (n : ℕ) (weights : List ℕ) → weights ≡ replicate n 0 → (f : ℕ)
     → get_or weights f 0 ≡ capped (weight_in core base 0 f)
 level-first core base n weights e f = ap (λ l. get_or l f 0) e ∙ none n f
@@ -40,7 +40,7 @@ level-first core base n weights e f = ap (λ l. get_or l f 0) e ∙ none n f
     none (suc n) zero = refl
     none (suc n) (suc f) = none n f
 
--- one level more
+-- one more level
 pub level-next : (core : Core) (base : Base) (n rules cells : ℕ) (weights next : List ℕ) → rules ≡ capped (base_weight base) → cells ≡ base.cells
     → ((f : ℕ) → get_or weights f 0 ≡ capped (weight_in core base n f))
     → next ≡ map (λ commands. capped (block_weight rules cells (λ f. get_or weights f 0) (block_of commands))) core.bodies

@@ -1,4 +1,4 @@
--- A list in ascending order is told by how often each number stands in it.
+-- How often each number occurs determines an ascending list.
 use Rattle.std.proofs.Common.{◌≡◌, ◌≤◌, ◌<◌, ◌+◌, ℕ, suc, Bool, true, false, cond, eqb, ltb, leb, List, [], ◌∷◌, ◌++◌, length, get_or, refl, sym, ap, ◌∙◌}
 use Rattle.std.proofs.Common.{arith}
 use Rattle.std.specs.List.{sum_by}
@@ -9,7 +9,7 @@ use Rattle.std.proofs.lemmas.List.Sorted.{sum_by-IsPermutation, IsNonDecreasingB
 use Rattle.std.proofs.lemmas.Bool.{eqb-true, eq-eqb, leb-true, leb-false, ltb-true, ltb-false}
 use Rattle.driver_core.specs.Ascending.{placed, ascending, times, Ascends}
 
--- once where a test holds
+-- 1 if a test holds, else 0
 abbrev once : Bool → ℕ
 once b = cond b 1 0
 
@@ -64,7 +64,7 @@ pub ascending-ascends : (ns : List ℕ) → Ascends 0 (ascending ns)
 ascending-ascends [] = tt
 ascending-ascends (n ∷ ns) = placed-ascends 0 n (ascending ns) (omega arith) (ascending-ascends ns)
 
--- ---- one list
+-- ---- uniqueness
 
 pub ascends-from : (low least : ℕ) (ns : List ℕ) → low ≤ least → Ascends least ns → Ascends low ns
 ascends-from low least [] h a = tt
@@ -79,7 +79,7 @@ times-below c least (n ∷ ns) a h =
     let t = times-below c n ns a.1 below in
     omega (arith, o, t)
 
--- the first of two lists isn't below the other's
+-- the first of a list isn't below another's with the same counts
 not-below : (x y : ℕ) (xs ys : List ℕ) → Ascends y ys → times x (x ∷ xs) ≡ times x (y ∷ ys) → x < y → ⊥
 not-below x y xs ys a h l =
     let o = one-same x in
@@ -124,7 +124,7 @@ sorted-ascending xs ys p s =
     same 0 0 ys (ascending xs) (rises 0 ys (λ d l. omega arith) (IsNonDecreasingBy-from_sort (λ n. n) ys s)) (ascending-ascends xs)
     (λ c. times-permutation c xs ys p ∙ sym (times-ascending c xs))
 
--- lists with the same numbers have one order
+-- lists with the same numbers are the same once sorted
 pub one-order : (xs ys : List ℕ) → ((c : ℕ) → times c xs ≡ times c ys) → ascending xs ≡ ascending ys
 one-order xs ys h = same 0 0 (ascending xs) (ascending ys) (ascending-ascends xs) (ascending-ascends ys) (λ c. times-ascending c xs ∙ h c
     ∙ sym (times-ascending c ys))

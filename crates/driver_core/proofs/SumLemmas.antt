@@ -1,4 +1,4 @@
--- Sums that stop, and parts that are smaller.
+-- Sums that saturate, and parts that are smaller.
 use Rattle.std.proofs.Common.{◌≡◌, ℕ, zero, suc, ◌+◌, ◌*◌, ◌<◌, ◌≤◌, List, [], ◌∷◌, length, get_or, drop, sym, ap, ◌∙◌, arith}
 use Rattle.std.specs.Prelude.{min, ◌^◌, ◌-◌}
 use Rattle.std.proofs.lemmas.List.{drop_more}
@@ -29,14 +29,14 @@ block-part (x ∷ xs) (suc i) a h e = omega (arith, block-part xs i a (omega ari
 pub drop-next : {A : Type 0} (xs : List A) (i : ℕ) (x : A) → i < length xs → x ≡ get_or xs i x → drop i xs ≡ x ∷ drop (i + 1) xs
 drop-next xs i x h e = drop_more xs i x h ∙ ap (λ y. y ∷ drop (i + 1) xs) (sym e)
 
--- one more of a sum
+-- one more summand
 pub sum-next : (t w r all c s : ℕ) → s ≡ min (t + c) (2 ^ 64 - 1) → c ≡ capped w → capped (t + (w + r)) ≡ capped all → capped (s + r) ≡ capped all
 sum-next t w r all c s e f g = omega arith
 
 pub capped-sum : (a b c d : ℕ) → capped a ≡ capped c → capped b ≡ capped d → capped (a + b) ≡ capped (c + d)
 capped-sum a b c d e f = omega arith
 
--- a table's weight from its index's
+-- a table read's weight, by its index's
 pub read-capped : (size : ℕ) (index : Tree) (weight : ℕ) → capped (read_weight size index (capped weight)) ≡ capped (read_weight size index weight)
 read-capped size (lit v) weight = omega arith
 read-capped size (cell c) weight = omega arith

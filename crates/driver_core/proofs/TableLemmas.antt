@@ -1,4 +1,4 @@
--- A table of weights, as functions are weighed.
+-- A table of weights while it is filled.
 use Rattle.std.proofs.Common.{◌≡◌, ℕ, zero, suc, ◌+◌, ◌<◌, ◌≤◌, Bool, true, false, List, length, get_or, set, slice_get, replicate, refl, sym, ap, ◌∙◌, subst}
 use Rattle.std.proofs.Common.{arith, ◌⊎◌, inl, inr, eqb}
 use Rattle.std.proofs.lemmas.List.{length-set, get_or-set_same, get_or-set_other}
@@ -14,7 +14,7 @@ use Rattle.driver_core.specs.inner.Capped.{capped}
 use Rattle.driver_core.specs.inner.WeightTable.{ActionCallsOnly, CallsOnly, IsDone, IsTable, weight_in}
 use Rattle.driver_core.proofs.SumLemmas.{capped-sum}
 
--- the same calls, as far as sums tell, give the same weight
+-- weights of the called functions that agree, as saturated sums, give the same weight
 module _ (r r' cells : ℕ) (t u : ℕ → ℕ) (P : ℕ → Type 0) (same_rules : capped r ≡ capped r') (same : (g : ℕ) → P g → capped (t g) ≡ capped (u g)) where
   mutual
     capped-one : (a : Action) → ActionCallsOnly P a → capped (action_weight r cells t a) ≡ capped (action_weight r' cells u a)
@@ -35,7 +35,7 @@ module _ (r r' cells : ℕ) (t u : ℕ → ℕ) (P : ℕ → Type 0) (same_rules
     capped-all (an_action a rest) h = capped-sum (action_weight r cells t a) (block_weight r cells t rest) (action_weight r' cells u a)
         (block_weight r' cells u rest) (capped-one a h.0) (capped-all rest h.1)
 
--- nothing is weighed
+-- no weight is known
 none-done : (n f : ℕ) → IsDone (replicate n false) f → ⊥
 none-done zero f h = absurd (cc)
 none-done (suc n) zero h = absurd (cc)
@@ -52,7 +52,7 @@ table-first core base n weights done ew ed = record {
   weighed = λ f h turns l. absurd (none-done n f (subst (λ ds. IsDone ds f) ed h));
 }
 
--- one function more
+-- one more function
 pub table-next : (core : Core) (base : Base) (weights : List ℕ) (done : List Bool) (count f rules w : ℕ) → f < length weights
     → rules ≡ capped (base_weight base) → CallsOnly (IsDone done) (body_of core f)
     → w ≡ capped (block_weight rules base.cells (λ g. get_or weights g 0) (body_of core f)) → IsTable core base weights done count
@@ -75,7 +75,7 @@ table-next core base weights done count f rules w low er calls ew t = record {
     by g h turns l (inr e) =
         get_or-set_other weights f g w 0 e.1 ∙ t.weighed g (sym (get_or-set_other done f g true false e.1) ∙ h) turns (omega (arith, l))
 
--- the function of a number
+-- the function with this number
 pub found-body : (core : Core) (bodies : List (List Action)) (f : ℕ) (d body : List Action) → bodies ≡ core.bodies → f < length bodies
     → body ≡ get_or bodies f d → block_of body ≡ body_of core f
 found-body core bodies f d body e h is =

@@ -1,4 +1,4 @@
--- The command that a node stands for, and the block that a list of commands makes.
+-- The command of a node, and the block of a list of commands.
 use Rattle.std.specs.Prelude.{List, [], ◌∷◌}
 use Rattle.driver_core.specs.declared.command.CCommandNode.{CCommandNode}
 use Rattle.driver_core.specs.declared.command.CCommandNode.TheVariants.{Set, Del, If, Partition, Call, Rules}

@@ -5,9 +5,9 @@ use Rattle.driver_core.specs.Formulas.{Formula}
 -- A command, with the number of its line. `if A:` on line 2 over `B = 1` on line 3, where A and B are the cells 0 and 1, is
 --   branch 2 (cell 0) (an_action (assign 3 1 (lit (Num (pos 1000000)))) no_actions) no_actions
 mutual
-  -- A cell gets the value of a term; a cell becomes undefined; a condition with two blocks; a block with some cells undefined;
-  -- a call of a function, and a call of the rules, of which some cells come back: first how many names stand left of `<-`, each as
-  -- often as it stands there, and then the cells.
+  -- Assigning a term's value to a cell; making a cell undefined; a condition with two blocks; a
+  -- block with some cells undefined; a call of a function, and one of the rules. Calls have the
+  -- count of the names left of `<-`, with repetitions, and then the received cells.
   pub data Action : Type 0 where
     assign : ℕ → ℕ → Formula → Action
     clear : ℕ → ℕ → Action
@@ -16,12 +16,12 @@ mutual
     call : ℕ → ℕ → List ℕ → ℕ → Action
     solve : ℕ → ℕ → List ℕ → Action
 
-  -- commands one after the other
+  -- commands in sequence
   pub data Block : Type 0 where
     no_actions : Block
     an_action : Action → Block → Block
 
--- how many commands a command has in it, itself too: a measure for recursion
+-- the number of commands in a command, including itself: a measure for recursion
 abbrev mutual
   pub action_nodes : Action → ℕ
   action_nodes (assign line c term) = 1

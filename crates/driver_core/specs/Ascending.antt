@@ -1,17 +1,17 @@
 -- Lists of numbers in ascending order.
 use Rattle.std.specs.Prelude.{ℕ, ◌+◌, ◌≤◌, ◌==◌, nat_le, List, [], ◌∷◌, if◌then◌else◌}
 
--- a number in its place of an ascending list
+-- inserts a number into an ascending list
 abbrev pub placed : ℕ → List ℕ → List ℕ
 placed n [] = n ∷ []
 placed n (m ∷ ms) = if nat_le n m then n ∷ m ∷ ms else m ∷ placed n ms
 
--- The numbers in ascending order: 1, 3, 3 of 3, 1, 3.
+-- The numbers in ascending order: 3, 1, 3 becomes 1, 3, 3.
 abbrev pub ascending : List ℕ → List ℕ
 ascending [] = []
 ascending (n ∷ ns) = placed n (ascending ns)
 
--- how many times a number stands in a list
+-- how many times a number occurs in a list
 abbrev pub times : ℕ → List ℕ → ℕ
 times c [] = 0
 times c (n ∷ ns) = (if c == n then 1 else 0) + times c ns

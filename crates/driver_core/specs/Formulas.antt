@@ -5,7 +5,8 @@ use Rattle.m_fixed.specs.declared.amount.Value.{Value}
 use Rattle.m_fixed.specs.declared.operator.Op.{Op}
 
 mutual
-  -- a literal, a cell, an operator on arguments, a left fold, whether one of some cells is defined
+  -- a literal, a cell, an operator with arguments, a left fold, whether one of some cells is
+  -- defined
   pub data Formula : Type 0 where
     lit : Value → Formula
     cell : ℕ → Formula
@@ -18,12 +19,12 @@ mutual
     no_formulas : Formulas
     a_formula : Formula → Formulas → Formulas
 
-  -- how a left fold goes on, each time by an operator and its right operand
+  -- the steps of a left fold, each an operator and its right operand
   pub data Steps : Type 0 where
     no_steps : Steps
     a_step : Op → Formula → Steps → Steps
 
--- how many nodes a term has: a measure for recursion
+-- the number of nodes of a term: a measure for recursion
 abbrev mutual
   pub formula_nodes : Formula → ℕ
   formula_nodes (lit value) = 1

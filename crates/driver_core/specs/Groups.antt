@@ -17,7 +17,7 @@ abbrev pub cells_of : Option (Vec ℕ Global) → List ℕ
 cells_of None = []
 cells_of (Some cells) = cells.items
 
--- the cells that have this value of the attribute of this number
+-- the cells that have this value of the attribute with this number
 abbrev pub group_at : KindIndex → ℕ → ℤ → List ℕ
 group_at index attribute value = cells_of (get key_order index.groups (attribute, value))
 
@@ -29,12 +29,12 @@ group_of index value (Some attribute) = group_at index attribute value
 abbrev pub group_in : KindIndex → List ℕ → ℤ → List ℕ
 group_in index attribute value = group_of index value (index_of attribute index.attributes)
 
--- the cells that have these values of the attribute of this number, one value after the other
+-- the concatenated cells of these values of the attribute with this number
 abbrev pub joined : KindIndex → ℕ → List ℤ → List ℕ
 joined index attribute [] = []
 joined index attribute (v ∷ vs) = group_at index attribute v ++ joined index attribute vs
 
--- the same, each value once
+-- the same for distinct values
 abbrev pub groups_at : KindIndex → ℕ → List ℤ → List ℕ
 groups_at index attribute [] = []
 groups_at index attribute (v ∷ vs) = (if has_amount v vs then [] else group_at index attribute v) ++ groups_at index attribute vs
@@ -43,6 +43,6 @@ abbrev pub groups_of : KindIndex → List ℤ → Option ℕ → List ℕ
 groups_of index values None = []
 groups_of index values (Some attribute) = groups_at index attribute values
 
--- the cells that have one of these values of an attribute, each value once
+-- the concatenated cells of the distinct ones of these values of an attribute
 abbrev pub groups_in : KindIndex → List ℕ → List ℤ → List ℕ
 groups_in index attribute values = groups_of index values (index_of attribute index.attributes)

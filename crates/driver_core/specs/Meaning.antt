@@ -1,4 +1,5 @@
--- What a driver does: commands turn the values of the cells into others, one after the other, and a stop ends the run.
+-- The semantics of a driver: commands change the values of the cells in sequence, and a stop ends
+-- the run.
 use Rattle.std.specs.Prelude.{ℕ, zero, suc, pos, List, [], ◌∷◌, Option, Some, None, length, slice_set, if◌then◌else◌, slice_get, option_map, option_and_then}
 use Rattle.m_fixed.specs.declared.amount.Value.{Value}
 use Rattle.m_fixed.specs.declared.amount.Value.TheVariants.{Undef, Num, Over}
@@ -18,23 +19,23 @@ use Rattle.driver_core.specs.Valid.{body_among, body_of}
 
 -- ---- the value of a term
 
--- whether a cell is defined: 1 or 0, and over where the cell is over
+-- whether a cell is defined: 1 or 0, or over if the cell is over
 abbrev pub present_in : Environment → ℕ → Value
 present_in values c = op_value Present (values c) Undef Undef
 
--- so far, or one of these cells is defined
+-- the value so far, or whether one of these cells is defined
 abbrev pub present_or : Environment → Value → List ℕ → Value
 present_or values so_far [] = so_far
 present_or values so_far (c ∷ cs) = present_or values (op_value Or so_far (present_in values c) Undef) cs
 
--- Whether one of these cells is defined. It is 0 where there are none; of one cell it is whether that is defined, and of more
--- it is `(present(A) or present(B)) or present(C)`.
+-- Whether one of these cells is defined: 0 if there are none, `present(A)` of one cell, and of more
+-- `(present(A) or present(B)) or present(C)`.
 abbrev pub any_present : Environment → List ℕ → Value
 any_present values [] = Num (pos 0)
 any_present values (c ∷ cs) = present_or values (present_in values c) cs
 
 abbrev mutual
-  -- a term's value where the cells have these values, by the operator table
+  -- a term's value in an environment, by the operator table
   pub formula_value : Environment → Formula → Value
   formula_value values (lit value) = value
   formula_value values (cell c) = values c
@@ -46,7 +47,7 @@ abbrev mutual
   formula_values values no_formulas = []
   formula_values values (a_formula argument rest) = formula_value values argument ∷ formula_values values rest
 
-  -- so far, and then each step in turn: `A - B + C` is `(A - B) + C`
+  -- folds the steps, from the left, into the value so far: `A - B + C` is `(A - B) + C`
   pub steps_value : Environment → Value → Steps → Value
   steps_value values so_far no_steps = so_far
   steps_value values so_far (a_step op operand rest) = steps_value values (op_value op so_far (formula_value values operand) Undef) rest
@@ -57,27 +58,28 @@ abbrev mutual
 abbrev pub Env : Type 0
 Env = List Value
 
--- how a run goes on, with what it noted, or what ends it
+-- the state of a run: its notes and its environment, or what stopped it
 pub data RunState : Type 0 where
   goes : List Label → Env → RunState
   stops : Cause → RunState
 
--- a run with this note before its own; a stop drops it
+-- prepends a note; a stopped run has none
 abbrev pub noted : Label → RunState → RunState
 noted note (goes notes env) = goes (note ∷ notes) env
 noted note (stops cause) = stops cause
 
--- a run with these notes before its own
+-- prepends notes
 abbrev pub behind : List Label → RunState → RunState
 behind [] outcome = outcome
 behind (note ∷ notes) outcome = noted note (behind notes outcome)
 
--- what comes next, where nothing has stopped: its notes stand after those before
+-- continues a run unless it has stopped; the notes before precede the new ones
 abbrev pub then_do : RunState → (Env → RunState) → RunState
 then_do (goes notes env) next = behind notes (next env)
 then_do (stops cause) next = stops cause
 
--- an environment in which each of these cells has the value that another gives it, and all others keep theirs
+-- the environment in which these cells have the values that another gives them, and all others
+-- their own
 abbrev pub with_values : List ℕ → Environment → Env → Env
 with_values [] values env = env
 with_values (c ∷ cs) values env = with_values cs values (slice_set env c (values c))
@@ -86,26 +88,26 @@ with_values (c ∷ cs) values env = with_values cs values (slice_set env c (valu
 abbrev pub without : List ℕ → Env → Env
 without cells env = with_values cells (λ c. Undef) env
 
--- Which block a condition runs: the first at a number other than 0, the second at 0 and where it is undefined. Over ends the
--- run, and tells the line.
+-- The block that a condition selects: the first at a number other than 0, the second at 0 or
+-- undefined. Over stops the run, with the number of the line.
 abbrev pub chosen_block : ℕ → Value → RunState → RunState → RunState
 chosen_block line Undef first second = second
 chosen_block line (Num x) first second = if is_zero x then second else first
 chosen_block line Over first second = stops (over_driver line)
 
--- what a check of the rules tells that fails or is over: its label
+-- the cause of a stop by a check that fails or is over: its label
 abbrev pub failure_cause : List Label → Failure → Option Cause
 failure_cause labels (Failed number) = option_map failed (slice_get labels number)
 failure_cause labels (OverCheck number) = option_map over (slice_get labels number)
 
--- an end where there is a cause, and else this
+-- a stop if there is a cause, else this run
 abbrev pub unless_stopped : Option Cause → RunState → RunState
 unless_stopped None outcome = outcome
 unless_stopped (Some cause) outcome = stops cause
 
--- What the rules do to an environment: the first check that fails or is over, by the values that the rules give, ends the run
--- with its label. Where there is none, the received cells get the values that the rules give, all others keep theirs, and the checks
--- of the two other kinds that are met are noted.
+-- A call of the rules: the first check, by the values that the rules compute, that fails or is over
+-- stops the run with its label. If there is none, the received cells get the computed values, all
+-- others keep theirs, and the met checks of the two other kinds are noted.
 abbrev pub rules_run : Base → List ℕ → Env → RunState
 rules_run base received env =
     unless_stopped (option_and_then (failure_cause base.labels) (first_failure base (environment env)))
@@ -113,9 +115,10 @@ rules_run base received env =
 
 module _ (rules : List ℕ → Env → RunState) (body : ℕ → Env → RunState) where
   abbrev mutual
-    -- What a command does, where the rules and the functions do this. A partition runs its block with its cells undefined, and
-    -- these get their former values back; other changes stay. A call runs the body on a copy, and only the received cells
-    -- take the copy's values. Both keep what was noted within.
+    -- The effect of a command, given the effects of the rules and the functions. A partition runs
+    -- its block with its cells undefined, then restores their former values; other changes remain.
+    -- A call runs the body on a copy, of which only the received cells are copied back. Both keep
+    -- the notes of their block or body.
     pub action_run : Action → Env → RunState
     action_run (assign line c term) env = goes [] (slice_set env c (formula_value (environment env) term))
     action_run (clear line c) env = goes [] (slice_set env c Undef)
@@ -127,13 +130,13 @@ module _ (rules : List ℕ → Env → RunState) (body : ℕ → Env → RunStat
         then_do (body function env) (λ after. goes [] (with_values received (environment after) env))
     action_run (solve line names received) env = rules received env
 
-    -- commands one after the other
+    -- commands in sequence
     pub block_run : Block → Env → RunState
     block_run no_actions env = goes [] env
     block_run (an_action action rest) env = then_do (action_run action env) (block_run rest)
 
--- What a call of a function does, where calls may be nested so deep. Without a ring and with as many turns as there are
--- functions the turns never run out.
+-- The effect of a call of a function, with calls nested at most `turns` deep. If there is no cycle
+-- of calls, as many turns as functions are enough.
 abbrev pub called : (List ℕ → Env → RunState) → List (List Action) → ℕ → ℕ → Env → RunState
 called rules bodies zero f env = goes [] env
 called rules bodies (suc turns) f env = block_run rules (called rules bodies turns) (body_among bodies f) env

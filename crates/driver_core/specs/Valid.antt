@@ -1,4 +1,5 @@
--- When a driver is one: each cell and each function that it names is there, and no function reaches itself by calls.
+-- Valid drivers: each cell and function that is named exists, and no function reaches itself by
+-- calls.
 use Rattle.std.specs.Prelude.{◌≡◌, ℕ, ◌<◌, ◌⊎◌, List, [], ◌∷◌, length, All, Option, None, Some, slice_get}
 use Rattle.micro_m.specs.Bases.{AreDistinctCells}
 use Rattle.driver_core.specs.declared.program.Core.{Core}
@@ -12,7 +13,7 @@ abbrev pub block_or_none : Option (List Action) → Block
 block_or_none None = no_actions
 block_or_none (Some commands) = block_of commands
 
--- the commands of a function; one that isn't there has none
+-- the commands of a function, none if there is no such function
 abbrev pub body_among : List (List Action) → ℕ → Block
 body_among bodies f = block_or_none (slice_get bodies f)
 
@@ -25,7 +26,7 @@ abbrev pub CellsAreWithin : ℕ → List ℕ → Type 0
 CellsAreWithin cells named = All (λ c. c < cells) named
 
 abbrev mutual
-  -- each cell of a term is one of so many
+  -- each cell of a term is below a count
   pub FormulaIsWithin : ℕ → Formula → Type 0
   FormulaIsWithin cells (lit value) = Unit {0}
   FormulaIsWithin cells (cell c) = c < cells
@@ -42,7 +43,7 @@ abbrev mutual
   StepsAreWithin cells (a_step op operand rest) = FormulaIsWithin cells operand × StepsAreWithin cells rest
 
 abbrev mutual
-  -- each cell of a command is one of so many, and each function too
+  -- each cell of a command is below a count, and each function too
   pub ActionIsWithin : ℕ → ℕ → Action → Type 0
   ActionIsWithin cells functions (assign line c term) = (c < cells) × FormulaIsWithin cells term
   ActionIsWithin cells functions (clear line c) = c < cells
@@ -59,7 +60,7 @@ abbrev mutual
 -- ---- calls
 
 abbrev mutual
-  -- a command calls a function where a call of it stands in it, in any branch
+  -- a command calls a function if a call of it occurs in it, in any branch
   pub ActionCalls : Action → ℕ → Type 0
   ActionCalls (branch line condition first second) f = BlockCalls first f ⊎ BlockCalls second f
   ActionCalls (partition line named block) f = BlockCalls block f
@@ -70,16 +71,18 @@ abbrev mutual
   BlockCalls no_actions f = ⊥
   BlockCalls (an_action action rest) f = ActionCalls action f ⊎ BlockCalls rest f
 
--- one function calls another
+-- a function calls another
 abbrev pub Calls : Core → ℕ → ℕ → Type 0
 Calls core f g = BlockCalls (body_of core f) g
 
--- from a function through these, each calling the next, to a function that the last of them calls
+-- a path of calls from a function through these, each calling the next, to a function that the last
+-- calls
 abbrev pub CallsLeadTo : Core → ℕ → List ℕ → ℕ → Type 0
 CallsLeadTo core f [] last = Calls core f last
 CallsLeadTo core f (g ∷ gs) last = Calls core f g × CallsLeadTo core g gs last
 
--- A ring: distinct functions, each calling the next, and the last calling the first. One function that calls itself is a ring.
+-- A ring is a cycle of calls: distinct functions, each calling the next, and the last calling the
+-- first. One function that calls itself is a ring.
 abbrev pub IsRing : Core → List ℕ → Type 0
 IsRing core [] = ⊥
 IsRing core (f ∷ fs) = AreDistinctCells (f ∷ fs) × CallsLeadTo core f fs f
@@ -90,7 +93,7 @@ HasNoRing core = (functions : List ℕ) → IsRing core functions → ⊥
 
 -- ---- a valid driver
 
--- all numbers in it are in range
+-- all its numbers are in range
 pub record IsInRange (core : Core) : Type 0 where
   pub names : length core.names ≡ length core.bodies
   pub main : core.main < length core.bodies

@@ -1,5 +1,5 @@
--- How much a driver costs: what it comes to where all is written out, each call with the body of its function and each call of
--- the rules with the base. `A = B + 1` costs 3.
+-- The weight of a driver: its size once each call is replaced by the function's body, and each call
+-- of the rules by the base. `A = B + 1` has weight 3.
 use Rattle.std.specs.Prelude.{ℕ, zero, suc, ◌+◌, ◌*◌, List, length}
 use Rattle.std.specs.List.{sum_by}
 use Rattle.micro_m.specs.declared.base.Base.{Base}
@@ -14,13 +14,14 @@ use Rattle.driver_core.specs.Valid.{body_among, body_of}
 
 -- ---- the base
 
--- a table read at an index: one beside a literal index, and 2 for each cell and 2 beside any other
+-- a table read adds 1 to a literal index, and to any other 2 and 2 for each cell
 abbrev pub read_weight : ℕ → Tree → ℕ → ℕ
 read_weight size (lit_tree value) index = index + 1
 read_weight size _ index = index + 2 * size + 2
 
 abbrev mutual
-  -- a term of the base costs 1 for each literal and cell and for each operator; a list of n operands has n - 1 operators
+  -- a term of the base has 1 for each literal, cell and operator; a list of n operands has n - 1
+  -- operators
   pub tree_weight : Tree → ℕ
   tree_weight (lit_tree value) = 1
   tree_weight (cell_tree c) = 1
@@ -42,14 +43,14 @@ definition_weight definition = tree_weight definition.1 + 1
 abbrev pub check_weight : Check → ℕ
 check_weight check = tree_weight check.0 + 1
 
--- a base costs all its terms, and one for each definition and check
+-- a base has the weight of all its terms, and 1 for each definition and check
 abbrev pub base_weight : Base → ℕ
 base_weight base = sum_by definition_weight base.definitions + sum_by check_weight base.checks
 
 -- ---- commands
 
 abbrev mutual
-  -- a term of a driver costs as one of the base, and `exists` 1 and 2 for each cell
+  -- a term of a driver has the weight of one of the base, and `exists` 1 and 2 for each cell
   pub formula_weight : Formula → ℕ
   formula_weight (lit value) = 1
   formula_weight (cell c) = 1
@@ -66,7 +67,8 @@ abbrev mutual
   steps_weight (a_step op operand rest) = formula_weight operand + 1 + steps_weight rest
 
 abbrev mutual
-  -- how many names a command sets, deletes or receives, and those in it, each as often as it stands
+  -- the count of names that a command sets, deletes or receives, including the commands in it, with
+  -- repetitions
   pub names_changed : Action → ℕ
   names_changed (assign line c term) = 1
   names_changed (clear line c) = 1
@@ -79,7 +81,7 @@ abbrev mutual
   names_changed_in no_actions = 0
   names_changed_in (an_action action rest) = names_changed action + names_changed_in rest
 
--- where a base costs this and has so many cells, and bodies of functions weigh this
+-- given the weight and the cells of the base, and the weights of the functions' bodies
 module _ (rules cells : ℕ) (body : ℕ → ℕ) where
   abbrev mutual
     pub action_weight : Action → ℕ
@@ -95,12 +97,12 @@ module _ (rules cells : ℕ) (body : ℕ → ℕ) where
     block_weight no_actions = 0
     block_weight (an_action action rest) = action_weight action + block_weight rest
 
--- the weight of a function's body, where calls may be nested so deep
+-- the weight of a function's body, with calls nested at most `turns` deep
 abbrev pub body_weight : ℕ → ℕ → List (List Action) → ℕ → ℕ → ℕ
 body_weight rules cells bodies zero f = 0
 body_weight rules cells bodies (suc turns) f = block_weight rules cells (body_weight rules cells bodies turns) (body_among bodies f)
 
--- the weight of a driver over a base: that of the body of `main`
+-- the weight of a driver over a base: that of `main`'s body
 abbrev pub weight_of : Core → Base → ℕ
 weight_of core base =
     block_weight (base_weight base) base.cells (body_weight (base_weight base) base.cells core.bodies (length core.bodies)) (body_of core core.main)

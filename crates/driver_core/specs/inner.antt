@@ -1,5 +1,5 @@
--- How the logic stores terms and commands, and that their parts are smaller; and what the contracts of inner functions speak of. No reader of the
--- public contracts needs it.
+-- The logic's encoding of terms and commands, and what only the contracts of inner functions use.
+-- The public contracts use none of it.
 pub mod FormulaCoding
 pub mod FormulaFalls
 pub mod ActionCoding

@@ -8,29 +8,31 @@ use crate::kind_cells::KindCells;
 use m_places::Seq;
 use std::marker::Model;
 
-/// A command. Contracts see it as an `Action` of specs/.
+/// A command. Contracts see it as an `Action` of specs/, plain data.
 #[cycle(command)]
 #[derive(Drop)]
 pub struct CCommand {
     pub node: CCommandNode,
 }
 
-/// What a command is. The number that comes first is that of its line, from 1.
+/// The forms of a command. The first field is the number of its line, from 1.
 #[cycle(command)]
 #[derive(Drop)]
 pub enum CCommandNode {
-    /// Gives a cell the value of a term.
+    /// Assigns the value of a term to a cell.
     Set(u32, u32, CTerm),
     /// Makes a cell undefined.
     Del(u32, u32),
-    /// Does the first block where the condition is a number other than 0, and the second, which may be empty, where it is 0
-    /// or undefined.
+    /// Runs the first block if the condition is a number other than 0, and the second, which may be
+    /// empty, if it is 0 or undefined.
     If(u32, CTerm, Vec<CCommand>, Vec<CCommand>),
-    /// Does the block with these cells undefined, and gives them their values back.
+    /// Runs the block with these cells undefined, and then restores their values.
     Partition(u32, KindCells, Vec<CCommand>),
-    /// Does the body of the function of this number on a copy, of which these cells come back. So many names stand left of `<-`.
+    /// Runs the body of the function with this number on a copy of the environment, of which these
+    /// cells are received. The second field counts the names left of `<-`.
     Call(u32, u64, Seq<u32>, u32),
-    /// Computes and checks the rules, and these cells get their values. So many names stand left of `<-`.
+    /// Computes and checks the rules, of whose values these cells are received. The second field
+    /// counts the names left of `<-`.
     Rules(u32, u64, Seq<u32>),
 }
 
@@ -54,7 +56,7 @@ impl Model for CCommand {
 }
 
 impl CCommand {
-    /// The command of this node.
+    /// The command with this node.
     pub fn new(node: CCommandNode) -> CCommand
         ensures { result ≡ action_of node }
     {

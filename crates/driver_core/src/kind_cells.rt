@@ -1,4 +1,4 @@
-//! The cells of a kind.
+//! The cells of a kind of inputs.
 
 ghost use Rattle.std.specs.Prelude.{◌≡◌, ◌++◌, ◌||◌, ℕ, ℤ, [], IfOk, OnOk, length, min, if◌then◌else◌};
 ghost use Rattle.std.specs.BTreeSet.{contains};
@@ -13,16 +13,17 @@ use std::collections::BTreeSet;
 use std::marker::Model;
 use std::rc::Rc;
 
-/// The cells of the inputs whose attribute has one of some values, which are looked up in an index where they are asked
-/// for. Contracts see them as a list, in ascending order.
+/// The cells of the inputs whose attribute has one of some values. They aren't stored, but looked
+/// up in an index on request; the weight of the command bounds that work. Contracts see them as a
+/// list in ascending order.
 #[derive(Drop)]
 pub struct KindCells {
     index: Rc<KindIndex>,
     /// The number of the attribute in the index.
     attribute: usize,
-    /// The values, each once. Those that no input has are left out.
+    /// The distinct values, without those that no input has.
     values: Vec<Amount>,
-    /// How many cells there are, as far as 64 bits count.
+    /// The count of the cells, saturated at 64 bits.
     count: u64,
 }
 
@@ -40,7 +41,8 @@ impl Model for KindCells {
 }
 
 impl KindCells {
-    /// The cells of the inputs whose attribute has one of these values, by the index of all that is declared.
+    /// The cells of the inputs whose attribute has one of these values, by the index of all
+    /// declared inputs.
     pub fn new(
         alloc: Global,
         index: &Rc<KindIndex>,
@@ -55,7 +57,7 @@ impl KindCells {
         }
     }
 
-    /// How many cells there are, as far as 64 bits count. Takes no memory.
+    /// The count of the cells, saturated at 64 bits. Takes no memory.
     pub fn len(&self) -> u64
         ensures { result ≡ min (length self.now) 18_446_744_073_709_551_615 }
     {
@@ -71,7 +73,7 @@ impl KindCells {
         Ok(cells)
     }
 
-    /// An equal kind, over the same index.
+    /// A copy that shares the index. With 2^64 - 1 copies of one index the error is out of memory.
     pub fn copy(&self, alloc: Global) -> Result<KindCells, AllocError>
         ensures { IfOk result (λ copy. copy ≡ self.now) }
     {
@@ -96,7 +98,7 @@ fn none(alloc: Global, index: &Rc<KindIndex>) -> Result<KindCells, AllocError>
     })
 }
 
-// The cells that have one of these values of the attribute of this number.
+// The cells that have one of these values of the attribute with this number.
 fn numbered(
     alloc: Global,
     index: &Rc<KindIndex>,
@@ -114,7 +116,7 @@ fn numbered(
     })
 }
 
-// Those of the values that an input has, each once, and how many cells have them.
+// The distinct values that some input has, and the count of the cells that have them.
 fn kept_values(
     alloc: Global,
     index: &KindIndex,
@@ -136,7 +138,7 @@ fn kept_values(
     Ok((kept, count))
 }
 
-// Keeps a value that isn't among those that were seen, if an input has it.
+// Keeps a value that isn't in `seen`, if an input has it.
 fn keep_once(
     index: &KindIndex,
     attribute: usize,
@@ -158,7 +160,7 @@ fn keep_once(
     Ok(more)
 }
 
-// Keeps a value, if an input has it, and counts the cells, as far as 64 bits do.
+// Keeps a value, if an input has it, and adds its cells to the count, saturated at 64 bits.
 fn keep(
     index: &KindIndex,
     attribute: usize,
@@ -177,7 +179,7 @@ fn keep(
     Ok(count.saturating_add(group.len() as u64))
 }
 
-// The cells that have these values of an attribute, one value after the other.
+// The concatenated cells of these values of an attribute.
 fn gathered(
     alloc: Global,
     index: &KindIndex,
@@ -193,7 +195,7 @@ fn gathered(
     Ok(cells)
 }
 
-// Adds the cells that have this value.
+// Appends the cells that have this value.
 fn add_group(
     index: &KindIndex,
     attribute: usize,

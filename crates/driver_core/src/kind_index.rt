@@ -18,7 +18,8 @@ use m_symbols::{Symbols, Variable};
 use std::alloc::{AllocError, Global};
 use std::collections::BTreeMap;
 
-/// Cells of inputs by the number of an attribute and its value. Each cell stands once for each of its input's attributes.
+/// Cells of inputs by the number of an attribute and its value. A cell is listed once for each
+/// attribute of its input.
 #[derive(Drop)]
 pub struct KindIndex {
     pub(crate) attributes: Names,
@@ -26,7 +27,7 @@ pub struct KindIndex {
 }
 
 impl KindIndex {
-    /// The cells of all inputs that are declared, by attribute and value.
+    /// The cells of all declared inputs, by attribute and value.
     pub fn of(alloc: Global, symbols: &Symbols) -> Result<KindIndex, AllocError>
         ensures { IfOk result (λ index. IsIndexOf symbols.now.variables index) }
     {
@@ -41,7 +42,7 @@ impl KindIndex {
         Ok(index)
     }
 
-    // Adds the cell of a variable, if it is an input, for each of its attributes.
+    // Adds the cell of a variable, if it is an input, under each of its attributes.
     fn add_variable(
         &mut self,
         alloc: Global,
@@ -60,8 +61,8 @@ impl KindIndex {
         Ok(())
     }
 
-    // Adds the cell of an input with these pairs, from the last one on: a pair whose attribute stands again after it says
-    // nothing.
+    // Adds the cell of an input with these pairs, from the last to the first: of pairs with the
+    // same attribute the last counts.
     fn add_pairs(
         &mut self,
         alloc: Global,
@@ -84,7 +85,7 @@ impl KindIndex {
         Ok(())
     }
 
-    // Adds the cell of an input with this pair, unless its attribute is among those that were seen.
+    // Adds the cell of an input with this pair, unless its attribute is in `seen`.
     fn add_pair(
         &mut self,
         alloc: Global,
@@ -107,7 +108,7 @@ impl KindIndex {
         Ok(())
     }
 
-    // Adds the cell of an input that has this value of an attribute, after those that have it already.
+    // Appends the cell of an input to the cells that have this value of an attribute.
     fn add(
         &mut self,
         alloc: Global,
@@ -126,7 +127,7 @@ impl KindIndex {
     }
 }
 
-// A key that is made of all attributes, so that nobody can choose them to collide.
+// A hash key derived from all attributes, so that no choice of attributes makes them collide.
 fn key_of(symbols: &Symbols) -> Key {
     let mut digest = NamesDigest::new();
     for v in 0..symbols.count() {
@@ -137,7 +138,7 @@ fn key_of(symbols: &Symbols) -> Key {
     digest.key()
 }
 
-// The number of an attribute, which is added if it is new.
+// The number of an attribute; a new one is added.
 fn number_of(alloc: Global, attribute: &[u8], attributes: &mut Names) -> Result<usize, AllocError>
     ensures { IfOk result (λ n. HasNumber attributes.old attribute.now n attributes.new) }
 {
@@ -149,7 +150,7 @@ fn number_of(alloc: Global, attribute: &[u8], attributes: &mut Names) -> Result<
     Ok(number)
 }
 
-// Adds a cell after those that have this value of the attribute of this number.
+// Appends a cell to those that have this value of the attribute with this number.
 fn add_cell(
     alloc: Global,
     attribute: usize,

@@ -1,8 +1,11 @@
-//! Drivers over numbered cells: their terms, commands and functions, what a driver does to the values of the cells, the cells of each kind of
-//! inputs, and what a driver costs.
+//! Drivers over numbered cells: terms, commands and functions, their semantics, the cells of each
+//! kind of inputs, and the weight of a driver, which bounds its compiled size.
 //!
-//! The meaning has no nodes and no guards: a command turns an environment into an environment, or stops. This crate knows nothing of source
-//! text, of the names of functions and targets, nor of flat programs.
+//! Uses the meaning of a base, the declarations and the observations of a run. Knows nothing of
+//! source text, of how names resolve, nor of flat programs.
+//!
+//! The semantics has no nodes and no guards: a command maps an environment to an environment, or
+//! stops the run.
 #![tactic(auto)]
 
 mod command;

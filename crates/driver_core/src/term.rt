@@ -7,14 +7,14 @@ use crate::kind_cells::KindCells;
 use m_fixed::{Op, Value};
 use std::marker::Model;
 
-/// A term of a driver. Contracts see it as a `Formula` of specs/.
+/// A term of a driver. Contracts see it as a `Formula` of specs/, plain data.
 #[cycle(term)]
 #[derive(Drop)]
 pub struct CTerm {
     pub node: CNode,
 }
 
-/// What stands at the top of a term.
+/// The forms of a term.
 #[cycle(term)]
 #[derive(Drop)]
 pub enum CNode {
@@ -22,15 +22,16 @@ pub enum CNode {
     Lit(Value),
     /// A cell's value.
     Cell(u32),
-    /// An operator and its arguments. One that is missing is undefined.
+    /// An operator with its arguments. A missing argument is undefined.
     Apply(Op, Vec<CTerm>),
-    /// A left fold: `A - B + C` begins with `A` and goes on by `- B` and by `+ C`. `cast(A)` is `A + 0`.
+    /// A left fold: `A - B + C` is `A`, then `- B`, then `+ C`. `cast(A)` is `A + 0`.
     Chain(Box<CTerm>, Vec<CStep>),
-    /// Whether one of these cells is defined: those of the inputs of a kind, in order of declaration.
+    /// Whether one of these cells, those of the inputs of a kind in order of declaration, is
+    /// defined.
     Exists(KindCells),
 }
 
-/// How a left fold goes on: an operator and its right operand.
+/// A step of a left fold: an operator and its right operand.
 #[cycle(term)]
 #[derive(Drop)]
 pub struct CStep {
@@ -58,7 +59,7 @@ impl Model for CTerm {
 }
 
 impl CTerm {
-    /// The term with this at its top.
+    /// The term with this node.
     pub fn new(node: CNode) -> CTerm
         ensures { result ≡ formula_of node }
     {

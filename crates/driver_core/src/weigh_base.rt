@@ -83,7 +83,7 @@ fn weigh_steps(steps: &[Step]) -> u64
     total
 }
 
-/// The weight of a table of this size read at an index of this cost.
+/// The weight of a read of a table of this size at an index of this weight.
 fn read_at(size: u32, index: &MTerm, weight: u64) -> u64
     ensures { result ≡ capped (read_weight size index.now weight) }
 {

@@ -1,4 +1,4 @@
-//! The weight of commands, by a table of the functions' weights.
+//! The weight of commands, given the weights of the functions.
 
 ghost use Rattle.std.specs.Prelude.{◌≡◌, true, slice_index_or};
 ghost use Rattle.driver_core.specs.ActionView.{block_of};
@@ -9,7 +9,8 @@ ghost use Rattle.driver_core.specs.inner.WeightTable.{IsDone, CallsOnly, ActionC
 use crate::weigh_base::weigh_formula;
 use crate::{CCommand, CCommandNode};
 
-/// The weight of a block, where the base has this weight and so many cells, and the functions have these weights.
+/// The weight of a block, given the weight and the cells of the base, and the weights of the
+/// functions.
 #[cycle(weigh)]
 pub fn weigh_block(block: &[CCommand], rules: u64, cells: u64, table: &[u64]) -> u64
     ensures { result ≡ capped (block_weight rules cells (λ f. slice_index_or table.now f 0) (block_of block.now)) }
@@ -41,7 +42,7 @@ fn weigh_command(command: &CCommand, rules: u64, cells: u64, table: &[u64]) -> u
     }
 }
 
-/// The weight of a function. One that isn't there costs nothing.
+/// The weight of a function, 0 if there is none with this number.
 pub fn entry(table: &[u64], function: u32) -> u64
     ensures { result ≡ slice_index_or table.now function 0 }
 {
@@ -51,7 +52,7 @@ pub fn entry(table: &[u64], function: u32) -> u64
     }
 }
 
-/// How many names the commands of a block set, delete or receive.
+/// The count of names that the commands of a block set, delete or receive.
 #[cycle(names)]
 fn names_in(block: &[CCommand]) -> u64
     ensures { result ≡ capped (names_changed_in (block_of block.now)) }
@@ -77,7 +78,7 @@ fn names_of(command: &CCommand) -> u64
     }
 }
 
-/// Whether each function that a block calls is weighed.
+/// Whether the weights of all functions that a block calls are known.
 #[cycle(done)]
 pub fn calls_are_done(block: &[CCommand], done: &[bool]) -> bool
     ensures { result ≡ true → CallsOnly (IsDone done.now) (block_of block.now) }
@@ -106,7 +107,7 @@ fn command_is_done(command: &CCommand, done: &[bool]) -> bool
     }
 }
 
-/// Whether a function is weighed.
+/// Whether the weight of a function is known.
 pub fn is_done(done: &[bool], function: u32) -> bool
     ensures { result ≡ true → IsDone done.now function }
 {

@@ -1,9 +1,10 @@
-//! Which function calls which.
+//! The call graph. No contract relies on it: it only chooses the next function.
 
 use crate::{CCommand, CCommandNode, Core};
 use std::alloc::{AllocError, Global};
 
-/// The calls of all functions one after the other, and where those of each function begin. A last entry tells where they end.
+/// The calls of all functions, concatenated, and the position of each function's first call; a last
+/// entry holds the end.
 #[derive(Drop)]
 pub struct Calls {
     pub functions: Vec<u32>,
@@ -23,7 +24,7 @@ impl Calls {
         Ok(Calls { functions, starts })
     }
 
-    /// Where the calls of a function begin.
+    /// The position of a function's first call.
     pub fn start(&self, function: usize) -> usize {
         match self.starts.get(function) {
             Some(start) => *start,
@@ -31,7 +32,7 @@ impl Calls {
         }
     }
 
-    /// The call at a place, if it is one of this function.
+    /// The call at a position, if it is one of this function's.
     pub fn at(&self, function: usize, place: usize) -> Option<u32> {
         if place >= self.start(function.saturating_add(1)) {
             return None;
@@ -43,7 +44,7 @@ impl Calls {
     }
 }
 
-/// Adds the calls of a block, in the order in which they stand in it.
+/// Appends the calls of a block, in order.
 #[cycle(calls)]
 fn add_calls(block: &[CCommand], calls: &mut Vec<u32>) -> Result<(), AllocError> {
     for command in block {

@@ -15,9 +15,10 @@ use crate::weight_table::Table;
 use micro_m::Base;
 use std::alloc::{AllocError, Global};
 
-/// The weight of a driver over the rules of a base, where sums stop at 18,446,744,073,709,551,615. Each function that `main`
-/// reaches is weighed once, after those that it calls, from a list of what is left: no call is as deep as a chain of
-/// functions. Where functions call each other in a ring, as they do in no valid driver, each is weighed once for each level of
+/// The weight of a driver over the rules of a base, with sums that saturate at
+/// 18,446,744,073,709,551,615. Each function that `main` reaches is computed once, after those that
+/// it calls, with a work list in place of recursion, so a chain of calls takes no stack. If there
+/// is a cycle of calls, which no valid driver has, each function is computed once for each level of
 /// calls. The only error is running out of memory.
 pub fn weight(alloc: Global, core: &Core, base: &Base) -> Result<u64, AllocError>
     ensures { IfOk result (λ w. w ≡ min (weight_of core.now base.now) 18_446_744_073_709_551_615) }
@@ -30,7 +31,8 @@ pub fn weight(alloc: Global, core: &Core, base: &Base) -> Result<u64, AllocError
     weigh_by_levels(alloc, core, rules, base.cells)
 }
 
-/// The weights of `main` and the functions that it reaches, but for those that call each other in a ring.
+/// The weights of the functions that `main` reaches, itself included, except those on a cycle of
+/// calls.
 fn table_of(alloc: Global, core: &Core, rules: u64, cells: u32) -> Result<Table, AllocError>
     ensures { IfOk result (λ table. (base : Base) → rules ≡ capped (base_weight base) → cells ≡ base.cells
         → IsFound core.now base table.weights.items table.done.items) }
@@ -45,7 +47,8 @@ fn table_of(alloc: Global, core: &Core, rules: u64, cells: u32) -> Result<Table,
     Ok(table)
 }
 
-/// Computes the costs of `main` and of the functions that it reaches, each after those that it calls.
+/// Computes the weights of the functions that `main` reaches, itself included, each after those
+/// that it calls.
 fn weigh_reached(
     alloc: Global,
     core: &Core,

@@ -1,4 +1,4 @@
-//! The weights of functions level by level, whichever function calls which.
+//! The weights of functions, level by level, without the call graph.
 
 ghost use Rattle.std.specs.Prelude.{◌≡◌, IfOk, map, slice_index_or};
 ghost use Rattle.micro_m.specs.declared.base.Base.{Base};
@@ -11,8 +11,8 @@ use crate::{CCommand, Core};
 use m_places::Seq;
 use std::alloc::{AllocError, Global};
 
-/// The weight of `main`, where each function is weighed once for each level of calls: first where no call is followed, then
-/// where calls are followed once, and so on.
+/// The weight of `main`; each function is computed once for each level of calls: first with no call
+/// followed, then with calls followed one level deep, and so on.
 pub fn weigh_by_levels(
     alloc: Global,
     core: &Core,
@@ -34,7 +34,7 @@ pub fn weigh_by_levels(
     Ok(entry(&last, core.main))
 }
 
-/// The weights of all functions, where those that they call have these weights.
+/// The weights of all functions, given those of the functions that they call.
 fn next_level(
     alloc: Global,
     bodies: &[Seq<CCommand>],

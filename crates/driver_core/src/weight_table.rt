@@ -9,7 +9,7 @@ ghost use Rattle.driver_core.specs.inner.WeightTable.{IsTable};
 use crate::Core;
 use crate::weigh_blocks::{calls_are_done, weigh_block};
 
-/// The weights of the functions that are done, and how many these are.
+/// The known weights of functions, and their count.
 #[derive(Drop)]
 pub struct Table {
     pub weights: Vec<u64>,
@@ -18,7 +18,7 @@ pub struct Table {
 }
 
 impl Table {
-    /// Computes the cost of a function whose calls are all done. Any other is left as it is.
+    /// Computes the weight of a function, unless the weight of one that it calls isn't known.
     pub fn weigh(&mut self, core: &Core, function: u32, rules: u64, cells: u32)
         requires few { self.old.count ≤ length core.now.bodies }
         ensures table { (base : Base) → rules ≡ capped (base_weight base) → cells ≡ base.cells

@@ -1,4 +1,4 @@
--- Labels as texts: two labels have one text only where they are equal.
+-- Labels as texts: labels with equal texts are equal.
 use Rattle.std.proofs.Common.{◌≡◌, ℕ, Bool, true, false, List, [], ◌∷◌, ◌++◌, Option, None, Some, refl, ap, sym, ◌∙◌, arith}
 use Rattle.std.specs.Prelude.{is_some, ◌&&◌}
 use Rattle.std.specs.Str.{bytes_eq}
@@ -10,7 +10,7 @@ use Rattle.m_names.proofs.NameLemmas.{same, itself, both, and-both, index_of-non
 use Rattle.m_lint.specs.Findings.{is_same_kind, is_same_label}
 use Rattle.m_lint.specs.inner.Loud.{coded_word, kind_number, coded_label}
 
--- a name is there where it has a number
+-- a name is among the names if it has a number
 pub has-number : (name : List ℕ) (names : List (List ℕ)) (found : Option ℕ) → found ≡ index_of name names → is_some found ≡ has name names
 has-number name names None e = sym (index_of-none name names (sym e))
 has-number name names (Some i) e = sym ((index_of-some name names i (sym e)).0)
@@ -60,7 +60,7 @@ kind-itself Informative = refl
 abbrev label : List ℕ → List ℕ → ErrorKind → List ℕ → Label
 label verif error kind text = record { verif = verif; error = error; kind = kind; text = text }
 
--- a label is equal to itself, and to no other
+-- a label is equal to itself only
 pub label-itself : (a : Label) → is_same_label a a ≡ true
 label-itself a = and-both _ _ (and-both _ _ (and-both _ _ (itself a.verif) (itself a.error)) (kind-itself a.kind)) (itself a.text)
 

@@ -1,4 +1,5 @@
--- The labels that may be told: marked by number, gathered as texts, and those of checks that are not among them.
+-- The labels that may be reported: marked by number, collected as texts; and the checks whose
+-- labels aren't among them.
 use Rattle.std.proofs.Common.{◌≡◌, ℕ, zero, suc, ◌≤◌, Bool, true, false, cond, List, [], ◌∷◌, ◌++◌, length, get_or, set, take, map, replicate, Option, Some}
 use Rattle.std.proofs.Common.{None, slice_get, refl, ap, sym, ◌∙◌, arith}
 use Rattle.std.specs.Prelude.{◌||◌, ◌&&◌, not}
@@ -50,7 +51,7 @@ first-label : (l : FaceLabel) (ls : List FaceLabel) (this : Label) → has_label
 first-label (Verif label) ls this = refl
 first-label (DriverLine line) ls this = refl
 
--- one mark more
+-- one more mark
 any-set : (labels : List FaceLabel) (marks : List Bool) (n : ℕ) (this : Label) → length labels ≡ length marks
     → any_marked labels (set marks n true) this ≡ (any_marked labels marks this || has_label labels this n)
 any-set [] [] n this e = refl
@@ -119,7 +120,7 @@ loud-length known flat face =
     notes-length known face.outputs flat.outputs (with_checks known flat.checks (replicate (length face.labels) false))
     ∙ checks-length known flat.checks (replicate (length face.labels) false) ∙ length-replicate (length face.labels) false
 
--- a mark after which one is set or not
+-- a mark, after a conditional one
 any-cond : (labels : List FaceLabel) (marks : List Bool) (n : ℕ) (this : Label) (quiet : Bool) → length labels ≡ length marks
     → any_marked labels (cond quiet marks (set marks n true)) this ≡ (any_marked labels marks this || not (not (has_label labels this n) || quiet))
 any-cond labels marks n this true e = by (any_marked labels marks this) (has_label labels this n)
@@ -135,7 +136,7 @@ any-cond labels marks n this false e = any-set labels marks n this e ∙ ap (λ 
     by true = refl
     by false = refl
 
--- first one, and then the rest
+-- one after the other
 then-rest : (now before start first rest : Bool) → now ≡ (before || not rest) → before ≡ (start || not first) → now ≡ (start || not (first && rest))
 then-rest now before start first rest e f = e ∙ ap (λ b. b || not rest) f ∙ by start first rest
   where
@@ -169,7 +170,7 @@ any-notes labels this known (output ∷ outputs) (p ∷ ps) marks e =
     (any-notes labels this known outputs ps (with_output fact output marks) (e ∙ sym (output-length fact output marks)))
     (any-output labels this fact output marks e)
 
--- a label is never told where no label equal to it is marked
+-- a label is never reported if no label equal to it is marked
 never-marked : (known : List Possible) (flat : Flat) (face : Face) (this : Label)
     → not (any_marked face.labels (loud_of known flat face) this) ≡ is_never_reported known flat face this
 never-marked known flat face this =

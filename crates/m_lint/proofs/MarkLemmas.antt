@@ -1,4 +1,4 @@
--- The marks of cells that are read: by runs, then swept, and without those that have definitions.
+-- The marks of cells that are read: by runs, then swept, then without those that have definitions.
 use Rattle.std.proofs.Common.{◌≡◌, ℕ, zero, suc, ◌+◌, ◌<◌, ◌≤◌, max, Bool, true, false, ltb, eqb, List, [], ◌∷◌, length, get_or, map, replicate, All, Result}
 use Rattle.std.proofs.Common.{Ok, Err, refl, ap, sym, ◌∙◌, inl, inr, arith}
 use Rattle.std.specs.Prelude.{◌||◌, IfOk}
@@ -74,7 +74,7 @@ or-assoc : (a b c : Bool) → ((a || b) || c) ≡ (a || (b || c))
 or-assoc true b c = refl
 or-assoc false b c = refl
 
--- a run more has its cells
+-- one more run adds its cells
 covers-raised : (first : ℕ) (reach : List ℕ) (i count c : ℕ) → i < length reach
     → covers first (raised reach i count) c ≡ (covers first reach c || is_in_run (first + i) count c)
 covers-raised first [] i count c h = absurd (omega (arith, h))
@@ -108,7 +108,7 @@ covers-picked (Fixed w) first size v reach c e h = or-none (covers 0 reach c)
 from-none : (first c : ℕ) → is_in_run first 0 c ≡ false
 from-none first c = grind (arith, nat_tests)
 
--- a table whose cells are there, if it has any
+-- a table of existing cells, if it has any
 covers-table : (first size : ℕ) (reach : List ℕ) (c : ℕ) → first + size ≤ length reach
     → covers 0 (raised reach first size) c ≡ (covers 0 reach c || is_in_run first size c)
 covers-table first size reach c h = elim (cases_lt first (length reach)) [ inl low ↦ at reach first size c low | inr high ↦ past high ]
@@ -127,12 +127,12 @@ covers-pick first size (pick g s i) reach c h = covers-table first size reach c 
 covers-pick first size (apply o all) reach c h = covers-table first size reach c h
 covers-pick first size (chain a ss) reach c h = covers-table first size reach c h
 
--- two reads, one after the other
+-- two reads in sequence
 then-read : (now before after first second : Bool) → now ≡ (before || second) → before ≡ (after || first) → now ≡ (after || (first || second))
 then-read now before after first second e f = e ∙ ap (λ b. b || second) f ∙ or-assoc after first second
 
 mutual
-  -- after a term those cells are in runs that were so, and those that it reads
+  -- after a term the runs contain the cells that they contained, and those that it reads
   covers-term : (t : Tree) (reach : List ℕ) (c : ℕ) → IsWithin (length reach) t → covers 0 (reach_of t reach) c ≡ (covers 0 reach c || term_reads t c)
   covers-term (lit v) reach c h = or-none (covers 0 reach c)
   covers-term (cell d) reach c h = at reach d 1 c h ∙ ap (λ b. covers 0 reach c || b) (from-one d c)
@@ -169,7 +169,7 @@ none-covered : (first n c : ℕ) → covers first (replicate n 0) c ≡ false
 none-covered first zero c = refl
 none-covered first (suc n) c = ap (λ b. b || covers (first + 1) (replicate n 0) c) (from-none first c) ∙ none-covered (first + 1) n c
 
--- two lists of terms, from no runs on: those cells are in runs that they read
+-- two lists of terms, starting without runs: the runs contain the cells that they read
 pub covers-both : (n : ℕ) (ts us : List Tree) (c : ℕ) → AllByRecursion (IsWithin n) ts → AllByRecursion (IsWithin n) us
     → covers 0 (reach_of_terms us (reach_of_terms ts (replicate n 0))) c ≡ (are_read ts c || are_read us c)
 covers-both n ts us c h k =
@@ -191,7 +191,7 @@ from-later first n (m ∷ ns) c h = ap (λ b. b || covers (first + 1) ns c) (low
     low : (first m c : ℕ) → c < first → is_in_run first m c ≡ false
     low first m c h = grind (arith, nat_tests)
 
--- a cell is swept where it is before the end of earlier runs, or in a run from here on
+-- a cell is swept if it precedes the end of earlier runs, or a run from here on contains it
 swept-at : (first until : ℕ) (ns : List ℕ) (i c : ℕ) → i < length ns → c ≡ first + i
     → get_or (swept first until ns) i false ≡ (ltb c until || covers first ns c)
 swept-at first until [] i c h e = absurd (omega (arith, h))

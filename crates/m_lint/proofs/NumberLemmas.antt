@@ -1,4 +1,4 @@
--- The numbers below a count that pass a test, one after another.
+-- The numbers below a count that pass a test, in order.
 use Rattle.std.proofs.Common.{◌≡◌, ℕ, zero, suc, ◌+◌, ◌<◌, Bool, true, false, cond, List, [], ◌∷◌, ◌++◌, map, Result, refl, ap, sym, subst, ◌∙◌, append_assoc}
 use Rattle.std.proofs.Common.{append-nil, arith}
 use Rattle.std.specs.Prelude.{filter, IfOk, OnOk}
@@ -17,11 +17,11 @@ from-more test first (suc n) last e =
     by true whole front one h = ap (λ xs. first ∷ xs) h
     by false whole front one h = h
 
--- one number more
+-- one more number
 pub numbers-more : (test : ℕ → Bool) (n : ℕ) → numbers_with test (n + 1) ≡ numbers_with test n ++ cond (test n) (n ∷ []) []
 numbers-more test n = let next : n + 1 ≡ suc n = omega arith in ap (numbers_with test) next ∙ from-more test 0 n n (omega arith)
 
--- a number that passes is taken, and another isn't
+-- a number is appended if it passes
 pub numbers-next : (test : ℕ → Bool) (items more : List ℕ) (n : ℕ) (taken : Bool) → items ≡ numbers_with test n → taken ≡ test n
     → more ≡ items ++ cond taken (n ∷ []) [] → more ≡ numbers_with test (n + 1)
 numbers-next test items more n taken h same e = e ∙ ap (λ xs. xs ++ cond taken (n ∷ []) []) h ∙ ap (λ b. numbers_with test n ++ cond b (n ∷ []) []) same
@@ -31,7 +31,7 @@ map-append : (K : ℕ → Finding) (xs ys : List ℕ) → map K (xs ++ ys) ≡ m
 map-append K [] ys = refl
 map-append K (x ∷ xs) ys = ap (λ rest. K x ∷ rest) (map-append K xs ys)
 
--- a number that passes is found, and another isn't
+-- a finding is appended if its number passes
 pub found-next : (K : ℕ → Finding) (test : ℕ → Bool) (old items more : List Finding) (n : ℕ) (found : Bool) → items ≡ old ++ map K (numbers_with test n)
     → found ≡ test n → more ≡ items ++ cond found (K n ∷ []) [] → more ≡ old ++ map K (numbers_with test (n + 1))
 found-next K test old items more n found h same e = by found same e
@@ -60,7 +60,7 @@ pub numbers-found : {R E : Type 0} (result : Result R E) (items : R → List ℕ
     → IfOk result (λ r. items r ≡ numbers_with f n) → IfOk result (λ r. items r ≡ numbers_with g n)
 numbers-found result items f g n same h = subst (λ numbers. IfOk result (λ r. items r ≡ numbers)) (numbers-same f g n same) h
 
--- and so the same is found
+-- so the findings are the same
 pub found-same : {R E : Type 0} (result : Result R E) (K : ℕ → Finding) (old new : List Finding) (f g : ℕ → Bool) (n m : ℕ) → n ≡ m
     → ((k : ℕ) → k < n → f k ≡ g k)
     → OnOk result (new ≡ old ++ map K (numbers_with f n)) → OnOk result (new ≡ old ++ map K (numbers_with g m))

@@ -1,4 +1,4 @@
--- The lines of findings in parts.
+-- The text of findings in parts.
 use Rattle.std.proofs.Common.{◌≡◌, ℕ, zero, suc, ◌+◌, ◌-◌, ◌<◌, List, [], ◌∷◌, ◌++◌, length, get_or, drop, Option, None, Some, Result, slice_get, ap, sym}
 use Rattle.std.proofs.Common.{subst, ◌∙◌, append_assoc, arith}
 use Rattle.std.specs.Prelude.{codes}
@@ -14,14 +14,14 @@ use Rattle.m_lint.specs.declared.finding.Finding.{Finding}
 use Rattle.m_lint.specs.Findings.{IsWithinCounts, AreWithinCounts}
 use Rattle.m_lint.specs.Lines.{cell_line, input_line, own_code, input_code, finding_line, findings_text}
 
--- from a position on the text begins with the line that stands there
+-- from a position on the text begins with the line there
 pub text-at : (declared : Declared) (base : Base) (findings : List Finding) (i : ℕ) (finding d : Finding) → i < length findings → finding ≡ get_or findings i d
     → findings_text declared base (drop i findings) ≡ finding_line declared base finding ++ findings_text declared base (drop (i + 1) findings)
 text-at declared base findings i finding d low is =
     ap (findings_text declared base) (drop_more findings i d low)
     ∙ ap (λ (f : Finding). finding_line declared base f ++ findings_text declared base (drop (i + 1) findings)) (sym is)
 
--- each finding is within the counts where all are
+-- each finding is within the counts if all are
 pub within-at : (cells checks inputs : ℕ) (findings : List Finding) (i : ℕ) (d : Finding) → i < length findings → AreWithinCounts cells checks inputs findings
     → IsWithinCounts cells checks inputs (get_or findings i d)
 within-at cells checks inputs [] i d low h = absurd (omega (arith, low))
@@ -51,7 +51,7 @@ index-line name digits text e =
     ∙ ap (λ rest. codes "never defined " ++ rest) (ap (λ rest. name ++ (91 ∷ rest)) (sym (append_assoc text (93 ∷ []) (10 ∷ [])))
     ∙ sym (append_assoc name (91 ∷ (text ++ (93 ∷ []))) (10 ∷ [])))
 
--- the same is given under another name
+-- a contract on the printed text holds of an equal text
 pub gives-text : {S T E : Type 0} (written : S → Option (List ℕ)) (faults : S → ℕ) (old new : S) (result : Result T E) (text other : List ℕ) → text ≡ other
     → Gives written faults old new result text → Gives written faults old new result other
 gives-text written faults old new result text other e given = subst (λ t. Gives written faults old new result t) e given

@@ -1,4 +1,4 @@
--- The test whether a cell is read says what it is to be read.
+-- The test whether a cell is read agrees with the relation.
 use Rattle.std.proofs.Common.{◌≡◌, ℕ, zero, suc, ◌<◌, true, false, eqb, List, [], ◌∷◌, length, get_or, map, None, refl, ◌⊎◌, inl, inr, arith}
 use Rattle.std.proofs.lemmas.Bool.{or_cases, or_left, or_right, or_parts}
 use Rattle.micro_m.specs.Trees.{Tree}

@@ -1,4 +1,4 @@
--- Marks after some are set or taken away.
+-- Marks after some are set or cleared.
 use Rattle.std.proofs.Common.{◌≡◌, ℕ, zero, suc, ◌<◌, Bool, true, false, eqb, List, [], ◌∷◌, length, get_or, set, map, replicate, All, refl, ap, sym, ◌∙◌}
 use Rattle.std.proofs.Common.{arith}
 use Rattle.std.specs.Prelude.{◌||◌, ◌&&◌, not}
@@ -58,7 +58,7 @@ set-true (m ∷ ms) zero (suc c) h = ap (λ b. b || get_or ms c false) (sym (ne_
 set-true (m ∷ ms) (suc n) zero h = ap (λ b. b || m) (sym (ne_eqb 0 (suc n) (λ e. omega (arith, e))))
 set-true (m ∷ ms) (suc n) (suc c) h = set-true ms n c (omega (arith, h)) ∙ ap (λ b. b || get_or ms c false) (same-next c n)
 
--- the inputs that a node is are marked
+-- the inputs that nodes read are marked
 pub used-at : (nodes : List Node) (marks : List Bool) (c : ℕ) → c < length marks
     → get_or (with_inputs nodes marks) c false ≡ (get_or marks c false || list_any (is_input_node c) nodes)
 used-at [] marks c h = by (get_or marks c false)
@@ -78,13 +78,13 @@ used-at (Input n ∷ nodes) marks c h =
 used-at (Lit v ∷ nodes) marks c h = used-at nodes marks c h
 used-at (Do op x y z ∷ nodes) marks c h = used-at nodes marks c h
 
--- cells that have definitions are below a count where the targets are
+-- defined cells are below a count if the targets are
 pub targets-low : (n : ℕ) (ds : List Definition) → All (λ c. c < n) (map (λ d. d.0) ds) → All (λ d. d.0 < n) ds
 targets-low n [] h k d l = absurd (omega (arith, l))
 targets-low n (x ∷ ds) h zero d l = h 0 0 (omega arith)
 targets-low n (x ∷ ds) h (suc k) d l = targets-low n ds (λ j e low. h (suc j) e (omega (arith, low))) k d (omega (arith, l))
 
--- a cell that is read and has no definition, and isn't given, is never defined
+-- a cell that is read, has no definition, and isn't given is never defined
 pub never-defined : (declared : Declared) (base : Base) (c : ℕ) (mark : Bool) → mark ≡ (is_read base c && not (is_among c (targets_of base)))
     → (mark && not (is_given declared c)) ≡ is_never_defined declared base c
 never-defined declared base c mark e = ap (λ b. b && not (is_given declared c)) e ∙ by (is_read base c) (is_among c (targets_of base)) (is_given declared c)

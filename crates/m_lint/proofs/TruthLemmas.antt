@@ -49,7 +49,7 @@ use Rattle.m_lint.specs.Truths.{ReportsEnding, IsNeverDefined, IsNeverStopping, 
 use Rattle.m_lint.proofs.CodeLemmas.{label-itself}
 use Rattle.m_lint.proofs.ReadLemmas.{read-is, no-definition}
 
--- ---- values that inputs may have are those that programs are asked for
+-- ---- the values that inputs may have are values that programs take
 
 plain-value : (kind : InputType) (value : Value) → IsValueOf kind value → IsPlain value
 plain-value kind Undef h = record { amount = tt; bounded = λ e. cc }
@@ -75,7 +75,7 @@ defined-true declared base c e =
           (not-true (is_among c (targets_of base)) k.1);
     }
 
--- ---- what is quiet is 0
+-- ---- a quiet value is 0
 
 quiet-zero : (f : Possible) (z : ℤ) → is_quiet f ≡ true → Holds f (Num z) → is_zero z ≡ true
 quiet-zero f z e h = by f.range (not-true (may_be_other f.range) e) h
@@ -96,13 +96,13 @@ one-other z e h =
 
 -- ---- silent checks don't stop
 
--- where the guard is quiet
+-- if the guard is quiet
 guard-stops : (f : Possible) (v : Value) → is_quiet f ≡ true → Holds f v → is_one v ≡ true → ⊥
 guard-stops f Undef e h is = cc is
 guard-stops f (Num z) e h is = one-other z is (quiet-zero f z e h)
 guard-stops f Over e h is = cc is
 
--- where the condition isn't over, and is quiet or looked at for over only
+-- if the condition isn't over, and is quiet or checked for over only
 condition-stops : (f : Possible) (v : Value) (over_only : Bool) (number : ℕ) (stop : Stop) → f.over ≡ false → (is_quiet f ≡ true) ⊎ (over_only ≡ true)
     → Holds f v → stop_of over_only number v ≡ Some stop → ⊥
 condition-stops f Undef over_only number stop o q h e = cc e
@@ -114,7 +114,7 @@ condition-stops f (Num z) over_only number stop o (inl q) h e = by over_only (rw
 condition-stops f (Num z) over_only number stop o (inr q) h e = cc (rw q at e)
 condition-stops f Over over_only number stop o q h e = both_ways f.over o h
 
--- one that has a stop is not silent, and the stop has its label
+-- a check that stops isn't silent, and the stop has its label
 silent-stops : (guard condition : Possible) (v w : Value) (over_only : Bool) (number : ℕ) (stop : Stop) → Holds guard v → Holds condition w
     → cond (is_one v) (stop_of over_only number w) None ≡ Some stop → is_silent_by guard condition over_only ≡ true → ⊥
 silent-stops guard condition v w over_only number stop h k e s = by (is_one v) refl e
@@ -145,7 +145,7 @@ stop-number over_only number true (Num z) stop e = by (over_only || is_zero z) e
     by false e = let is : stop ≡ Failed number = cc in ap label_number is
 stop-number over_only number true Over stop e = let is : stop ≡ OverStop number = cc in ap label_number is
 
--- the facts of so many nodes hold of their values
+-- the facts of the first nodes hold of their values
 abbrev pub HoldAll : ℕ → List Possible → List Value → Type 0
 HoldAll count known vs = (p : ℕ) → p < count → Holds (fact_at known p) (value_at vs p)
 
@@ -174,7 +174,7 @@ no-stop labels this known vs count (check ∷ checks) stop valid holds silent e 
     by rest None is e = rest e
     by rest (Some other) is e = here (is ∙ e) (or_cases (not (has_label labels this check.label)) (is_silent known check) parts.0)
 
--- ---- silent notes aren't told
+-- ---- silent notes aren't reported
 
 reported-zero : (f : Possible) (v : Value) → is_quiet f ≡ true → Holds f v → is_reported v ≡ true → ⊥
 reported-zero f Undef q h e = cc e
@@ -186,7 +186,7 @@ named-none [] e = refl
 named-none (Named name ∷ outputs) e = named-none outputs e
 named-none (Noted number ∷ outputs) e = cc e
 
--- a note that is told has its label
+-- a note that is reported has its label
 reported-label : (labels : List FaceLabel) (this : Label) (number : ℕ) (v : Value) → reported_note labels number v ≡ Some this
     → (is_reported v ≡ true) × (has_label labels this number ≡ true)
 reported-label labels this number v e = by (is_reported v) refl e
@@ -236,7 +236,7 @@ no-note labels this known vs count (Noted number ∷ outputs) (p ∷ ps) first l
 
 -- ---- checks that never stop
 
--- what a stop tells is the label with its number
+-- the label of a stop is the one with its number
 cause-label : (stop : Stop) (l : FaceLabel) (this : Label) (labels : List FaceLabel) → slice_get labels (label_number stop) ≡ Some l
     → ReportsEnding (stopped (cause_of stop l)) this → has_label labels this (label_number stop) ≡ true
 cause-label stop (DriverLine line) this labels e (inl h) = cc h
@@ -248,7 +248,7 @@ cause-label (OverStop n) (Verif label) this labels e (inl h) = cc h
 cause-label (OverStop n) (Verif label) this labels e (inr h) = let is : label ≡ this = cc in ap
     (λ o. option_map_or (is_same_label this) (option_and_then verif_of o) false) (e ∙ ap (λ (x : Label). Some (Verif x)) is) ∙ label-itself this
 
--- what is told of a run in which the label is silent doesn't tell it
+-- the observation of a run in which the label is silent doesn't report it
 pub never-reported : (known : List Possible) (flat : Flat) (face : Face) (this : Label) (vs : List Value) (reported : Observation) → IsFlat flat
     → HoldAll (length flat.nodes) known vs → is_never_reported known flat face this ≡ true
     → observation face.labels (notes_of face.outputs) (answer_by vs flat) ≡ Some reported → ReportsEnding reported this → ⊥
@@ -277,7 +277,7 @@ abbrev ReportsAll : Flat → Face → (List Value → Observation) → Type 0
 ReportsAll flat face observe = (given : List Value) → AreValuesOf face.inputs given
     → observation face.labels (notes_of face.outputs) (flat_run flat given) ≡ Some (observe given)
 
--- the label of a check that never stops is never told
+-- the label of a check that never stops is never reported
 pub label-silent : (known : List Possible) (base : Base) (flat : Flat) (face : Face) (k : ℕ) (this : Label) → label_of_check base k ≡ Some this
     → is_never_stopping known base flat face k ≡ true → is_never_reported known flat face this ≡ true
 label-silent known base flat face k this is e = sym (ap (λ o. option_map_or (is_never_reported known flat face) o false) is) ∙ e

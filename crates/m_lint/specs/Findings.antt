@@ -1,4 +1,4 @@
--- What is found of a rule base, for all households.
+-- The findings about a rule base, for all households.
 use Rattle.std.specs.Prelude.{ℕ, ◌<◌, ◌==◌, Bool, true, false, not, ◌&&◌, ◌||◌, List, ◌∷◌, ◌++◌, length, map, filter, slice_get, Option}
 use Rattle.std.specs.List.{AllByRecursion, list_all, list_any, range_with_len}
 use Rattle.std.specs.Option.{option_map_or, option_and_then}
@@ -55,15 +55,15 @@ is_same_kind Discordance Discordance = true
 is_same_kind Informative Informative = true
 is_same_kind _ _ = false
 
--- equal labels: all that they print is equal
+-- equality of labels: all that they print is equal
 abbrev pub is_same_label : Label → Label → Bool
 is_same_label a b = bytes_eq a.verif b.verif && bytes_eq a.error b.error && is_same_kind a.kind b.kind && bytes_eq a.text b.text
 
--- whether the face's label with this number is a verification's that equals this one
+-- whether the face's label with this number is a verification's and equal to this one
 abbrev pub has_label : List FaceLabel → Label → ℕ → Bool
 has_label labels label number = option_map_or (is_same_label label) (verif_at labels number) false
 
--- the fact of the node with this number, where these are the facts of all nodes
+-- the fact of the node with this number, given the facts of all nodes
 abbrev pub fact_at : List Possible → ℕ → Possible
 fact_at known p = entry facts known p
 
@@ -71,8 +71,8 @@ fact_at known p = entry facts known p
 abbrev pub is_quiet : Possible → Bool
 is_quiet fact = not (may_be_other fact.range)
 
--- A silent check, where its guard and its condition have these facts: the guard is no number or only 0; or the condition isn't
--- over, and is no number or only 0; or the check looks for over only, and the condition isn't over.
+-- A silent check, by the facts of its guard and its condition: the guard is quiet; or the condition
+-- is never over and quiet; or the check stops at over only, and the condition is never over.
 abbrev pub is_silent_by : Possible → Possible → Bool → Bool
 is_silent_by guard condition over_only = is_quiet guard || (not condition.over && is_quiet condition) || (over_only && not condition.over)
 
@@ -83,18 +83,21 @@ is_silent known check = is_silent_by (fact_at known check.guard) (fact_at known 
 abbrev pub checks_are_silent : List FaceLabel → Label → List Possible → List Check → Bool
 checks_are_silent labels label known checks = list_all (λ check. not (has_label labels label check.label) || is_silent known check) checks
 
--- whether an output, whose node has this fact, is no note with a label equal to this, or a note that is never told
+-- whether an output, whose node has this fact, is no note with a label equal to this, or a note
+-- that is never reported
 abbrev pub output_is_silent : List FaceLabel → Label → Possible → FaceOutput → Bool
 output_is_silent labels label fact (Named name) = true
 output_is_silent labels label fact (Noted number) = not (has_label labels label number) || is_quiet fact
 
--- whether all notes of a program with a label equal to this are never told, where these are the nodes of the outputs
+-- whether all notes of a program with a label equal to this are never reported, where these are the
+-- nodes of the outputs
 abbrev pub notes_are_silent : List FaceLabel → Label → List Possible → List FaceOutput → List ℕ → Bool
 notes_are_silent labels label known (output ∷ outputs) (p ∷ ps) =
     output_is_silent labels label (fact_at known p) output && notes_are_silent labels label known outputs ps
 notes_are_silent labels label known _ _ = true
 
--- whether a label is never told, where the nodes have these facts: all checks and notes with a label equal to it are silent
+-- whether a label is never reported, where the nodes have these facts: all checks and notes with an
+-- equal label are silent
 abbrev pub is_never_reported : List Possible → Flat → Face → Label → Bool
 is_never_reported known flat face label =
     checks_are_silent face.labels label known flat.checks && notes_are_silent face.labels label known face.outputs flat.outputs
@@ -103,7 +106,7 @@ is_never_reported known flat face label =
 abbrev pub label_of_check : Base → ℕ → Option Label
 label_of_check base k = option_and_then (λ check. slice_get base.labels check.1) (slice_get base.checks k)
 
--- a check of the base whose label is never told, where the nodes have these facts
+-- a check of the base whose label is never reported, where the nodes have these facts
 abbrev pub is_never_stopping : List Possible → Base → Flat → Face → ℕ → Bool
 is_never_stopping known base flat face k = option_map_or (is_never_reported known flat face) (label_of_check base k) false
 
@@ -111,21 +114,21 @@ is_never_stopping known base flat face k = option_map_or (is_never_reported know
 abbrev pub never_stopping : List Possible → Base → Flat → Face → List ℕ
 never_stopping known base flat face = numbers_with (is_never_stopping known base flat face) (length base.checks)
 
--- ---- inputs that are not used
+-- ---- inputs that aren't used
 
 abbrev pub is_input_node : ℕ → Node → Bool
 is_input_node n (Input m) = n == m
 is_input_node n (Lit v) = false
 is_input_node n (Do op a b c) = false
 
--- an input that no node of the program is
+-- an input that no node of the program reads
 abbrev pub is_unused : Flat → ℕ → Bool
 is_unused flat n = not (list_any (is_input_node n) flat.nodes)
 
 -- ---- findings
 
--- What is found: each cell that is read and never defined, each check that never stops and is never noted, and each input that isn't
--- used, in this order, and by number.
+-- The findings, in this order, each kind by number: the cells that are read and never defined, the
+-- checks that never stop and are never noted, and the inputs that aren't used.
 abbrev pub findings_of : Declared → Base → Flat → Face → List Finding
 findings_of declared base flat face =
     map NeverDefined (numbers_with (is_never_defined declared base) base.cells)

@@ -27,7 +27,7 @@ input_line code = joined (codes "unused input " ∷ code ∷ new_line ∷ [])
 abbrev pub stops_line : Base → ℕ → List ℕ
 stops_line base k = option_map_or check_line (label_of_check base k) []
 
--- the variable that is an input, and its code
+-- the variable of an input, and its code
 abbrev pub input_of : Declared → ℕ → Option Variable
 input_of declared n = slice_get declared.variables (slice_index_or (inputs_from 0 declared.variables) n 0)
 
@@ -37,7 +37,8 @@ own_code v = option_map_or (λ code. code) (code_of v) []
 abbrev pub input_code : Declared → ℕ → List ℕ
 input_code declared n = option_map_or own_code (input_of declared n) []
 
--- the line of a finding: a cell by its printed name, a check by its verification's number and its error's name, an input by its code
+-- the line of a finding: a cell by its printed name, a check by its verification's number and its
+-- error's name, an input by its code
 abbrev pub finding_line : Declared → Base → Finding → List ℕ
 finding_line declared base (NeverDefined c) = cell_line (cell_name declared c)
 finding_line declared base (NeverStops k) = stops_line base k

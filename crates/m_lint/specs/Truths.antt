@@ -1,4 +1,4 @@
--- When a finding is true: what it says holds of whatever households are told.
+-- When a finding is true, for every observation of a household.
 use Rattle.std.specs.Prelude.{◌≡◌, ◌≢◌, ℕ, ◌⊎◌, false, List, Contains, Some, None, slice_index_or}
 use Rattle.m_fixed.specs.declared.amount.Value.{Value}
 use Rattle.m_fixed.specs.declared.amount.Value.TheVariants.{Undef}
@@ -30,30 +30,30 @@ pub record IsNeverDefined (declared : Declared) (base : Base) (c : ℕ) : Type 0
 
 -- ---- a check that never stops
 
--- what is told names the label: as what ended the run, or among the notes
+-- the observation reports the label, as the cause of a stop or among the notes
 abbrev pub ReportsEnding : Observation → Label → Type 0
 ReportsEnding (stopped cause) label = (cause ≡ failed label) ⊎ (cause ≡ over label)
 ReportsEnding (values notes vs) label = Contains notes label
 
--- Whatever values the inputs have, the check's label isn't told.
+-- Whatever values the inputs have, the check's label isn't reported.
 abbrev pub IsNeverStopping : Base → List Coded → (List Value → Observation) → ℕ → Type 0
 IsNeverStopping base inputs observe k =
     (label : Label) → label_of_check base k ≡ Some label → (given : List Value) → AreValuesOf inputs given → ReportsEnding (observe given) label → ⊥
 
 -- ---- an input that isn't used
 
--- the lists have the same values but for the one with this number
+-- the lists differ at most in the value with this number
 abbrev pub AreEqualBut : ℕ → List Value → List Value → Type 0
 AreEqualBut n given other = (m : ℕ) → m ≢ n → slice_index_or given m Undef ≡ slice_index_or other m Undef
 
--- Whatever values the inputs have, another value of this one changes nothing that is told.
+-- Whatever values the inputs have, another value of this one doesn't change the observation.
 abbrev pub IsUnused : List Coded → (List Value → Observation) → ℕ → Type 0
 IsUnused inputs observe n =
     (given other : List Value) → AreValuesOf inputs given → AreValuesOf inputs other → AreEqualBut n given other → observe given ≡ observe other
 
 -- ---- findings
 
--- A finding is true of the rules that are declared and of what is told to households, whose inputs are these.
+-- A finding is true of the declared rules and of the observations of households, with these inputs.
 abbrev pub IsTrueFinding : Declared → Base → List Coded → (List Value → Observation) → Finding → Type 0
 IsTrueFinding declared base inputs observe (NeverDefined c) = IsNeverDefined declared base c
 IsTrueFinding declared base inputs observe (NeverStops k) = IsNeverStopping base inputs observe k

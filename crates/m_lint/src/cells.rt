@@ -17,7 +17,7 @@ use m_symbols::{Symbols, Variable};
 use micro_m::{Base, MTerm};
 use std::alloc::{AllocError, Global};
 
-/// Adds the cells that are read, belong to no input or constant, and have no definition.
+/// Appends the cells that are read, belong to no input or constant, and have no definition.
 pub(crate) fn add_never_defined(
     alloc: Global,
     base: &Base,
@@ -53,7 +53,7 @@ fn without_defined(definitions: &[(u32, MTerm, Place)], marks: Vec<bool>) -> Vec
     left
 }
 
-// Takes the marks of the cells that have definitions away.
+// Clears the marks of the cells that have definitions.
 fn clear_defined(definitions: &[(u32, MTerm, Place)], marks: &mut [bool])
     requires { All (λ d. d.0 < length marks.old) definitions.now }
     ensures { marks.new ≡ cleared definitions.now marks.old }
@@ -63,7 +63,7 @@ fn clear_defined(definitions: &[(u32, MTerm, Place)], marks: &mut [bool])
     }
 }
 
-// Adds the marked cells that belong to no input or constant.
+// Appends the marked cells that belong to no input or constant.
 fn add_marked(
     marks: &[bool],
     symbols: &Symbols,

@@ -21,8 +21,8 @@ use micro_m::Base;
 use observables::Face;
 use std::alloc::{AllocError, Global};
 
-/// The checks of a base whose labels are never told, by number and in order, where the nodes of the program have these facts. Its only
-/// error is running out of memory.
+/// The checks of a base whose labels are never reported, by number and in order, where the nodes of
+/// the program have these facts. Its only error is running out of memory.
 pub fn never_stopping(
     alloc: Global,
     known: &[Fact],
@@ -85,7 +85,7 @@ fn is_unmarked(
     }
 }
 
-/// Adds the checks of a base whose labels are never told, whatever the inputs are.
+/// Appends the checks of a base whose labels are never reported, whatever the inputs are.
 pub(crate) fn add_never_stopping(
     alloc: Global,
     base: &Base,

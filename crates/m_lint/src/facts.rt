@@ -1,4 +1,4 @@
-//! What is known of the nodes of a program, and which of its checks are silent.
+//! Facts about the nodes of a program, and its silent checks.
 
 ghost use Rattle.std.specs.Prelude.{◌≡◌, IfOk, length, slice_index_or};
 ghost use Rattle.definedness.specs.Facts.{fact_of_input};
@@ -10,8 +10,8 @@ use definedness::{Fact, fact_of, fact_of_input, fact_of_value};
 use flat_code::{Check, Node};
 use std::alloc::{AllocError, Global};
 
-/// The facts of all nodes, in order, of a program with so many inputs, of which the first have these facts. An input past their end may
-/// be undefined or any amount. Its only error is running out of memory.
+/// The facts of all nodes, in order, of a program with `inputs` inputs, the first of which have the
+/// given facts; any other may be undefined or any amount. Its only error is running out of memory.
 pub fn facts_of(
     alloc: Global,
     nodes: &[Node],
@@ -30,7 +30,7 @@ pub fn facts_of(
     Ok(known)
 }
 
-// The fact of a node, where the first inputs and the nodes before it have these.
+// The fact of a node, given those of the first inputs and of the nodes before it.
 fn fact_of_node(node: Node, inputs: u32, given: &[Fact], known: &[Fact]) -> Fact
     requires { IsNode inputs (length known.now) node }
     ensures { result ≡ entry_of (facts_with given.now) known.now node }
@@ -47,7 +47,7 @@ fn fact_of_node(node: Node, inputs: u32, given: &[Fact], known: &[Fact]) -> Fact
     }
 }
 
-// The fact of an input, where the first have these.
+// The fact of an input, given those of the first inputs.
 fn fact_of_given(n: u32, given: &[Fact]) -> Fact
     ensures { result ≡ slice_index_or given.now n fact_of_input }
 {
@@ -58,7 +58,7 @@ fn fact_of_given(n: u32, given: &[Fact]) -> Fact
     }
 }
 
-/// Whether a check neither stops a run nor can.
+/// Whether a check is silent: it can't stop a run.
 pub(crate) fn is_silent(known: &[Fact], check: Check) -> bool
     requires { IsCheck (length known.now) check }
     ensures { result ≡ is_silent known.now check }

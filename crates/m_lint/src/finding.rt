@@ -2,18 +2,20 @@ ghost use Rattle.std.specs.Prelude.{◌≡◌, ◌++◌, ◌∷◌, [], OnOk, if
 
 use std::alloc::AllocError;
 
-/// What is found of a rule base, for all households. The numbers are those of a cell, of a check of the base, and of an input.
+/// A finding about a rule base, true for all households. The number is that of a cell, of a check
+/// of the base, or of an input.
 #[derive(Clone, Copy, Debug, PartialEq, Eq)]
 pub enum Finding {
-    /// The cell is read and is neither an input nor a constant, and no definition has it: it is always undefined.
+    /// The cell is read, belongs to no input or constant, and has no definition: it is always
+    /// undefined.
     NeverDefined(u32),
     /// Whatever the inputs are, the check's label neither stops a run nor is noted.
     NeverStops(u32),
-    /// Whatever the inputs are, what is told doesn't depend on this one.
+    /// Whatever the inputs are, the observation doesn't depend on this one.
     Unused(u32),
 }
 
-/// Adds what is found, if it is so.
+/// Appends a finding if the test holds.
 pub(crate) fn add_if(
     is_so: bool,
     finding: Finding,

@@ -18,11 +18,11 @@ use micro_m::Base;
 use observables::Face;
 use std::alloc::{AllocError, Global};
 
-/// What is found of a base, where a program with this face is what it is compiled to: first each cell that is read and never defined,
-/// by number, then each check that never stops and is never noted, and then each input that isn't used. Its only error is running out of
-/// memory.
+/// The findings about a base, given the program that it compiles to, with its face: the cells that
+/// are read and never defined, then the checks that never stop and are never noted, then the inputs
+/// that aren't used, each by number. Its only error is running out of memory.
 ///
-/// It takes a step for each node, check, output and cell, and for each byte of the labels.
+/// The time is linear in the nodes, checks, outputs, cells and bytes of the labels.
 pub fn lint(
     alloc: Global,
     base: &Base,

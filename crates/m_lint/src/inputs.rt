@@ -1,4 +1,4 @@
-//! Inputs that are not used.
+//! Inputs that aren't used.
 
 ghost use Rattle.std.specs.Prelude.{◌≡◌, ◌++◌, false, not, IfOk, OnOk, length, map, replicate, slice_index_or};
 ghost use Rattle.flat_code.specs.Runs.{IsFlat, AreNodes};
@@ -11,7 +11,7 @@ use crate::finding::add_if;
 use flat_code::{Flat, Node};
 use std::alloc::{AllocError, Global};
 
-/// Adds the inputs that no node of the program is.
+/// Appends the inputs that no node of the program reads.
 pub(crate) fn add_unused(
     alloc: Global,
     flat: &Flat,
@@ -24,7 +24,7 @@ pub(crate) fn add_unused(
     add_unmarked(&marks, flat.inputs, findings)
 }
 
-// For each input whether a node is it.
+// For each input whether a node reads it.
 fn used_marks(alloc: Global, flat: &Flat) -> Result<Vec<bool>, AllocError>
     requires { IsFlat flat.now }
     ensures count { IfOk result (λ marks. length marks.items ≡ flat.now.inputs) }
@@ -35,7 +35,7 @@ fn used_marks(alloc: Global, flat: &Flat) -> Result<Vec<bool>, AllocError>
     Ok(marks)
 }
 
-// Marks the inputs that nodes are.
+// Marks the inputs that nodes read.
 fn mark_inputs(nodes: &[Node], marks: &mut [bool])
     requires { AreNodes (length marks.old) 0 nodes.now }
     ensures { marks.new ≡ with_inputs nodes.now marks.old }

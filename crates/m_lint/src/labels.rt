@@ -1,4 +1,4 @@
-//! The labels that may be told, by what they print.
+//! The labels that may be reported, by their text.
 
 ghost use Rattle.std.specs.Prelude.{◌≡◌, ◌++◌, [], IfOk, OnOk, length};
 ghost use Rattle.m_names.specs.Names.{has};
@@ -25,7 +25,7 @@ pub(crate) fn marked_labels(
     Ok(names)
 }
 
-// A key that is made of all labels, so that nobody can choose them to collide.
+// A hash key derived from all labels, so that no choice of labels makes them collide.
 fn key_of(labels: &[FaceLabel]) -> Key {
     let mut digest = NamesDigest::new();
     for label in labels {
@@ -73,7 +73,7 @@ pub(crate) fn has_text(alloc: Global, label: &Label, names: &Names) -> Result<bo
     Ok(names.find(&code).is_some())
 }
 
-// A label as one text.
+// The text that encodes a label.
 fn coded_label(alloc: Global, label: &Label) -> Result<Vec<u8>, AllocError>
     ensures { IfOk result (λ code. code.items ≡ coded_label label.now) }
 {
@@ -85,7 +85,7 @@ fn coded_label(alloc: Global, label: &Label) -> Result<Vec<u8>, AllocError>
     Ok(code)
 }
 
-// Adds a word so that its end is seen.
+// Appends a word, encoded so that its end is unambiguous.
 fn add_word(word: &[u8], code: &mut Vec<u8>) -> Result<(), AllocError>
     ensures { OnOk result (code.new.items ≡ code.old.items ++ coded_word word.now) }
 {

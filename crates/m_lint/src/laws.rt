@@ -17,15 +17,15 @@ ghost use Rattle.m_lint.specs.Readings.{conditions_of, is_read};
 ghost use Rattle.m_lint.specs.Findings.{findings_of};
 ghost use Rattle.m_lint.specs.Truths.{AreRead, IsTrueFinding};
 
-/// Each finding is true, whatever answers the program gives in the place of a source: where its run, read through its face, tells to
-/// each list of values of its inputs what `tells` does.
+/// Each finding is true of any observation function that the program implements: one that, for
+/// every list of input values, equals the program's run as read through its face.
 pub fn findings_are_true()
     ensures { (declared : Declared) (base : Base) (flat : Flat) (face : Face) (observe : List Value → Observation) → IsFlat flat → IsFaceOf face flat
         → ((given : List Value) → AreValuesOf face.inputs given → observation face.labels (notes_of face.outputs) (flat_run flat given) ≡ Some (observe given))
         → AllByRecursion (IsTrueFinding declared base face.inputs observe) (findings_of declared base flat face) }
 {}
 
-/// The test whether a cell is read says what it is to be read.
+/// The test whether a cell is read agrees with the relation.
 pub fn reads_agree()
     ensures sound { (base : Base) (c : ℕ) → is_read base c ≡ true → AreRead (terms_of base) c ⊎ AreRead (conditions_of base) c }
     ensures complete { (base : Base) (c : ℕ) → AreRead (terms_of base) c ⊎ AreRead (conditions_of base) c → is_read base c ≡ true }

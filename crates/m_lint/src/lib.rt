@@ -1,7 +1,10 @@
-//! What is found of a rule base, for all households: cells that are read and never defined, verifications that never stop a run and are
-//! never noted, and inputs that change nothing that is told. What never stops is also found where facts of the inputs are known.
+//! Findings about a rule base, true for all households: cells that are read and never defined,
+//! verifications that never stop a run and are never noted, and inputs without effect.
 //!
-//! This crate stands on the meaning of a base and on the tidy form of its program. It knows nothing of commands, files or source text.
+//! Uses the meaning of a base, and the tidy form of its program with facts about its nodes. Knows
+//! nothing of commands, files or source text.
+//!
+//! Checks that never stop are also found under given facts about the inputs.
 #![tactic(auto)]
 
 mod cells;

@@ -1,4 +1,4 @@
-//! The labels that may be told, by their numbers.
+//! The labels that may be reported, by number.
 
 ghost use Rattle.std.specs.Prelude.{◌≡◌, ◌<◌, IfOk, length};
 ghost use Rattle.std.specs.List.{AllByRecursion};
@@ -12,7 +12,8 @@ use flat_code::{Check, Flat};
 use observables::{Face, FaceOutput};
 use std::alloc::{AllocError, Global};
 
-/// For each label of a face whether a check or a note of it may be told, where the nodes have these facts.
+/// For each label of a face whether a check or a note with it may be reported, where the nodes have
+/// these facts.
 pub(crate) fn loud_marks(
     alloc: Global,
     known: &[Fact],
@@ -58,7 +59,7 @@ fn mark_notes(known: &[Fact], outputs: &[FaceOutput], nodes: &[u32], marks: &mut
     }
 }
 
-// Marks the label of a note that may be told.
+// Marks the label of a note that may be reported.
 fn mark_output(fact: Fact, output: &FaceOutput, marks: &mut [bool])
     ensures { marks.new ≡ with_output fact output.now marks.old }
 {

@@ -1,4 +1,4 @@
-//! Findings as lines.
+//! Prints findings.
 
 ghost use Rattle.std.specs.Prelude.{◌≡◌, Some, length, option_copied};
 ghost use Rattle.m_ports.specs.Giving.{Gives};
@@ -16,8 +16,9 @@ use m_ports::{Failed, Sink, give_pieces};
 use m_symbols::{Symbols, Variable};
 use micro_m::Base;
 
-/// Writes the lines of findings: `never defined IRN` by the cell's printed name, `never stops 2000 A20` by the label of the check, or
-/// `unused input 1AJ` by the input's code, each with its line feed. On a failure a prefix of the lines was appended. It takes no memory.
+/// Writes findings, one line each with its line feed: `never defined IRN` with the cell's printed
+/// name, `never stops 2000 A20` with the check's label, or `unused input 1AJ` with the input's
+/// code. On a failure a prefix of the text was appended. Takes no memory.
 pub fn print_findings<K: Sink>(
     symbols: &Symbols,
     base: &Base,
@@ -75,8 +76,8 @@ fn print_index<K: Sink>(name: &[u8], k: u32, out: &mut K) -> Result<(), Failed>
     give_pieces(out, &[b"never defined ", name, b"[", digits, b"]\n"])
 }
 
-/// Writes the line of the check of a base with this number, as `never stops 2000 A20`, with its line feed. On a failure a prefix of the
-/// line was appended. It takes no memory.
+/// Writes the line of the base's check with this number, such as `never stops 2000 A20`, with its
+/// line feed. On a failure a prefix of the line was appended. Takes no memory.
 pub fn print_check<K: Sink>(base: &Base, k: u32, out: &mut K) -> Result<(), Failed>
     ensures { Gives K.written K.faults out.old out.new result (stops_line base.now k) }
 {

@@ -1,4 +1,4 @@
-//! Marks of the cells that rules read.
+//! Marks the cells that rules read.
 
 ghost use Rattle.std.specs.Prelude.{◌≡◌, ◌<◌, ℕ, false, IfOk, length, map, max, replicate, slice_index_or};
 ghost use Rattle.micro_m.specs.Bases.{IsValidBase, terms_of};
@@ -10,8 +10,8 @@ use m_places::Place;
 use micro_m::{Base, MNode, MTerm, Picked, Step, pick};
 use std::alloc::{AllocError, Global};
 
-/// For each cell whether a definition or a check's condition reads it. A table that is read at an index takes one step, however
-/// many cells it has.
+/// For each cell whether a definition or a check's condition reads it. A table read at a computed
+/// index takes one step, whatever the table's size.
 pub(crate) fn read_marks(alloc: Global, base: &Base) -> Result<Vec<bool>, AllocError>
     requires { IsValidBase base.now }
     ensures count { IfOk result (λ marks. length marks.items ≡ base.now.cells) }
@@ -21,7 +21,7 @@ pub(crate) fn read_marks(alloc: Global, base: &Base) -> Result<Vec<bool>, AllocE
     sweep(alloc, &reach)
 }
 
-// For each cell the length of the longest run that is read from it on.
+// For each cell the length of the longest run of cells that is read from it on.
 fn reach_of_base(alloc: Global, base: &Base) -> Result<Vec<u32>, AllocError>
     ensures { IfOk result (λ reach. reach.items ≡ reach_of_terms (conditions_of base.now) (reach_of_terms (terms_of base.now) (replicate base.now.cells 0))) }
 {
@@ -47,7 +47,7 @@ fn read_conditions(checks: &[(MTerm, u32, Place)], reach: &mut [u32])
     }
 }
 
-// Raises the runs that a term reads.
+// Adds the runs that a term reads.
 #[cycle(reads)]
 fn read_term(term: &MTerm, reach: &mut [u32])
     ensures { reach.new ≡ reach_of term.now reach.old }
@@ -85,7 +85,8 @@ fn read_along(steps: &[Step], reach: &mut [u32])
     }
 }
 
-// Raises what a table read reads of its table: at a literal the one cell that it comes to, if it comes to one, and else all cells.
+// Adds the runs that a table read reads: at a literal index the selected cell, if there is one, and
+// else all cells of the table.
 fn read_pick(first: u32, size: u32, index: &MTerm, reach: &mut [u32])
     ensures { reach.new ≡ reach_of_pick first size index.now reach.old }
 {
@@ -107,7 +108,7 @@ fn read_picked(picked: Picked, reach: &mut [u32])
     }
 }
 
-// The longest run from this cell on has at least so many cells.
+// Makes the longest run from a cell on at least `count` long.
 fn raise(reach: &mut [u32], first: usize, count: u32)
     ensures { reach.new ≡ raised reach.old first count }
 {
@@ -116,7 +117,7 @@ fn raise(reach: &mut [u32], first: usize, count: u32)
     }
 }
 
-// For each cell whether a run has it.
+// For each cell whether a run contains it.
 fn sweep(alloc: Global, reach: &[u32]) -> Result<Vec<bool>, AllocError>
     ensures { IfOk result (λ marks. marks.items ≡ swept 0 0 reach.now) }
 {

@@ -1,4 +1,4 @@
--- The calls of functions are what the cells of their base read.
+-- The calls of functions are the reads of their base.
 use Rattle.std.proofs.Common.{◌≡◌, ◌≤◌, ◌<◌, ◌+◌, ℕ, zero, suc, Bool, true, false, cond, inl, inr, ◌⊎◌, eqb, List, [], ◌∷◌, ◌++◌, length, map, get_or, All}
 use Rattle.std.proofs.Common.{Option, None, Some, refl, sym, ap, ◌∙◌, subst, arith, slice_get}
 use mathlib.Core.Bool.{◌||◌}
@@ -27,7 +27,7 @@ moved : {A B C : Type 0} → B ⊎ C → (A ⊎ B) ⊎ C
 moved (inl b) = inl (inr b)
 moved (inr c) = inr c
 
--- what steps one after the other read, the first or the second reads
+-- what concatenated steps read, the first or the second read
 either_reads : (first second : List Step) (g : ℕ) → StepsRead (steps_of (first ++ second)) g → StepsRead (steps_of first) g ⊎ StepsRead (steps_of second) g
 either_reads [] second g k = inr k
 either_reads (s ∷ first) second g (inl k) = inl (inl k)
@@ -129,12 +129,12 @@ calls_lead : (core : Core) (f : ℕ) (gs : List ℕ) (last : ℕ) → CallsLeadT
 calls_lead core f [] last k = calls_read core f last k
 calls_lead core f (g ∷ gs) last k = (calls_read core f g k.0, calls_lead core g gs last k.1)
 
--- a base of calls without a cycle has functions without a ring
+-- if a base of calls has no cycle, the functions have none
 pub no_ring : (core : Core) → HasNoCycle (calls_base core.bodies) → HasNoRing core
 no_ring core h [] r = r
 no_ring core h (f ∷ fs) r = h (f ∷ fs) (r.0, calls_lead core f fs f r.1)
 
--- a cycle of a base of calls is a ring
+-- a cycle of a base of calls is a cycle of calls
 pub is_ring : (core : Core) (fs : List ℕ) → IsCycle (calls_base core.bodies) fs → IsRing core fs
 is_ring core [] c = c
 is_ring core (f ∷ fs) c = (c.0, reads_lead core f fs f c.1)
@@ -184,7 +184,7 @@ valid_base core h = record {
 
 -- ---- sizes
 
--- what stands in a list is no greater than the list
+-- an element of a list is no larger than the list
 pub command_size : (all : List Action) (i : ℕ) (a : Action) → i < length all → a ≡ get_or all i a → action_nodes a ≤ nodes_of_block (block_of all)
 command_size [] i a h e = absurd (omega arith)
 command_size (b ∷ all) zero a h e = omega (arith, ap action_nodes e)

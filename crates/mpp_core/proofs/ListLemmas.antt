@@ -1,4 +1,4 @@
--- What stands in a list is no greater than the list.
+-- An element of a list is no larger than the list.
 use Rattle.std.proofs.Common.{◌≡◌, ◌≤◌, ◌<◌, ℕ, zero, suc, List, [], ◌∷◌, length, get_or, ap, arith}
 use Rattle.mpp_parser.specs.Trees.{Term, term_nodes, nodes_of_terms, nodes_of_links}
 use Rattle.mpp_parser.specs.TermView.{terms_of, links_of}

@@ -36,7 +36,7 @@ named_fits d name count v p e c = let k = named_at d name v e in fits d k.0 coun
 pub named_sized : (d : Declared) (name : List ℕ) (v : Variable) → IsPlaced d → variable_named d name ≡ Some v → IfSome (variable_size v.item) (λ s. v.cells ≡ s)
 named_sized d name v p e = let k = named_at d name v e in table_sized d k.0 v p k.1
 
--- the cells of a kind are those of its values, after what is there
+-- the cells of a kind are those of its values, appended
 kind-by : (b : Bool) (cell : ℕ) (before rest : List ℕ) → cond b (before ++ cell ∷ []) before ++ rest ≡ before ++ (cond b (cell ∷ []) [] ++ rest)
 kind-by true cell before rest = append_assoc before (cell ∷ []) rest
 kind-by false cell before rest = refl
@@ -60,7 +60,7 @@ kind-ascends a values first (item ∷ items) =
     (cells_with a values (placed_from (first + variable_cells item) items))
     refl (kind-ascends a values (first + variable_cells item) items)
 
--- what an index gives of a kind
+-- the cells that an index has of a kind
 pub kind-is : (d : Declared) (index : KindIndex) (a : List ℕ) (values : List ℤ) → IsPlaced d → IsIndexOf d.variables index
     → ascending (groups_in index a values) ≡ kind_cells d (Attribute a values)
 kind-is d index a values p h =

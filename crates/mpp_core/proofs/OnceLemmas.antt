@@ -1,4 +1,4 @@
--- Cells in ascending order, each once.
+-- Cells in ascending order, without repetitions.
 use Rattle.std.proofs.Common.{◌≡◌, ◌<◌, ◌≤◌, ◌+◌, ℕ, zero, suc, inl, inr, ◌⊎◌, Bool, true, false, List, [], ◌∷◌, length, get_or, set, All, refl, sym, ap, ◌∙◌}
 use Rattle.std.proofs.Common.{subst, arith}
 use Rattle.std.specs.Prelude.{nat_lt, ◌==◌, if◌then◌else◌}
@@ -12,7 +12,7 @@ use Rattle.mpp_core.specs.Names.{with_cell, each_once}
 
 -- ---- a cell at its place
 
--- how a cell lies to another
+-- the order of two cells
 data Lies (c d : ℕ) : Type 0 where
   below : c < d → nat_lt c d ≡ true → Lies c d
   here : c ≡ d → nat_lt c d ≡ false → (c == d) ≡ true → Lies c d
@@ -79,7 +79,7 @@ rises-with : (c : ℕ) (ds : List ℕ) → Rises ds → Rises (with_cell c ds)
 rises-with c [] r = (tt, tt)
 rises-with c (d ∷ ds) r = rises-by c d ds r (rises-with c ds r.1) (lies c d)
 
--- a cell stands in the list, or is the one that comes to it
+-- a cell is in the list, or is the one to be inserted
 later : (z c d : ℕ) (ds : List ℕ) → (z ≡ c) ⊎ Has z ds → (z ≡ c) ⊎ Has z (d ∷ ds)
 later z c d ds (inl e) = inl e
 later z c d ds (inr m) = inr (inr m)
@@ -154,7 +154,7 @@ same-lists (x ∷ xs) (y ∷ ys) r s f g =
     (λ z h. behind y x z xs (sym e) (above-has y z ys s.0 h) (g z (inr h))) in
     λ i. e i ∷ rest i
 
--- ---- what a sort and a `dedup` give
+-- ---- the result of a sort and a `dedup`
 
 to-has : (z : ℕ) (xs : List ℕ) → Contains xs z → Has z xs
 to-has z [] (k, l, e) = absurd (omega (arith, l))
@@ -186,7 +186,7 @@ is-once cs ds p f g =
     (λ z h. has-once z cs (to-has z cs (f z (from-has z ds h))))
     (λ z h. to-has z ds (g z (from-has z cs (once-has z cs h))))
 
--- ---- what comes back
+-- ---- the received values
 
 set-apart : (l : Env) (i j : ℕ) (a b : Value) → (i ≡ j → ⊥) → set (set l i a) j b ≡ set (set l j b) i a
 set-apart [] i j a b n = refl
@@ -215,7 +215,7 @@ pub same-received : (cs : List ℕ) (values : Environment) (env : Env) → with_
 same-received [] values env = refl
 same-received (c ∷ cs) values env = with-one c (each_once cs) values env ∙ same-received cs values (set env c (values c))
 
--- ---- how many
+-- ---- the count
 
 room : (x : ℕ) (xs : List ℕ) (all : ℕ) → x < all → Above x xs → Rises xs → ((z : ℕ) → Has z xs → z < all) → x + 1 + length xs ≤ all
 room x [] all h a r w = omega (arith, h)

@@ -1,4 +1,4 @@
--- A driver is one driver over cells or has one fault, and not both.
+-- A driver resolves to one driver over cells or has one error, and not both.
 use Rattle.std.proofs.Common.{◌≡◌, inl, inr, ℕ, List, Result, Ok, Err, refl, sym, subst}
 use Rattle.m_symbols.specs.Declarations.{Declared}
 use Rattle.mpp_parser.specs.declared.command.Driver.{Driver}
@@ -20,7 +20,7 @@ ok_or_err e f = cc
 pub one_core : (driver : Driver) (declared : Declared) (core other : Core) → IsCore driver declared core → IsCore driver declared other → core ≡ other
 one_core driver declared core other a b = ok_one a.named b.named
 
--- only a ring is shown as one
+-- this error is always a cycle of calls
 shows : (core : Core) (fault : CoreFault) → IsRecursion core fault → (names : List (List ℕ)) × (fault ≡ DriverRecursion names) × ShowsRing core names
 shows core (DriverRecursion names) r = (names, refl, r)
 shows core (FunctionTwice name line) r = absurd r

@@ -1,4 +1,4 @@
--- The driver of rules without one is valid.
+-- The driver of a source without one is valid.
 use Rattle.std.proofs.Common.{◌≡◌, ◌<◌, ℕ, zero, suc, inl, inr, List, [], ◌∷◌, length, All, Result, Ok, Err, refl, sym, subst, arith, not}
 use Rattle.std.specs.Prelude.{IfOk}
 use Rattle.std.proofs.lemmas.List.Elements.{All-nil, All-cons, All-filter}

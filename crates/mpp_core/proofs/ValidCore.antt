@@ -1,4 +1,4 @@
--- A driver over cells whose names have no fault has its numbers in range.
+-- A driver whose names resolve has its numbers in range.
 use Rattle.std.proofs.Common.{◌≡◌, ◌≤◌, ◌<◌, ◌+◌, ◌^◌, ℕ, ℤ, suc, Bool, true, false, cond, nat_lt, List, [], ◌∷◌, ◌++◌, length, map, length-append, All, Option}
 use Rattle.std.proofs.Common.{None, Some, Result, Ok, Err, refl, sym, ap, ◌∙◌, subst, arith, slice_get}
 use Rattle.std.specs.Prelude.{◌&&◌, codes, ◌==◌}
@@ -43,7 +43,7 @@ use Rattle.mpp_core.specs.Bodies.{resolved_term, resolved_terms, resolved_links,
 use Rattle.mpp_core.specs.Cores.{core_of}
 use Rattle.mpp_core.proofs.NameLemmas.{named_at}
 
--- ---- things that are said
+-- ---- results
 
 resolved_by : {A B : Type 0} (next : A → Result B CoreFault) (r : Result A CoreFault) (b : B) → if_resolved next r ≡ Ok b
     → (a : A) × (r ≡ Ok a) × (next a ≡ Ok b)
@@ -132,7 +132,7 @@ once_within n (c ∷ cs) a = with_within n c (each_once cs) a.0 (once_within n c
 
 -- ---- kinds
 
--- a variable has its cells among so many
+-- a variable's cells are below a count
 abbrev IsWithinCount : ℕ → Variable → Type 0
 IsWithinCount n v = (v.cells ≡ variable_cells v.item) × (v.first_cell + v.cells ≤ n)
 
@@ -338,11 +338,11 @@ names_count before (f ∷ fs) names e =
     let k = resolved_by (λ stated. resolved_names stated fs) (resolved_name before f) names e in
     omega (arith, names_count k.0 fs names k.2, name_count _ (FunctionTwice f.name f.line) before k.0 f.name k.1)
 
--- a number counts names where it counts functions
+-- a number that counts the functions counts their names
 pub few_names : (fs : List Function) (names : List (List ℕ)) → resolved_names [] fs ≡ Ok names → length fs < 2 ^ 32 → length names < 2 ^ 32
 few_names fs names e few = omega (arith, names_count [] fs names e, few)
 
--- a driver over cells whose names have no fault has its numbers in range
+-- a driver whose names resolve has its numbers in range
 pub core_in_range : (driver : Driver) (d : Declared) (core : Core) → IsPlaced d → core_of driver d ≡ Ok core → IsInRange core
 core_in_range driver d core p e =
     let cells = length (owners_from 0 d.variables) in

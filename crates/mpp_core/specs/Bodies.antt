@@ -1,4 +1,5 @@
--- What terms and commands of a driver are over cells and functions, or the first of their faults from the top and from left to right.
+-- Resolves the terms and commands of a driver to terms and commands over cells and functions; the
+-- result is the first error, in reading order, if there is one.
 use Rattle.std.specs.Prelude.{ℕ, List, [], ◌∷◌, ◌++◌, length, Result, Ok, if◌then◌else◌}
 use Rattle.std.specs.Str.{bytes_eq}
 use Rattle.m_symbols.specs.Declarations.{Declared}
@@ -17,8 +18,8 @@ use Rattle.mpp_core.specs.declared.fault.CoreFault.{CoreFault}
 
 -- ---- terms
 
--- What a term on this line is over the cells of what is declared. `A + T[1]`, where `A` is the cell 0 and `T` a table from the cell 1
--- on, is the cell 0, and after it `+` and the cell 2.
+-- The term over cells that a term on this line resolves to. If `A` is the cell 0 and `T` a table
+-- from the cell 1 on, `A + T[1]` is the cell 0, then `+` and the cell 2.
 abbrev mutual
   pub resolved_term : Declared → ℕ → Term → Result Formula CoreFault
   resolved_term declared line (lit value) = Ok (lit_formula value)
@@ -29,7 +30,7 @@ abbrev mutual
       (resolved_term declared line first)
   resolved_term declared line (exists kind) = Ok (exists_formula (kind_cells declared kind))
 
-  -- terms one after the other, after those that are said already
+  -- terms in sequence, appended to those already resolved
   pub resolved_terms : Declared → ℕ → List Formula → Terms → Result (List Formula) CoreFault
   resolved_terms declared line before no_terms = Ok before
   resolved_terms declared line before (a_term a rest) = if_resolved (λ t. resolved_terms declared line (before ++ t ∷ []) rest) (resolved_term declared line a)
@@ -41,15 +42,15 @@ abbrev mutual
 
 -- ---- commands
 
--- What a call is that gives back these cells: of the rules, or of one of the functions of these names. A cell that is named more than
--- once comes back once, and counts as often as it is named.
+-- A call, of the rules or of one of the functions with these names, that receives these cells. A
+-- cell that is named more than once is received once, and counts as often as it is named.
 abbrev pub resolved_call : List (List ℕ) → ℕ → List ℕ → List ℕ → Result Action CoreFault
 resolved_call names line name received =
     if bytes_eq name rules_name then Ok (solve line (length received) (each_once received))
     else if_resolved (λ f. Ok (call_action line (length received) (each_once received) f)) (resolved_function names line name)
 
--- What a command is, where these are the names of the functions: in `A = B` the target `A` comes before `B`, and in `A, B <- f()` come
--- the targets and then the function.
+-- Resolves a command, where functions have these names. In `A = B` the target `A` is resolved
+-- before `B`, and in `A, B <- f()` the targets before the function.
 abbrev mutual
   pub resolved_act : Declared → List (List ℕ) → Act → Result Action CoreFault
   resolved_act declared names (set line c term) = if_resolved (λ cell. if_resolved (λ t. Ok (assign line cell t)) (resolved_term declared line term))
@@ -62,7 +63,7 @@ abbrev mutual
       (resolved_acts declared names [] block)
   resolved_act declared names (call line cs name) = if_resolved (resolved_call names line name) (resolved_targets declared line [] cs)
 
-  -- commands one after the other, after those that are said already
+  -- commands in sequence, appended to those already resolved
   pub resolved_acts : Declared → List (List ℕ) → List Action → Acts → Result (List Action) CoreFault
   resolved_acts declared names before no_acts = Ok before
   resolved_acts declared names before (an_act a rest) = if_resolved (λ action. resolved_acts declared names (before ++ action ∷ []) rest)
@@ -70,7 +71,7 @@ abbrev mutual
 
 -- ---- functions
 
--- the bodies of functions one after the other, after those that are said already
+-- the bodies of functions in sequence, appended to those already resolved
 abbrev pub resolved_bodies : Declared → List (List ℕ) → List (List Action) → List Function → Result (List (List Action)) CoreFault
 resolved_bodies declared names before [] = Ok before
 resolved_bodies declared names before (f ∷ fs) = if_resolved (λ body. resolved_bodies declared names (before ++ body ∷ []) fs)

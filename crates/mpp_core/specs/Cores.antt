@@ -1,4 +1,5 @@
--- What a driver is over cells, and when it has a fault; and the driver of rules without one.
+-- The driver over cells that a driver resolves to, the errors of a driver, and the driver of a
+-- source without one.
 use Rattle.std.specs.Prelude.{◌≡◌, ◌⊎◌, ℕ, List, [], ◌∷◌, Option, Some, None, Result, Ok, Err, Bool, false, not, codes, length, map, filter, slice_get}
 use Rattle.std.specs.Option.{option_map_or}
 use Rattle.m_ast.specs.Items.{is_constant}
@@ -17,8 +18,8 @@ use Rattle.mpp_core.specs.declared.fault.CoreFault.TheVariants.{DriverRecursion}
 
 -- ---- a driver of a source
 
--- The functions of a driver over the cells of what is declared, or the first fault of its names: a name that an earlier function has comes
--- first, then that there is no `main`, and then the first name from the top and from left to right.
+-- Resolves a driver, or yields the first error of its names: a function name that an earlier
+-- function has, then a missing `main`, then the first name, in reading order, that doesn't resolve.
 abbrev pub core_of : Driver → Declared → Result Core CoreFault
 core_of driver declared =
     if_resolved
@@ -27,7 +28,7 @@ core_of driver declared =
     (resolved_bodies declared names [] driver.functions)) (resolved_main names))
     (resolved_names [] driver.functions)
 
--- No name of the driver has a fault, this is the driver over cells, and no function reaches itself by calls.
+-- The driver's names resolve to this driver over cells, and no function reaches itself by calls.
 pub record IsCore (driver : Driver) (declared : Declared) (core : Core) : Type 0 where
   pub named : core_of driver declared ≡ Ok core
   pub no_ring : HasNoRing core
@@ -40,43 +41,43 @@ name_or_none (Some name) = name
 abbrev pub function_name : List (List ℕ) → ℕ → List ℕ
 function_name names f = name_or_none (slice_get names f)
 
--- These are the names of a ring: of distinct functions, each calling the next and the last the first, beginning with the one that stands
--- first in the file.
+-- These are the names of a cycle of calls: distinct functions, each calling the next and the last
+-- the first, beginning with the one that is first in the file.
 pub record ShowsRing (core : Core) (names : List (List ℕ)) : Type 0 where
   pub functions : List ℕ
   pub ring : IsRing core functions
   pub first : BeginsWithLeast functions
   pub shown : names ≡ map (function_name core.names) functions
 
--- the ring that a fault shows
+-- the error reports a cycle of calls
 abbrev pub IsRecursion : Core → CoreFault → Type 0
 IsRecursion core (DriverRecursion names) = ShowsRing core names
 IsRecursion core _ = ⊥
 
--- the fault of a driver: the first of its names, or where no name has one a ring of its functions
+-- the error of a driver: the first of its names, or a cycle of calls if its names resolve
 abbrev pub IsCoreFault : Driver → Declared → CoreFault → Type 0
 IsCoreFault driver declared fault = (core_of driver declared ≡ Err fault) ⊎ ((core : Core) × (core_of driver declared ≡ Ok core) × IsRecursion core fault)
 
--- Two faults are one where they are the same, or where both show a ring, of which any true one may be shown.
+-- Equality of errors, up to the choice of the reported cycle.
 pub data AreOneCoreFault : CoreFault → CoreFault → Type 0 where
   the_same : {fault other : CoreFault} → fault ≡ other → AreOneCoreFault fault other
   both_rings : {names others : List (List ℕ)} → AreOneCoreFault (DriverRecursion names) (DriverRecursion others)
 
--- ---- the driver of rules without one
+-- ---- the driver of a source without one
 
--- whether a cell is that of a constant
+-- whether a cell is a constant's
 abbrev pub is_constant_cell : Declared → ℕ → Bool
 is_constant_cell declared cell = option_map_or (λ (v : Variable). is_constant v.item.role) (owner_of declared cell) false
 
--- the requests without the cells of constants, which no call gives back
+-- the requested cells without those of constants, which no call may receive
 abbrev pub received_cells : List ℕ → Declared → List ℕ
 received_cells requests declared = filter (λ cell. not (is_constant_cell declared cell)) requests
 
--- a call of the rules on line 1 that gives back these cells
+-- a call of the rules on line 1 that receives these cells
 abbrev pub received_alone : List ℕ → Action
 received_alone cells = solve 1 (length cells) cells
 
--- the function `main` with one call of the rules that gives back the requests without the cells of constants
+-- `main` with one call of the rules that receives the requested cells except those of constants
 abbrev pub plain_core : List ℕ → Declared → Core
 plain_core requests declared =
     record {

@@ -1,2 +1,2 @@
--- What only inner functions say.
+-- Used by the contracts of inner functions only.
 pub mod Calls

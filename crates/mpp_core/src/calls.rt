@@ -1,4 +1,5 @@
-//! The calls of functions as a base of rules, in which an order or a cycle is looked for.
+//! The calls of functions as a base of rules; an order of it excludes recursion, and a cycle of it
+//! is one of calls.
 
 ghost use Rattle.std.specs.Prelude.{◌≡◌, ◌∷◌, [], ◌++◌, OnOk, IfOk, length};
 ghost use Rattle.driver_core.specs.ActionView.{block_of};
@@ -10,14 +11,15 @@ use m_places::{Place, Seq};
 use micro_m::{Base, MNode, MTerm, Step};
 use std::alloc::{AllocError, Global};
 
-// The place of the definitions, which no fault shows.
+// The place of the definitions, which no error reports.
 const NO_PLACE: Place = Place {
     file: 0,
     byte: 0,
     line: 0,
 };
 
-/// A base with a cell for each function, of which these are so many: it is defined by a sum of the functions that it calls.
+/// A base with a cell for each of the functions; a cell is defined by the sum of the functions that
+/// its function calls.
 pub(crate) fn calls_base(
     alloc: Global,
     bodies: &[Seq<CCommand>],
@@ -37,7 +39,7 @@ pub(crate) fn calls_base(
     })
 }
 
-// Adds a definition of each function.
+// Appends a definition for each function.
 fn add_definitions(
     alloc: Global,
     bodies: &[Seq<CCommand>],
@@ -54,7 +56,7 @@ fn add_definitions(
     Ok(())
 }
 
-// A sum of the functions that are called in a block.
+// The sum of the functions that a block calls.
 fn calls_term(alloc: Global, commands: &[CCommand]) -> Result<MTerm, AllocError>
     ensures { IfOk result (λ term. term ≡ calls_term (block_of commands.now)) }
 {
@@ -64,7 +66,7 @@ fn calls_term(alloc: Global, commands: &[CCommand]) -> Result<MTerm, AllocError>
     Ok(MTerm::new(MNode::Chain(first, steps)))
 }
 
-// Adds a step for each call in a block.
+// Appends a step for each call in a block.
 #[cycle(calls)]
 fn add_calls(commands: &[CCommand], steps: &mut Vec<Step>) -> Result<(), AllocError>
     ensures { OnOk result (steps.new.items ≡ steps.old.items ++ block_steps (block_of commands.now)) }

@@ -1,4 +1,4 @@
-//! Commands over names to commands over cells and functions.
+//! Resolves commands.
 
 ghost use Rattle.std.specs.Prelude.{◌≡◌, ◌<◌, ◌^◌, Ok, Err, [], IfOk, length};
 ghost use Rattle.m_places.specs.Refusals.{Says};
@@ -20,7 +20,7 @@ use m_places::Name;
 use mpp_parser::{CellName, Command, CommandNode, DTerm, Kind};
 use std::alloc::{AllocError, Global};
 
-/// What a command is over cells and the functions of these names, or the first of its faults.
+/// The command over cells and the functions with these names, or the first of its errors.
 #[cycle(command)]
 fn command(
     alloc: Global,
@@ -47,7 +47,7 @@ fn command(
     }
 }
 
-// An assignment: the target, and then the term.
+// An assignment; the target is resolved before the term.
 fn assigned(
     alloc: Global,
     line: u32,
@@ -64,7 +64,7 @@ fn assigned(
     Ok(CCommand::new(CCommandNode::Set(line, cell, Box::into_inner(value))))
 }
 
-// A cell that becomes undefined.
+// A command that makes a cell undefined.
 fn cleared(
     alloc: Global,
     line: u32,
@@ -120,7 +120,7 @@ fn partitioned(
     Ok(CCommand::new(CCommandNode::Partition(line, cells, block)))
 }
 
-// A call that gives back these cells: of the rules, or of a function.
+// A call, of the rules or a function, that receives these cells.
 fn called(
     alloc: Global,
     line: u32,
@@ -142,7 +142,7 @@ fn called(
     }
 }
 
-/// Commands one after the other.
+/// Commands in sequence.
 #[cycle(command)]
 pub(crate) fn commands(
     alloc: Global,

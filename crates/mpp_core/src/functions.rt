@@ -1,4 +1,4 @@
-//! The functions of a driver: their names, and their bodies.
+//! Resolves the functions of a driver.
 
 ghost use Rattle.std.specs.Prelude.{◌≡◌, ◌≢◌, ◌<◌, ◌^◌, Ok, Err, [], IfOk, length, map};
 ghost use Rattle.m_places.specs.Refusals.{Says};
@@ -16,7 +16,7 @@ use m_places::{Name, Seq};
 use mpp_parser::Function;
 use std::alloc::{AllocError, Global};
 
-/// The names of functions in order, of which none stands twice and none calls the rules.
+/// The names of functions in order, which must be distinct and none of them `call_m`.
 pub(crate) fn function_names(alloc: Global, functions: &[Function]) -> Result<Names, CoreFault>
     ensures { Says Memory result (λ names. names) (resolved_names [] functions.now) }
 {
@@ -27,7 +27,7 @@ pub(crate) fn function_names(alloc: Global, functions: &[Function]) -> Result<Na
     Ok(names)
 }
 
-// A key that is made of all names, so that nobody can choose them to collide.
+// A hash key derived from all names, so that no choice of names makes them collide.
 fn key_of(functions: &[Function]) -> Key {
     let mut digest = NamesDigest::new();
     for function in functions {
@@ -49,7 +49,7 @@ fn add_name(alloc: Global, function: &Function, names: &mut Names) -> Result<(),
     Ok(())
 }
 
-// The fault of a function whose name is taken.
+// The error of a function whose name is taken.
 fn twice(alloc: Global, function: &Function) -> CoreFault
     ensures { result ≢ Memory → result ≡ FunctionTwice function.now.name function.now.line }
 {
@@ -70,7 +70,7 @@ pub(crate) fn main_of(names: &Names) -> Result<u32, CoreFault>
     }
 }
 
-/// The names of functions in order, as a list of their own.
+/// The names of functions in order, as a list.
 pub(crate) fn copied_names(alloc: Global, functions: &[Function]) -> Result<Seq<Name>, AllocError>
     ensures { IfOk result (λ names. names ≡ map name_in functions.now) }
 {
@@ -82,7 +82,8 @@ pub(crate) fn copied_names(alloc: Global, functions: &[Function]) -> Result<Seq<
     Ok(Seq::from_vec(names))
 }
 
-/// The bodies of functions over cells and the functions of these names, or the first of their faults from the top.
+/// The bodies of functions over cells and the functions with these names, or the first of their
+/// errors.
 pub(crate) fn bodies(
     alloc: Global,
     functions: &[Function],

@@ -1,7 +1,9 @@
-//! Names of drivers to cells and functions: from the trees of a driver to a driver over the cells of what is declared, or the first fault.
+//! Resolves the names of a driver: from its syntax trees to a driver over the cells of the declared
+//! variables, or the first error.
 //!
-//! This crate stands on the trees of drivers, on what is declared, and on drivers over cells; calls in a ring are found by the search for an
-//! order of rules. It knows nothing of a source's rules, nor of what a command does.
+//! Uses the trees of drivers, the declarations, drivers over cells, and the search for an order of
+//! rules, which finds cycles of calls. Knows nothing of a source's rules, nor of what a command
+//! does.
 #![tactic(auto)]
 
 mod calls;

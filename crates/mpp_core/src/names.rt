@@ -1,4 +1,4 @@
-//! Names to cells.
+//! Resolves names to cells.
 
 ghost use Rattle.std.specs.Prelude.{◌≡◌, ◌≢◌, ◌+◌, ◌≤◌, ◌<◌, Ok, Err, Some, IfSome, []};
 ghost use Rattle.std.specs.Option.{option_copied};
@@ -16,7 +16,7 @@ use m_symbols::{Symbols, Variable};
 use mpp_parser::CellName;
 use std::alloc::Global;
 
-// The variable of a name.
+// The variable with this name.
 fn variable_named<'a>(symbols: &'a Symbols, name: &Name) -> Option<&'a Variable>
     ensures { option_copied result ≡ variable_named symbols.now name.now }
 {
@@ -24,7 +24,7 @@ fn variable_named<'a>(symbols: &'a Symbols, name: &Name) -> Option<&'a Variable>
     Some(symbols.variable(number))
 }
 
-/// The fault of a name on a line that isn't one of what is needed there.
+/// The error of a name that doesn't resolve, on this line.
 pub(crate) fn unknown(alloc: Global, name: &Name, line: u32) -> CoreFault
     ensures { result ≢ Memory → result ≡ UnknownInDriver name.now line }
 {
@@ -34,7 +34,7 @@ pub(crate) fn unknown(alloc: Global, name: &Name, line: u32) -> CoreFault
     }
 }
 
-/// The cell that a name on this line names.
+/// The cell that a name on this line resolves to.
 pub(crate) fn cell_of(
     alloc: Global,
     symbols: &Symbols,
@@ -50,7 +50,7 @@ pub(crate) fn cell_of(
     cell_at(alloc, variable, line, name, symbols.cells())
 }
 
-// The cell of a variable at the index of a name, or without one. There are so many cells.
+// The cell of a variable, at the index of a name or without one. There are `cells` cells.
 fn cell_at(
     alloc: Global,
     variable: &Variable,
@@ -79,7 +79,7 @@ fn size_of(variable: &Variable) -> Option<u32>
     }
 }
 
-/// The cell that a name on this line names, which isn't a constant's.
+/// The cell that a target on this line resolves to, which isn't a constant's.
 pub(crate) fn target_of(
     alloc: Global,
     symbols: &Symbols,
@@ -98,7 +98,7 @@ pub(crate) fn target_of(
     cell_at(alloc, variable, line, name, symbols.cells())
 }
 
-// Why the name of a constant is no target.
+// The error of a target that is a constant.
 fn constant_fault(alloc: Global, line: u32, name: &CellName) -> CoreFault
     ensures { result ≢ Memory → constant_target name.now.name line name.now.index ≡ Err result }
 {
@@ -111,7 +111,7 @@ fn constant_fault(alloc: Global, line: u32, name: &CellName) -> CoreFault
     }
 }
 
-/// The cells that names on this line name, none of which is a constant's.
+/// The cells that targets on this line resolve to, none of which is a constant's.
 pub(crate) fn targets_of(
     alloc: Global,
     symbols: &Symbols,
@@ -129,7 +129,7 @@ pub(crate) fn targets_of(
     Ok(cells)
 }
 
-/// These cells in ascending order, each once.
+/// These cells in ascending order, without repetitions.
 pub(crate) fn each_once(cells: Vec<u32>) -> Seq<u32>
     ensures { result ≡ each_once cells.items }
 {

@@ -1,4 +1,4 @@
-//! The driver of rules without one.
+//! The driver of a source without one.
 
 ghost use Rattle.std.specs.Prelude.{◌≡◌, ◌<◌, All, IfOk, length};
 ghost use Rattle.m_symbols.specs.Declarations.{owners_from};
@@ -11,8 +11,8 @@ use m_places::{Name, Seq};
 use m_symbols::Symbols;
 use std::alloc::{AllocError, Global};
 
-/// The driver of rules that have none: the function `main` with one call of the rules, which gives back the requests without the
-/// cells of constants. Its only error is running out of memory.
+/// The driver of a source without one: `main` with one call of the rules, which receives the
+/// requested cells except those of constants. Its only error is running out of memory.
 pub fn plain_driver(alloc: Global, requests: &[u32], symbols: &Symbols) -> Result<Core, AllocError>
     requires { All (λ c. c < length (owners_from 0 symbols.now.variables)) requests.now }
     ensures core { IfOk result (λ core. core ≡ plain_core requests.now symbols.now) }
@@ -43,7 +43,7 @@ fn main_alone(alloc: Global, requests: &[u32], symbols: &Symbols) -> Result<Core
     })
 }
 
-// The cells that are asked for, without those of constants.
+// The requested cells, without those of constants.
 fn received_cells(
     alloc: Global,
     requests: &[u32],
@@ -61,7 +61,7 @@ fn received_cells(
     Ok(Seq::from_vec(cells))
 }
 
-// Whether a cell is that of a constant.
+// Whether a cell is a constant's.
 fn is_constant_cell(cell: u32, symbols: &Symbols) -> bool
     requires { cell < length (owners_from 0 symbols.now.variables) }
     ensures { result ≡ is_constant_cell symbols.now cell }

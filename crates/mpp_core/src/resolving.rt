@@ -1,4 +1,4 @@
-//! Whole drivers.
+//! Resolves whole drivers.
 
 ghost use Rattle.std.specs.Prelude.{◌≡◌, ◌<◌, ◌^◌, Ok, Err, IfOk, [], length};
 ghost use Rattle.m_places.specs.Refusals.{Outcome, Says};
@@ -19,9 +19,10 @@ use m_symbols::Symbols;
 use mpp_parser::Driver;
 use std::alloc::Global;
 
-/// The driver over the cells of what is declared, or the first fault of the driver: a name that two functions have, then that there is
-/// no `main`, then the first name from the top and from left to right that isn't what is needed there, and then functions that call
-/// each other in a ring. Functions are numbered by 32 bits: there are fewer than 2^32, as in any file that a driver may be.
+/// The driver over the cells of the declared variables, or its first error: a function name that
+/// occurs twice, then a missing `main`, then the first name, in reading order, that doesn't
+/// resolve, then a cycle of calls. Functions are numbered in 32 bits: there are fewer than 2^32, as
+/// in any file within the limits.
 pub fn resolve_driver(alloc: Global, driver: &Driver, symbols: &Symbols) -> Result<Core, CoreFault>
     requires placed { IsPlaced symbols.now }
     requires few { length driver.now.functions < 2 ^ 32 }
@@ -35,7 +36,8 @@ pub fn resolve_driver(alloc: Global, driver: &Driver, symbols: &Symbols) -> Resu
     Ok(core)
 }
 
-// The driver over cells, whose functions have these names, or the first fault of other names. Functions may call each other in a ring.
+// The driver over cells, whose functions have these names, or the first error of the other names.
+// It may have cycles of calls.
 fn resolve_names(
     alloc: Global,
     driver: &Driver,

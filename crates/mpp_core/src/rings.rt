@@ -1,4 +1,4 @@
-//! Whether functions call each other in a ring: where their calls, as a base of rules, have no order, the cycle is one.
+//! Rejects cycles of calls: if the base of the calls has no order, its cycle is one of calls.
 
 ghost use Rattle.std.specs.Prelude.{◌≡◌, ◌≢◌, IfOk, length, map};
 ghost use Rattle.m_places.specs.Refusals.{Outcome};
@@ -13,7 +13,8 @@ use m_places::{Name, Seq};
 use rule_order::{OrderFault, order};
 use std::alloc::{AllocError, Global};
 
-/// Goes on where no function of a driver reaches itself by calls, and else shows a ring. There are so many functions.
+/// Succeeds if no function of a driver reaches itself by calls, and else reports a cycle. There are
+/// `functions` functions.
 pub(crate) fn no_ring(alloc: Global, core: &Core, functions: u32) -> Result<(), CoreFault>
     requires count { functions ≡ length core.now.bodies }
     requires range { IsInRange core.now }
@@ -29,7 +30,7 @@ pub(crate) fn no_ring(alloc: Global, core: &Core, functions: u32) -> Result<(), 
     }
 }
 
-// The fault of functions that call each other in a ring.
+// The error of a cycle of calls.
 fn recursion(alloc: Global, names: &[Name], ring: &[u32]) -> CoreFault
     ensures { result ≢ Memory → result ≡ DriverRecursion (map (function_name names.now) ring.now) }
 {

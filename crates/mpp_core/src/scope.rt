@@ -1,4 +1,4 @@
-//! Where the names of a driver are looked up.
+//! The declarations in which the names of a driver are looked up.
 
 ghost use Rattle.std.specs.Prelude.{◌≡◌, IfOk};
 ghost use Rattle.m_symbols.specs.Placed.{IsPlaced};
@@ -14,7 +14,8 @@ use std::alloc::{AllocError, Global};
 use std::marker::Model;
 use std::rc::Rc;
 
-/// What is declared, with the index of its inputs by kinds, which is made once. Contracts see what is declared.
+/// The declarations, with an index of the inputs by kinds, which is built once. Contracts see the
+/// declarations.
 #[derive(Drop)]
 pub(crate) struct Scope<'a> {
     symbols: &'a Symbols,
@@ -34,7 +35,7 @@ impl<'a> Model for Scope<'a> {
 }
 
 impl<'a> Scope<'a> {
-    /// What is declared, with an index of it.
+    /// The scope of these declarations.
     pub(crate) fn new(alloc: Global, symbols: &'a Symbols) -> Result<Scope<'a>, AllocError>
         ensures { IfOk result (λ scope. scope ≡ symbols.now) }
     {
@@ -42,7 +43,7 @@ impl<'a> Scope<'a> {
         Ok(Scope { symbols, kinds })
     }
 
-    /// What is declared.
+    /// The declarations.
     pub(crate) fn symbols(&self) -> &Symbols
         ensures { result.now ≡ self.now }
     {

@@ -1,4 +1,4 @@
-//! Terms over names to terms over cells.
+//! Resolves terms.
 
 ghost use Rattle.std.specs.Prelude.{◌≡◌, Ok, Err, [], IfOk};
 ghost use Rattle.m_places.specs.Refusals.{Says};
@@ -18,7 +18,8 @@ use m_fixed::Op;
 use mpp_parser::{CellName, DLink, DNode, DTerm};
 use std::alloc::{AllocError, Global};
 
-/// What a term on this line is over cells, or the first of its faults from left to right.
+/// The term over cells, or the first of its errors from left to right. The line is that of its
+/// command.
 #[cycle(term)]
 pub(crate) fn term(
     alloc: Global,
@@ -41,7 +42,7 @@ pub(crate) fn term(
     }
 }
 
-// A node in a box.
+// Boxes a node.
 fn boxed(alloc: Global, node: CNode) -> Result<Box<CTerm>, AllocError>
     ensures { IfOk result (λ t. t.value ≡ formula_of node) }
 {
@@ -78,7 +79,7 @@ fn applied(
     Ok(boxed(alloc, CNode::Apply(op, arguments))?)
 }
 
-// Terms one after the other.
+// Terms in sequence.
 #[cycle(term)]
 fn terms(
     alloc: Global,

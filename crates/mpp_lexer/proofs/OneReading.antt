@@ -1,4 +1,4 @@
--- The texts have one list of lines or one first fault, and not both.
+-- Texts have one list of lines or one first error, and not both.
 use Rattle.std.proofs.Common.{◌≡◌, ◌⊎◌, ℕ, codes, cond, List, [], ◌∷◌, refl, sym, ap, ◌∙◌, subst, arith, inl, inr}
 use Rattle.std.specs.List.{AllByRecursion}
 use Rattle.std.specs.Str.{bytes_eq}
@@ -55,12 +55,12 @@ sign_of-sign_spelling Receive = refl
 one_sign : (s u : DriverSign) → sign_spelling s ≡ sign_spelling u → s ≡ u
 one_sign s u e = sym (sign_of-sign_spelling s) ∙ ap sign_of e ∙ sign_of-sign_spelling u
 
--- a word is no number
+-- a word isn't a number
 word_or_number : (t : List ℕ) → IsWord t → IsNumber t → ⊥
 word_or_number t h (inl k) = h.1 k.1
 word_or_number t h (inr k) = point_is_none (all_right IsWordByte k.0 (point ∷ k.1) (subst (AllByRecursion IsWordByte) k.4 h.0)).0
 
--- one text spells one token
+-- a text spells at most one token
 one_token : (t : List ℕ) (p q : DriverPiece) → Spells t p → Spells t q → p ≡ q
 one_token t p q (word h) (word k) = refl
 one_token t p q (word h) (number k e) = absurd (word_or_number t h k)
@@ -72,7 +72,7 @@ one_token t p q (sign {s = s} e) (word k) = let a = word_first t k in let b = si
 one_token t p q (sign {s = s} e) (number k f) = let a = number_first t k in let b = sign_first t s e in absurd (omega arith)
 one_token t p q (sign {s = s} e) (sign {s = u} f) = ap Sign (one_sign s u (sym e ∙ f))
 
--- a number that is too great is no token
+-- a number that is too great isn't a token
 great_or_token : (t : List ℕ) (p : DriverPiece) → IsTooGreat t → Spells t p → ⊥
 great_or_token t p g (word h) = word_or_number t h g.0
 great_or_token t p g (number h e) = cc

@@ -1,4 +1,4 @@
--- From one position of a line to a later one: by spaces, or by a token.
+-- Steps from one position of a line to a later one, over spaces or a token.
 use Rattle.std.proofs.Common.{◌≡◌, ◌≢◌, ℕ, zero, suc, ◌+◌, ◌-◌, ◌<◌, ◌≤◌, cond, List, [], ◌∷◌, ◌++◌, length, get_or, drop, sym, ap, ◌∙◌, subst, arith, inl, inr}
 use Rattle.std.proofs.lemmas.Bool.{cases_lt, ne_eqb}
 use Rattle.std.proofs.lemmas.List.{append_assoc, append-nil, drop_more, drop_all}
@@ -13,7 +13,7 @@ use Rattle.mpp_lexer.specs.Tokens.{spaces, sign_spelling}
 use Rattle.mpp_lexer.specs.inner.Steps.{GoesOn, NoSign}
 use Rattle.mpp_lexer.proofs.Tokens.{token_of_word, longest_one, longest_two, NoTwo, no_token_at}
 
--- by nothing, by a token, and by one step after another
+-- over nothing, over a token, and steps in sequence
 pub stays : (line : List ℕ) (from to : ℕ) → from ≡ to → GoesOn line from [] to
 stays line from to e = record {
   lists = λ tokens d. subst (λ n. TokensOf (drop n line) tokens) (sym e) d;
@@ -54,7 +54,7 @@ pub then_spaces : (line : List ℕ) (from mid to : ℕ) (ts : List DriverPiece) 
     → GoesOn line from ts to
 then_spaces line from mid to ts a r = subst (λ us. GoesOn line from us to) (append-nil ts) (then line from mid to ts [] a (spaces_go line mid to r))
 
--- where the spaces at the start of a line end
+-- the end of the spaces at the start of a line
 pub spaces_counted : (line : List ℕ) (to : ℕ) → RunsTo (λ b. b ≡ space) line 0 to → to ≡ spaces line
 spaces_counted line to r = sym (go to 0 (omega arith) (λ k h l. r.each k h l))
   where

@@ -1,4 +1,4 @@
--- One line after another, and that the first line of a text is no longer than the text.
+-- Lines in sequence; the first line of a text is no longer than the text.
 use Rattle.std.proofs.Common.{◌≡◌, ℕ, suc, ◌+◌, ◌≤◌, Bool, true, false, cond, eqb, List, [], ◌∷◌, length, arith, subst, refl, sym}
 use mathlib.Core.Bool.{◌&&◌}
 use Rattle.mpp_lexer.specs.declared.piece.DriverPiece.{DriverPiece}
@@ -7,7 +7,7 @@ use Rattle.mpp_lexer.specs.Tokens.{TokensOf, spaces}
 use Rattle.mpp_lexer.specs.Lines.{Lexes, without, with}
 use Rattle.m_text.specs.Lines.{lines_of, onto_first, begins_with_feed}
 
--- the first of the lines has at most so many bytes
+-- the first of the lines has at most n bytes
 abbrev FirstAtMost : ℕ → List (List ℕ) → Type 0
 FirstAtMost n [] = Unit {0}
 FirstAtMost n (line ∷ lines) = length line ≤ n

@@ -1,4 +1,4 @@
--- What the first byte of a token says of it, and which tokens are the longest.
+-- Tokens by their first byte, and longest tokens.
 use Rattle.std.proofs.Common.{◌≡◌, ◌⊎◌, ℕ, ◌≤◌, List, [], ◌∷◌, ◌++◌, length, refl, sym, ap, ◌∙◌, subst, arith, lit≤, inl, inr}
 use Rattle.m_text.specs.Bytes.{IsWordByte}
 use Rattle.m_text.specs.Words.{IsWordOrNumber, LongestOf}
@@ -65,7 +65,7 @@ token_first t (sign s h) = inr (sign_first t s h)
 pub not_empty : IsToken [] → ⊥
 not_empty p = let k = token_first [] p in omega arith
 
--- what begins with a word byte is a word or a number
+-- a token that begins with a word byte is a word or a number
 word_byte_token : (b : ℕ) (rest u others : List ℕ) → IsWordByte b → b ∷ rest ≡ u ++ others → IsToken u → IsWordOrNumber u
 word_byte_token b rest [] others h e p = absurd (not_empty p)
 word_byte_token b rest (c ∷ u) others h e (word k) = inl k
@@ -76,7 +76,7 @@ pub token_of_word : (bytes : List ℕ) (b : ℕ) (others t rest : List ℕ) → 
     → LongestOf IsToken bytes t rest
 token_of_word bytes b others t rest e h l p = longest_among IsWordOrNumber IsToken bytes t rest l p (λ u v f q. word_byte_token b others u v h (sym e ∙ f) q)
 
--- what begins with a mark is a sign
+-- a token that begins with a mark is a sign
 after_mark : (t : List ℕ) → IsToken t → IsMark (first t) → (s : DriverSign) × (t ≡ sign_spelling s)
 after_mark t (word h) e = let k = word_first t h in absurd (omega arith)
 after_mark t (number h) e = let k = number_first t h in absurd (omega arith)
@@ -113,7 +113,7 @@ longest_one bytes a rest s e h short = longest_from IsToken bytes (a ∷ []) res
         let w = after_mark (a ∷ c ∷ more) p (subst IsMark (ap first h) (mark_first s)) in
         two c more v f w.0 w.1
 
--- no token begins with a byte of no kind
+-- no token begins with any other byte
 pub no_token_at : (a : ℕ) (rest : List ℕ) → (IsWordByte a → ⊥) → ((s : DriverSign) → sign_spelling s ≡ a ∷ [] → ⊥) → NoTwo a rest → NoToken (a ∷ rest)
 no_token_at a rest nw one two [] others e p = not_empty p
 no_token_at a rest nw one two (x ∷ t) others e p = kinds p

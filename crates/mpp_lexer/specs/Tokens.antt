@@ -31,29 +31,29 @@ sign_spelling Star = codes "*"
 sign_spelling Slash = codes "/"
 sign_spelling Receive = codes "<-"
 
--- what a token is spelled by, however great a number is
+-- the texts of tokens, including numbers that are too great
 pub data IsToken : List ℕ → Type 0 where
   word : {t : List ℕ} → IsWord t → IsToken t
   number : {t : List ℕ} → IsNumber t → IsToken t
   sign : {t : List ℕ} (s : DriverSign) → t ≡ sign_spelling s → IsToken t
 
--- The text spells the token: a word, a number with the amount that is read of it, or a sign.
+-- The text spells the token: a word, a number with its rounded amount, or a sign.
 pub data Spells : List ℕ → DriverPiece → Type 0 where
   word : {t : List ℕ} → IsWord t → Spells t (Word t)
   number : {t : List ℕ} {z : ℤ} → IsNumber t → amount_read (text_value t) ≡ Ok z → Spells t (Number z t)
   sign : {t : List ℕ} {s : DriverSign} → t ≡ sign_spelling s → Spells t (Sign s)
 
--- a number that, rounded at the sixth decimal, is above the greatest amount
+-- a number above the greatest amount once rounded at the sixth decimal
 abbrev pub IsTooGreat : List ℕ → Type 0
 IsTooGreat t = IsNumber t × (amount_read (text_value t) ≡ Err TooGreat)
 
--- no token begins here, however far it would go
+-- no prefix of the bytes is a token
 abbrev pub NoToken : List ℕ → Type 0
 NoToken bytes = (t others : List ℕ) → bytes ≡ t ++ others → IsToken t → ⊥
 
--- The tokens of a line: between them stand spaces, a comment goes from `#` to the end of the line,
--- and each token is the longest that begins where it stands. So `A <-1 # now` has the tokens `A`,
--- `<-` and `1`.
+-- The tokens of a line. They may be separated by spaces, a comment extends from `#` to the end of the
+-- line, and each token is the longest at its position: `A <-1 # now` has the tokens `A`, `<-` and
+-- `1`.
 pub data TokensOf : List ℕ → List DriverPiece → Type 0 where
   end : TokensOf [] []
   comment : {bytes rest : List ℕ} → bytes ≡ hash ∷ rest → TokensOf bytes []
@@ -61,8 +61,8 @@ pub data TokensOf : List ℕ → List DriverPiece → Type 0 where
   token : {bytes t rest : List ℕ} {p : DriverPiece} {tokens : List DriverPiece} → LongestOf IsToken bytes t rest → Spells t p →
       TokensOf rest tokens → TokensOf bytes (p ∷ tokens)
 
--- After spaces and tokens, and before a comment, comes a byte at which no token begins, or a number
--- that is too great: a tab, a single `!`, or `10000000000001`.
+-- After spaces and tokens, and outside of a comment, there is a byte at which no token begins, or a
+-- number that is too great: a tab, a single `!`, or `10000000000001`.
 pub data HasBadToken : List ℕ → Type 0 where
   no_token : {b : ℕ} {bytes rest : List ℕ} → bytes ≡ b ∷ rest → b ≢ space → b ≢ hash → NoToken bytes → HasBadToken bytes
   too_great : {bytes t rest : List ℕ} → LongestOf IsToken bytes t rest → IsTooGreat t → HasBadToken bytes
@@ -70,7 +70,7 @@ pub data HasBadToken : List ℕ → Type 0 where
   token : {bytes t rest : List ℕ} {p : DriverPiece} → LongestOf IsToken bytes t rest → Spells t p →
       HasBadToken rest → HasBadToken bytes
 
--- how many spaces a line begins with
+-- the number of leading spaces of a line
 abbrev pub spaces : List ℕ → ℕ
 spaces [] = 0
 spaces (b ∷ bytes) = if b == space then 1 + spaces bytes else 0

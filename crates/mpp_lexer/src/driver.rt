@@ -1,4 +1,4 @@
-//! The lines of a driver, one after another.
+//! Tokenizes a driver line by line.
 
 ghost use Rattle.std.specs.Prelude.{◌≡◌, ℕ, ◌+◌, ◌≤◌, ◌∷◌, List, MatchOption, length};
 ghost use Rattle.m_places.specs.Refusals.{Outcome};
@@ -18,9 +18,10 @@ use std::alloc::Global;
 
 /// The lines of a driver that have tokens, in order.
 ///
-/// `main():\n  IRN = 1\n` has line 1 without indentation and the tokens `main`, `(`, `)`, `:`, and
-/// line 2 with indentation 2 and the tokens `IRN`, `=`, `1`. Where a tab stands before `IRN`, line 2
-/// is refused as `DriverToken(2)`. Memory is taken for the lines, their tokens and names alone.
+/// `main():\n  IRN = 1\n` has line 1 with indentation 0 and the tokens `main`, `(`, `)`, `:`, and
+/// line 2 with indentation 2 and the tokens `IRN`, `=`, `1`. With a tab before `IRN`, line 2 is
+/// rejected as `DriverToken(2)`; so is a line with a carriage return that doesn't precede its line
+/// feed. Takes memory for the lines, their tokens and names only.
 pub fn lex_driver(alloc: Global, bytes: &[u8]) -> Result<Vec<Line>, DriverFault>
     requires { length bytes.now ≤ FILE_BYTES }
     ensures outcome { Outcome Memory result
@@ -43,7 +44,7 @@ pub fn lex_driver(alloc: Global, bytes: &[u8]) -> Result<Vec<Line>, DriverFault>
     Ok(lines)
 }
 
-// The line of a text with these tokens, if it has any.
+// The line with these tokens, or `None` if there are none.
 fn line_of(number: u32, text: &[u8], tokens: Vec<DriverPiece>) -> Option<Line>
     requires short { length text.now ≤ FILE_BYTES }
     requires tokens { TokensOf text.now tokens.items }

@@ -3,17 +3,18 @@ ghost use Rattle.mpp_lexer.specs.declared.fault.DriverFault.TheVariants.{Memory}
 
 use std::alloc::{AllocError, AllocFailed};
 
-/// Why a driver isn't read. Each number is that of a line, from 1.
+/// Why a driver doesn't parse, in this crate and in mpp_parser. Each number is a line's, from 1.
 #[derive(Clone, Copy, Debug, PartialEq, Eq)]
 pub enum DriverFault {
-    /// The first line in which a byte begins no token, or a number is too great.
+    /// The first line in which no token begins at some byte, or a number is too great.
     DriverToken(u32),
-    /// No line is so, and this is the first whose level or whose depth of brackets is too great.
+    /// No line has a bad token; this is the first whose nesting or whose open brackets exceed the
+    /// limits.
     DriverTooDeep(u32),
-    /// No line is so either, and this is the first line after the longest prefix of the lines that
-    /// spells a driver.
+    /// No line has either error; this is the first line after the longest prefix of the lines that
+    /// is a driver.
     DriverSyntax(u32),
-    /// There was no memory.
+    /// Out of memory.
     Memory,
 }
 

@@ -1,8 +1,8 @@
-//! The lines of a driver: for each line with a token its number, its indentation and its tokens, or
-//! the first line that can't be cut into tokens.
+//! Cuts a driver into lines with their numbers, indentations and tokens, or reports the first line
+//! that has no tokenization.
 //!
-//! This crate stands on texts and names, and on amounts for the values of numbers. It knows nothing
-//! of commands, nor of which lines belong together.
+//! Uses texts, names, and amounts for the values of numbers. Knows nothing of commands, nor of
+//! which lines belong together.
 #![tactic(auto)]
 
 mod driver;

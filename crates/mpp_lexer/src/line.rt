@@ -14,7 +14,7 @@ use m_places::Name;
 use m_text::{WordOrNumber, is_word_byte, word_or_number};
 use std::alloc::{AllocError, Global};
 
-/// Where the spaces from a position on end.
+/// The end of the run of spaces from a position on.
 pub fn spaces_end(line: &[u8], from: usize) -> usize
     requires { from ≤ length line.now }
     ensures { RunsTo (λ b. b ≡ space) line.now from result }
@@ -27,7 +27,7 @@ pub fn spaces_end(line: &[u8], from: usize) -> usize
     line.len()
 }
 
-/// The tokens of a line; `None` where a byte begins no token, or a number is too great.
+/// The tokens of a line; `None` if no token begins at some byte, or a number is too great.
 pub fn line_tokens(alloc: Global, line: &[u8]) -> Result<Option<Vec<DriverPiece>>, AllocError>
     ensures { IfOk result (λ o. MatchOption o (HasBadToken line.now) (λ tokens. TokensOf line.now tokens.items)) }
 {
@@ -43,7 +43,7 @@ pub fn line_tokens(alloc: Global, line: &[u8]) -> Result<Option<Vec<DriverPiece>
     Ok(Some(tokens))
 }
 
-// The token that begins at a position, and the position after it.
+// The token at a position, and the position after it.
 fn token_at(
     alloc: Global,
     line: &[u8],
@@ -70,7 +70,7 @@ fn token_at(
     }
 }
 
-// What a number is: its amount and its spelling. `None` where it is too great.
+// The amount and the spelling of a number; `None` if it is too great.
 fn number_piece(alloc: Global, text: &[u8]) -> Result<Option<DriverPiece>, AllocError>
     requires { IsNumber text.now }
     ensures { IfOk result (λ o. MatchOption o (IsTooGreat text.now) (Spells text.now)) }
@@ -81,7 +81,7 @@ fn number_piece(alloc: Global, text: &[u8]) -> Result<Option<DriverPiece>, Alloc
     }
 }
 
-// The sign that begins at a position, of two bytes where they spell one, and the position after it.
+// The longest sign at a position, of one or two bytes, and the position after it.
 fn sign_at(line: &[u8], at: usize) -> Option<(DriverPiece, usize)>
     requires within { at < length line.now }
     requires no_word { IsWordByte (slice_index line.now at) → ⊥ }

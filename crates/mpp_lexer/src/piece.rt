@@ -42,7 +42,7 @@ pub enum DriverPiece {
 pub struct Line {
     /// The number of the line, from 1. Lines without tokens count.
     pub number: u32,
-    /// How many spaces stand before the first token.
+    /// The number of spaces before the first token.
     pub indent: u32,
     pub tokens: Seq<DriverPiece>,
 }

@@ -1,5 +1,5 @@
--- The law of lines: reading on as long as commands stand at the start reads the longest prefix that spells commands,
--- and what the lines spell with that rest is one thing.
+-- The law of lines: parsing as many commands as there are yields the longest prefix that spells
+-- commands, and with that rest the lines spell one list of commands.
 use Rattle.std.proofs.Common.{◌≡◌, ◌⊎◌, ℕ, zero, suc, ◌<◌, ◌≤◌, List, [], ◌∷◌, ◌++◌, length, Option, Some, None, refl, sym, ap, ◌∙◌, subst, append_assoc, arith}
 use Rattle.std.proofs.Common.{inl, inr}
 use Rattle.std.proofs.lemmas.Bool.{cases_lt}
@@ -27,7 +27,7 @@ pub front_shrinks : {P : Line → Type 0} {ls rest : List Line} → Front P ls r
 front_shrinks stop = omega arith
 front_shrinks (go_on p f) = omega (arith, front_shrinks f)
 
--- a rest that is longer begins with a line of the kind, and one as long is the same
+-- a longer rest begins with a line of the kind, and one of the same length is the same
 pub record Begins (P : Line → Type 0) (ls : List Line) : Type 0 where
   pub line : Line
   pub others : List Line
@@ -45,11 +45,11 @@ front_same stop (go_on q g) h = absurd (omega (arith, front_shrinks g))
 front_same (go_on p f) stop h = absurd (omega (arith, front_shrinks f))
 front_same (go_on p f) (go_on q g) h = front_same f g h
 
--- what a reader reads is spelled so
+-- what the parser yields, the lines spell
 abbrev pub Sound : {A : Type 0} → (A → List Line → List Line → Type 0) → (List Line → Option (A × List Line)) → Type 0
 Sound R p = (ls : List Line) → Each (λ x. R x.0 ls x.1) (p ls)
 
--- a reader reads at least as far as what is spelled goes, and that where it goes as far
+-- a parser goes at least as far as a spelling, and yields the same if it goes as far
 pub record Reaches {A : Type 0} (o : Option (A × List Line)) (y : A) (r : List Line) : Type 0 where
   pub tree : A
   pub rest : List Line
@@ -63,7 +63,7 @@ Greedy {A} R p = (y : A) (ls r : List Line) → R y ls r → Reaches (p ls) y r
 abbrev pub Shrinks : {A : Type 0} → (A → List Line → List Line → Type 0) → Type 0
 Shrinks {A} R = (y : A) (ls r : List Line) → R y ls r → length r < length ls
 
--- after a shorter spelling of what is read nothing of the kind begins
+-- after a shorter spelling of what is parsed nothing of the kind begins
 abbrev pub Apart : {A : Type 0} → (A → List Line → List Line → Type 0) → (List Line → Option (A × List Line)) → Type 0
 Apart {A} R p = (y x z : A) (ls r m s : List Line) → R y ls r → p ls ≡ Some (x, m) → length m < length r → R z r s → ⊥
 
@@ -71,13 +71,13 @@ found_at : {A : Type 0} (P : A × List Line → Type 0) {o : Option (A × List L
 found_at P absent e = absurd (cc)
 found_at P {x = x} {m = m} (here {x = w} d) e = let same : w ≡ (x, m) = cc in subst P same d
 
--- what many_at reads
+-- the result of many_at
 pub record ManyRead {A : Type 0} (R : A → List Line → List Line → Type 0) (done : List A) (ls : List Line) (out : List A × List Line) : Type 0 where
   pub others : List A
   pub all : out.0 ≡ done ++ others
   pub many : Many R others ls out.1
 
--- it reads at least as far as these, and these where it reads as far
+-- it goes at least as far as these, and yields these if it goes as far
 pub record ManyReaches {A : Type 0} (out : List A × List Line) (done : List A) (ys : List A) (r : List Line) : Type 0 where
   pub far : length out.1 ≤ length r
   pub same : length out.1 ≡ length r → (out.0 ≡ done ++ ys) × (out.1 ≡ r)

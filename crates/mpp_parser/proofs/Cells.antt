@@ -1,4 +1,4 @@
--- Single tokens, names of cells, numbers and kinds: reading gives them exactly where the tokens spell them.
+-- Single tokens, cells, numbers and kinds: parsing yields exactly what the tokens spell.
 use Rattle.std.proofs.Common.{◌≡◌, ℕ, Bool, true, false, cond, List, [], ◌∷◌, length, Option, Some, None, codes, refl, sym, ap, ◌∙◌, subst, arith}
 use Rattle.std.specs.Str.{bytes_eq}
 use Rattle.std.proofs.lemmas.Slice.Eq.{bytes_eq-Decides}
@@ -69,7 +69,7 @@ word_given w ts e = rw e refl
 pub key_given : (k : Keyword) (w : List ℕ) (ts : List DriverPiece) → keyword_of w ≡ Some k → found k (Some k) ≡ Some tt → key_at k (Word w ∷ ts) ≡ Some (tt, ts)
 key_given k w ts e f = rw (e, f) refl
 
--- Names of cells.
+-- Cells.
 pub cell_rest_sound : (w : List ℕ) (ts : List DriverPiece) → keyword_of w ≡ None → Each (λ (c : CellName × List DriverPiece). SpellsCell c.0 (Word w ∷ ts) c.1)
     (cell_rest_at w ts)
 unfolding cell_rest_at bracket_at
@@ -152,7 +152,7 @@ pub kind_shrinks : Shrinks SpellsKind
 kind_shrinks _ _ _ benefit = omega arith
 kind_shrinks _ _ _ (attribute e (numbers d c)) = omega (arith, number_shrinks _ _ _ d, chain_shrinks (is Comma) (λ _ x. x) SpellsNumber number_shrinks c)
 
--- neither `,` nor `=` goes on with a kind
+-- neither `,` nor `=` continues a kind
 abbrev pub EndsKind : List DriverPiece → Type 0
 EndsKind ts = (sign_at Comma ts ≡ None) × (sign_at Assign ts ≡ None)
 
@@ -165,7 +165,7 @@ unfolding kind_at benefit_of
 kind_complete _ _ _ benefit h = rw (free_benefit, h.1) refl
 kind_complete _ _ _ (attribute e d) h = rw (e, numbers_complete _ _ _ d h.0) refl
 
--- What stands in brackets of its own.
+-- A cell or a kind in brackets.
 module _ {A : Type 0} (R : A → List DriverPiece → List DriverPiece → Type 0) (p : List DriverPiece → Option (A × List DriverPiece)) where
   pub enclosed_sound : Sound R p → (ts : List DriverPiece)
       → Each (λ (x : A × List DriverPiece). (us : List DriverPiece) × (ts ≡ Sign OpenParen ∷ us) × R x.0 us (Sign CloseParen ∷ x.1)) (enclosed_at p ts)

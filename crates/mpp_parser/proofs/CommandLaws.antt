@@ -33,7 +33,7 @@ and_both : (a b : Bool) → (a && b) ≡ true → (a ≡ true) × (b ≡ true)
 and_both true b e = (refl, e)
 and_both false b e = absurd (cc)
 
--- a test that holds, as `Each` sees it
+-- a test that holds, as a case of `Each`
 pub tested : {A : Type 0} {P : A → Type 0} (b : Bool) (o : Option A) → (b ≡ true → Each P o) → Each P (cond b o None)
 tested true o h = h refl
 tested false o h = absent
@@ -79,11 +79,11 @@ else_given : (i : ℕ) (l : Line) (ls : List Line) → Says i sentences.Else l �
 unfolding else_at
 else_given i l ls h = rw (eqb_same l.indent i h.at, else_complete l.tokens h.says) refl
 
--- a line that stands in a command, after its first
+-- a line of a command, after its first
 abbrev pub Deep : ℕ → Line → Type 0
 Deep i l = (i < l.indent) ⊎ ((l.indent ≡ i) × SpellsSentence sentences.Else l.tokens [])
 
--- how a command begins
+-- the first line of a command
 pub record Starts (i : ℕ) (ls : List Line) : Type 0 where
   pub line : Line
   pub others : List Line
@@ -139,7 +139,7 @@ module _ (B : ℕ → List Act → List Line → List Line → Type 0) (b : ℕ 
       starts_apart (command_starts c) (front_begins (command_tail (read_is (SpellsCommand B i) (command_at b i) good (command_shrinks i) e)) (command_tail d)
       less)
 
-  -- What is read is spelled so.
+  -- What is parsed is spelled so.
   otherwise_sound : (i : ℕ) (l : Line) (t : Term) (acts : List Act) (ls ms : List Line) → Says i (sentences.If t) l → B i acts ls ms
       → SpellsCommand B i (when l.number t (block_of acts) (block_of (otherwise_at b i ms).0)) (l ∷ ls) (otherwise_at b i ms).1
   unfolding otherwise_at
@@ -173,7 +173,7 @@ module _ (B : ℕ → List Act → List Line → List Line → Type 0) (b : ℕ 
   command_sound i (l ∷ ls) = tested (l.indent == i) _
       (λ e. bind_each (line_each l) (λ s d. stated_sound i l s ls (record { at = eqb-true l.indent i e; says = d })))
 
-  -- What is spelled is read as far.
+  -- What is spelled is parsed at least as far.
   at_line : (i : ℕ) (l : Line) (s : Sentence) (ls : List Line) → Says i s l → command_at b i (l ∷ ls) ≡ stated_at b i l.number s ls
   unfolding command_at
   at_line i l s ls h = rw (eqb_same l.indent i h.at, line_complete s l.tokens h.says) refl

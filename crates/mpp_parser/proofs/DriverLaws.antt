@@ -1,4 +1,4 @@
--- The law of blocks, functions and drivers: the knot.
+-- The law of blocks, functions and drivers: the recursion is closed here.
 use Rattle.std.proofs.Common.{◌≡◌, ◌==◌, ℕ, zero, suc, ◌<◌, nat_lt, List, [], ◌∷◌, length, Option, refl, sym, ap, ◌∙◌, subst, arith, inl, inr}
 use Rattle.std.proofs.lemmas.Bool.{lt-ltb, ltb-true, eqb-true}
 use Rattle.m_places.specs.declared.limits.TheConstants.{DRIVER_LEVEL}
@@ -18,7 +18,7 @@ use Rattle.mpp_parser.proofs.BlockLaws.{many_shrinks, ManyReaches, many_greedy, 
 use Rattle.mpp_parser.proofs.CommandLaws.{tested, line_each, eqb_same, command_sound, command_shrinks, command_tail, command_starts, command_apart}
 use Rattle.mpp_parser.proofs.CommandLaws.{command_greedy, Starts, Deep}
 
--- What holds of a reader of blocks.
+-- The invariants of a parser of blocks.
 pub record Blocks (B : ℕ → List Act → List Line → List Line → Type 0) (b : ℕ → List Line → Option (List Act × List Line)) : Type 0 where
   pub sound : (i : ℕ) → Sound (B i) (b i)
   pub shrinks : (i : ℕ) → Shrinks (B i)
@@ -32,7 +32,7 @@ module _ (B : ℕ → List Act → List Line → List Line → Type 0) (b : ℕ 
   is_shorter : (i : ℕ) → Shrinks (SpellsCommand B i)
   is_shorter = command_shrinks B b law.sound law.shrinks law.front law.greedy
 
-  -- all lines of commands at an indentation stand at it or deeper
+  -- all lines of commands at an indentation have it or a greater one
   commands_front : {i j : ℕ} {acts : List Act} {ls rest : List Line} → i < j → Many (SpellsCommand B j) acts ls rest → Front (λ l. i < l.indent) ls rest
   commands_front h no_more = stop
   commands_front {i} {j} h (one_more {x = c} {ls = ls} {mid = mid} d e) = front_then (one (command_starts B b law.sound law.shrinks law.front law.greedy d))
@@ -72,7 +72,7 @@ module _ (B : ℕ → List Act → List Line → List Line → Type 0) (b : ℕ 
   many_none no_more e = refl
   many_none (one_more d m) e = absurd (cc)
 
--- The knot, by how many blocks may stand inside of one another.
+-- Induction on the nesting of blocks.
 module _ (B : ℕ → List Act → List Line → List Line → Type 0) (d : ℕ) (law : Blocks B (block_at d)) where
   next_sound : (i : ℕ) → Sound (SpellsBlock B i) (block_at (suc d) i)
   unfolding block_at
@@ -165,7 +165,7 @@ unfolding functions_at
 driver_longest ls d r m = (many_greedy SpellsFunction function_at function_sound function_shrinks function_greedy function_apart (length ls) [] m
     (omega arith)).far
 
--- with one rest one driver
+-- the lines and the rest determine the driver
 pub one_driver : (ls r : List Line) (d e : Driver) → SpellsDriver d ls r → SpellsDriver e ls r → IsLongest ls r → d ≡ e
 unfolding functions_at
 one_driver ls r d e a b longest =
@@ -177,7 +177,7 @@ one_driver ls r d e a b longest =
     let other = (w.same (omega (arith, short, w.far))).0 in
     λ i. record { functions = (sym same ∙ other) i }
 
--- the longest prefix ends where reading does
+-- the longest prefix is the one that is parsed
 pub one_rest : (ls r : List Line) (d : Driver) → SpellsDriver d ls r → IsLongest ls r → (functions_at ls).1 ≡ r
 unfolding functions_at
 one_rest ls r d a longest =

@@ -1,4 +1,4 @@
--- The ways out of a reader by a fault, and what stands inside of brackets by how many further ones may be opened.
+-- Parsers that fail, and terms in brackets by how deep further ones may be nested.
 use Rattle.std.proofs.Common.{◌≡◌, ℕ, zero, suc, ◌-◌, List, Option, None, Result, Ok, Err, refl, ap, arith}
 use Rattle.std.specs.Result.{IsErrAnd}
 use Rattle.mpp_lexer.specs.declared.piece.DriverPiece.{DriverPiece}
@@ -10,7 +10,7 @@ fails : {A B : Type 0} (e : Unread) (p : Option A) (q : Option B) → (p ≡ Non
 fails NotSpelled p q f h = f h
 fails Memory p q f h = tt
 
--- where a part is missing, so that the whole is
+-- a missing part makes the whole fail
 pub exit : {A B C : Type 0} (view : B → C) (result : Result B Unread) (e : Unread) {p : Option A} {q : Option (C × List DriverPiece)} (rest : List DriverPiece)
     → IsErrAnd result (λ x. x ≡ e) → (p ≡ None → q ≡ None) → Fails e p → GivesBy view result q rest
 exit view (Ok x) e rest h f g = absurd h

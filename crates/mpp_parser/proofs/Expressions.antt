@@ -1,4 +1,5 @@
--- The law of terms: reading gives a tree exactly where the tokens spell it, before what doesn't go on with it.
+-- The law of terms: parsing yields exactly the trees that the tokens spell, before a token that
+-- doesn't continue the term.
 use Rattle.std.proofs.Common.{◌≡◌, ◌<◌, ℕ, zero, suc, List, ◌∷◌, Option, Some, None, refl, sym, subst, lit<, arith}
 use Rattle.m_places.specs.declared.limits.TheConstants.{BRACKET_DEPTH}
 use Rattle.m_fixed.specs.declared.operator.Op.TheVariants as ops
@@ -198,7 +199,7 @@ module _ (E : Term → List DriverPiece → List DriverPiece → Type 0) (shrink
     disjunction_complete = gathered_complete disjunction (SpellsConjunction E) (conjunction_at e) 1 conjunction_shrinks conjunction_complete disjunction_binds
         disjunction_closed
 
--- The knot, by how many brackets may be opened.
+-- Induction on the nesting of brackets.
 pub inner_sound : (d : ℕ) → Sound (SpellsInner d) (inner_at d)
 unfolding SpellsInner inner_at
 inner_sound zero = λ ts. absent

@@ -1,4 +1,4 @@
--- Bytes spell at most one driver, and have no fault where they spell one.
+-- Bytes parse to at most one driver, and have no error if they parse.
 use Rattle.std.proofs.Common.{◌≡◌, ℕ, List, [], ◌∷◌, Result, Ok, Err, refl, sym, ap, ◌∙◌, subst, arith}
 use Rattle.m_places.specs.Refusals.{Outcome}
 use Rattle.m_text.specs.Lines.{lines_of}
@@ -14,7 +14,7 @@ use Rattle.mpp_parser.specs.Faults.{HasLines, IsDriver, StopsAt, IsLineFault, Is
 use Rattle.mpp_parser.specs.inner.Blocks.{functions_at}
 use Rattle.mpp_parser.proofs.DriverLaws.{one_driver, driver_read, driver_longest, one_rest}
 
--- what the reading of lines is
+-- the result of parsing lines
 pub read_all : (ls : List Line) (fs : List Function) (rest : List Line) → functions_at ls ≡ (fs, rest) → rest ≡ []
     → SpellsDriver (record { functions = fs }) ls []
 read_all ls fs rest e f = subst (λ r. SpellsDriver (record { functions = fs }) ls r) f
@@ -54,7 +54,7 @@ driver_or_fault bytes d (DriverSyntax n) a f =
     omega arith
 driver_or_fault bytes d Memory a f = f
 
--- One fault.
+-- One error.
 one_deep : {earlier ls : List Line} {m n : ℕ} → FirstTooDeep earlier ls m → FirstTooDeep earlier ls n → m ≡ n
 one_deep (here e) (here f) = refl
 one_deep (here e) (later f d) = absurd (cc)
@@ -89,7 +89,7 @@ one_fault bytes (DriverSyntax m) (DriverSyntax n) a b =
 one_fault bytes Memory other a b = absurd a
 one_fault bytes fault Memory a b = absurd b
 
--- what holds of the lines of bytes holds of the bytes
+-- the result for the lines of bytes is the result for the bytes
 pub of_bytes : (bytes : List ℕ) (ls : List Line) (result : Result Driver DriverFault) → HasLines bytes ls
     → Outcome Memory result (λ driver. Shallow [] ls × SpellsDriver driver ls []) (IsLineFault ls) → Outcome Memory result (IsDriver bytes) (IsFault bytes)
 of_bytes bytes ls (Ok d) h o = record { lines = ls; lexed = h; shallow = o.0; spelled = o.1 }

@@ -1,4 +1,4 @@
--- The levels of operators, and which token goes on with what stands before it.
+-- The levels of operators, and which tokens continue a term.
 use Rattle.std.proofs.Common.{◌≡◌, ◌<◌, ℕ, suc, List, [], ◌∷◌, length, Option, Some, None, option_map, refl, ap, lit<, arith}
 use Rattle.m_fixed.specs.declared.operator.Op.{Op}
 use Rattle.m_fixed.specs.declared.operator.Op.TheVariants as ops
@@ -41,12 +41,12 @@ module _ (operator : DriverPiece → Option Op) (R : Term → List DriverPiece �
         e,
       ) refl
 
-  -- what begins so goes on so
+  -- a property of the first tokens of operands is one of chains
   pub gathered_begins : (P : List DriverPiece → Type 0) → ((t : Term) (ts rest : List DriverPiece) → R t ts rest → P ts)
       → {t : Term} {ts rest : List DriverPiece} → Gathered operator R t ts rest → P ts
   gathered_begins P begins (gather d c e) = begins _ _ _ d
 
--- Which token goes on with what stands before it.
+-- Which tokens continue a term.
 pub multiplication_binds : (t : DriverPiece) (o : Op) (ts : List DriverPiece) → multiplication t ≡ Some o → Below 6 (t ∷ ts)
 multiplication_binds (Sign Star) o ts e = lit< tt
 multiplication_binds (Sign Slash) o ts e = lit< tt

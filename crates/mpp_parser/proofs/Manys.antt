@@ -1,4 +1,4 @@
--- A loop over lines: what is done, and what the rest adds, is the whole.
+-- A loop over lines: the result so far, with what the rest adds, is the result.
 use Rattle.std.proofs.Common.{◌≡◌, ◌≤◌, ◌<◌, ℕ, zero, suc, ◌-◌, List, [], ◌∷◌, ◌++◌, length, Option, Some, None, refl, sym, ap, ◌∙◌, arith}
 use Rattle.std.proofs.lemmas.Bool.{le-ltb, lt-ltb}
 use Rattle.mpp_lexer.specs.declared.piece.Line.{Line}
@@ -6,7 +6,7 @@ use Rattle.mpp_parser.specs.Commands.{Act}
 use Rattle.mpp_parser.specs.inner.Blocks.{many_at, commands_at, some_of, block_at}
 
 module _ {A : Type 0} (p : List Line → Option (A × List Line)) where
-  -- with these done at ls, all is the whole
+  -- from ls on, with these done, the result is the whole
   pub record Going (whole : List A × List Line) (done : List A) (ls : List Line) : Type 0 where
     pub left : ℕ
     pub enough : length ls ≤ left
@@ -32,7 +32,7 @@ module _ {A : Type 0} (p : List Line → Option (A × List Line)) where
         go zero = refl
         go (suc n) = rw r refl
 
--- blocks, by how many may stand inside of one another
+-- blocks, by how deep they may be nested
 pub block_none : (d i : ℕ) (ls : List Line) → d ≡ 0 → block_at d i ls ≡ None
 unfolding block_at
 block_none d i ls e = ap (λ n. block_at n i ls) e
@@ -55,7 +55,7 @@ given_some : (acts : List Act) (m : List Line) → (length acts ≡ 0 → ⊥) �
 given_some [] m ne = absurd (ne refl)
 given_some (a ∷ acts) m ne = refl
 
--- the block of deeper lines, by the commands that stand there
+-- the block of deeper lines, by the commands at its start
 opened : (d i : ℕ) (l : Line) (ls rest : List Line) (acts : List Act) (m : List Line) → (d ≡ 0 → ⊥) → ls ≡ l ∷ rest → i < l.indent
     → commands_at (block_at (d - 1)) l.indent ls ≡ (acts, m) → block_at d i ls ≡ some_of acts m
 unfolding block_at

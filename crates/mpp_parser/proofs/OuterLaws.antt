@@ -1,4 +1,4 @@
--- What is kept from line to line gives the level of each.
+-- The indentations updated from line to line give each line's level.
 use Rattle.std.proofs.Common.{◌≡◌, ◌≤◌, ◌<◌, ℕ, Bool, true, false, ◌||◌, nat_lt, List, [], ◌∷◌, length, get_or, refl, sym, ap, ◌∙◌, arith, inl, inr}
 use Rattle.std.specs.List.{remove}
 use Rattle.std.proofs.lemmas.Bool.{cases_lt, lt-ltb, le-ltb}
@@ -41,7 +41,7 @@ pub left_all : (xs : List ℕ) (i d : ℕ) → 0 < length xs → get_or xs 0 d <
 left_all [] i d h k = absurd (omega arith)
 left_all (x ∷ xs) i d h k = rw (lt-ltb x i k) refl
 
--- A walk over lines: what is known of those that are left is known of all.
+-- A walk over lines: the result for the remaining lines is the result for all.
 pub record Walked (all : List Line) (outers : List ℕ) (left : List Line) : Type 0 where
   pub earlier : List Line
   pub chain : outers ≡ chain_of earlier

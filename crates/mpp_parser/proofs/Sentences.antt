@@ -1,4 +1,5 @@
--- The law of lines: reading gives what a line says exactly where the tokens spell it, and at most one thing.
+-- The law of lines: parsing yields exactly the sentence that the tokens spell, and there is at most
+-- one.
 use Rattle.std.proofs.Common.{◌≡◌, ◌≢◌, ℕ, Bool, true, false, cond, List, [], ◌∷◌, length, Option, Some, None, Result, Ok, Err, MatchResult, refl, sym, ap, ◌∙◌}
 use Rattle.std.proofs.Common.{subst, lit<, arith}
 use denote.Enum.Bare.{sameb, same_true}
@@ -26,7 +27,7 @@ use Rattle.mpp_parser.proofs.Tightness.{Below}
 use Rattle.mpp_parser.proofs.Cells.{key_each, word_each, cell_rest_sound, cell_sound, cell_shrinks, cell_complete, kind_sound, kind_complete}
 use Rattle.mpp_parser.proofs.Expressions.{until_sound, until_complete, term_sound, term_shrinks, term_complete}
 
--- What is read is spelled so.
+-- What is parsed is spelled so.
 called_sound : (c : CellName) (cs : List CellName) (ts us : List DriverPiece) → SpellsCells (c ∷ cs) ts us
     → Each (λ (s : Sentence × List DriverPiece). SpellsSentence s.0 ts s.1) (called_at (c ∷ cs) us)
 unfolding called_at
@@ -90,9 +91,9 @@ unfolding sentence_at
 sentence_sound (Word w ∷ ts) = worded_sound w (keyword_of w) ts refl
 sentence_sound _ = absent
 
--- What is spelled is read so.
+-- What is spelled is parsed so.
 
--- what ends the name of a cell at the start of a command
+-- the tokens that can follow a cell at the start of a command
 abbrev EndsName : List DriverPiece → Type 0
 EndsName ts = (sign_at OpenParen ts ≡ None) × (sign_at OpenBracket ts ≡ None) × (sign_at Assign ts ≡ None)
 
@@ -110,7 +111,7 @@ cells_end : {cs : List CellName} {mid us : List DriverPiece} → Chain (is Comma
 cells_end ended = ((refl, refl, refl), lit< tt)
 cells_end (further {t = t} {b = b} {ts = ts} o d c) = comma_ends t b ts o
 
--- what ends a list of cells
+-- the tokens that can follow a list of cells
 abbrev EndsCells : List DriverPiece → Type 0
 EndsCells ts = (sign_at Comma ts ≡ None) × Below 6 ts
 

@@ -1,4 +1,4 @@
--- What is read of a sign is spelled so.
+-- A sign that is parsed is spelled so.
 use Rattle.std.proofs.Common.{◌≡◌, Bool, true, false, cond, List, [], ◌∷◌, Some, None, refl, ap}
 use denote.Enum.Bare.{sameb, same_true}
 use Rattle.mpp_lexer.specs.contracts.piece.DriverSign.{the_type}

@@ -1,4 +1,4 @@
--- How tightly tokens bind what stands before them.
+-- How tightly tokens bind to what precedes them.
 use Rattle.std.proofs.Common.{◌<◌, ℕ, List, [], ◌∷◌, Option, Some}
 use Rattle.mpp_lexer.specs.declared.piece.DriverPiece.{DriverPiece}
 use Rattle.mpp_lexer.specs.declared.piece.DriverPiece.TheVariants.{Word, Sign}
@@ -13,7 +13,7 @@ key_tightness (Some And) = 2
 key_tightness (Some Or) = 1
 key_tightness _ = 0
 
--- how tightly a token binds what stands before it: 0 where a term ends at it
+-- how tightly a token binds to what precedes it: 0 if it ends a term
 abbrev pub tightness : DriverPiece → ℕ
 tightness (Sign OpenBracket) = 6
 tightness (Sign Star) = 5
@@ -33,6 +33,6 @@ abbrev pub tight : List DriverPiece → ℕ
 tight [] = 0
 tight (t ∷ ts) = tightness t
 
--- what binds less than k
+-- the next token binds less than k
 abbrev pub Below : ℕ → List DriverPiece → Type 0
 Below k ts = tight ts < k

@@ -1,4 +1,4 @@
--- The command that a node stands for, and the block that a list of commands makes.
+-- The command of a node, and the block of a list of commands.
 use Rattle.std.specs.Prelude.{List, [], ◌∷◌}
 use Rattle.mpp_parser.specs.declared.command.CommandNode.{CommandNode}
 use Rattle.mpp_parser.specs.declared.command.CommandNode.TheVariants.{Set, Del, If, Partition, Call}

@@ -1,4 +1,4 @@
--- What contracts see of a driver's commands. Two are equal where these are.
+-- The commands of a driver as contracts see them; equality of commands is equality of these.
 use Rattle.std.specs.Prelude.{ℕ, ◌+◌, List}
 use Rattle.mpp_parser.specs.declared.term.CellName.{CellName}
 use Rattle.mpp_parser.specs.declared.term.Kind.{Kind}
@@ -19,7 +19,7 @@ mutual
     no_acts : Acts
     an_act : Act → Acts → Acts
 
--- how many commands a command has in it, itself too: a measure for recursion
+-- the number of commands in a command, including itself: a measure for recursion
 abbrev mutual
   pub act_nodes : Act → ℕ
   act_nodes (set n c t) = 1

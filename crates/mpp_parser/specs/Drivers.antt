@@ -1,7 +1,8 @@
--- How lines are spelled: blocks, commands, functions and whole drivers.
+-- The grammar of lines: blocks, commands, functions and whole drivers.
 --
--- In each relation the last two arguments are lines. `SpellsCommand B i c ls rest` says that the lines ls begin with a
--- spelling of the command c at the indentation i, and that rest are the lines after it. B says how blocks are spelled.
+-- In each relation the last two arguments are lists of lines. `SpellsCommand B i c ls rest`: the
+-- lines ls begin with a spelling of the command c at the indentation i, and rest are the lines
+-- after it. B is the grammar of blocks.
 use Rattle.std.specs.Prelude.{◌≡◌, ℕ, zero, suc, ◌<◌, ◌≤◌, List, [], ◌∷◌, length}
 use Rattle.m_places.specs.declared.limits.TheConstants.{DRIVER_LEVEL}
 use Rattle.mpp_lexer.specs.declared.piece.Line.{Line}
@@ -16,7 +17,7 @@ use Rattle.mpp_parser.specs.Commands.{Act, set, del, when, partition, call, no_a
 use Rattle.mpp_parser.specs.CommandView.{block_of}
 use Rattle.mpp_parser.specs.Grammar.{SpellsSentence}
 
--- a line at an indentation that says just this
+-- a line with this indentation that spells this sentence
 pub record Says (i : ℕ) (s : Sentence) (l : Line) : Type 0 where
   pub at : l.indent ≡ i
   pub says : SpellsSentence s l.tokens []
@@ -28,8 +29,8 @@ pub data Many {A : Type 0} (R : A → List Line → List Line → Type 0) : List
       → R x ls mid → Many R xs mid rest →
       Many R (x ∷ xs) ls rest
 
--- A command at the indentation i: a line, and under a condition, an `else` or a partition a block. An `else` stands right
--- after the block of its `if`, and has the same indentation.
+-- A command at the indentation i: a line, and after a condition, an `else` or a partition a block.
+-- An `else` comes directly after the block of its `if`, and has its indentation.
 pub data SpellsCommand (B : ℕ → List Act → List Line → List Line → Type 0) (i : ℕ) : Act → List Line → List Line → Type 0 where
   sets : {l : Line} {c : CellName} {t : Term} {rest : List Line} → Says i (sentences.Set c t) l →
       SpellsCommand B i (set l.number c t) (l ∷ rest) rest
@@ -45,26 +46,27 @@ pub data SpellsCommand (B : ℕ → List Act → List Line → List Line → Typ
       Says i sentences.Else m → B i b ms rest →
       SpellsCommand B i (when l.number t (block_of a) (block_of b)) (l ∷ ls) rest
 
--- The block of a line with the indentation i: one command or more, all at one indentation, which is greater than i.
+-- The block under a line with the indentation i: at least one command, all at one indentation
+-- greater than i.
 pub data SpellsBlock (B : ℕ → List Act → List Line → List Line → Type 0) (i : ℕ) : List Act → List Line → List Line → Type 0 where
   block : {l : Line} {a : Act} {acts : List Act} {ls rest : List Line} → i < l.indent → Many (SpellsCommand B l.indent) (a ∷ acts) (l ∷ ls) rest →
       SpellsBlock B i (a ∷ acts) (l ∷ ls) rest
 
--- a block in which at most d - 1 blocks stand inside of one another
+-- a block in which blocks are nested at most d - 1 deep
 unfoldable pub SpellsInnerBlock : ℕ → ℕ → List Act → List Line → List Line → Type 0
 SpellsInnerBlock zero i = λ b ls rest. ⊥
 SpellsInnerBlock (suc d) i = SpellsBlock (SpellsInnerBlock d) i
 
--- A function, whose first line has no indentation. A line in more than 64 blocks is too deep before.
+-- A function; its first line has no indentation. Lines nested deeper than 64 are rejected earlier.
 pub data SpellsFunction : Function → List Line → List Line → Type 0 where
   function : {l : Line} {name : List ℕ} {body : List Act} {ls rest : List Line} → Says 0 (sentences.Function name) l
       → SpellsInnerBlock DRIVER_LEVEL 0 body ls rest →
       SpellsFunction (record { name = name; line = l.number; body = body }) (l ∷ ls) rest
 
--- The lines begin with a driver, and go on with rest: functions, any number of them.
+-- The lines begin with a driver, which is any number of functions, followed by rest.
 abbrev pub SpellsDriver : Driver → List Line → List Line → Type 0
 SpellsDriver d = Many SpellsFunction d.functions
 
--- no prefix of the lines that spells a driver leaves less than rest
+-- no longer prefix of the lines is a driver
 abbrev pub IsLongest : List Line → List Line → Type 0
 IsLongest ls rest = (d : Driver) (r : List Line) → SpellsDriver d ls r → length rest ≤ length r

@@ -1,4 +1,4 @@
--- What the bytes of a driver spell, and the fault for which they are refused.
+-- The driver that bytes parse to, or the error for which they are rejected.
 use Rattle.std.specs.Prelude.{◌≡◌, ℕ, List, [], ◌∷◌}
 use Rattle.m_text.specs.Lines.{lines_of}
 use Rattle.mpp_lexer.specs.declared.piece.Line.{Line}
@@ -13,15 +13,16 @@ use Rattle.mpp_parser.specs.Drivers.{SpellsDriver, IsLongest}
 abbrev pub HasLines : List ℕ → List Line → Type 0
 HasLines bytes ls = Lexes 1 (lines_of bytes) ls
 
--- the bytes spell the driver: they have lines, none of them is too deep, and all of them spell it
+-- the bytes parse to the driver: they have lines, none of them is too deep, and all of them spell
+-- it
 pub record IsDriver (bytes : List ℕ) (driver : Driver) : Type 0 where
   pub lines : List Line
   pub lexed : HasLines bytes lines
   pub shallow : Shallow [] lines
   pub spelled : SpellsDriver driver lines []
 
--- The line with this number is the first after the longest prefix of the lines that spells a driver. Of `main():` alone that
--- prefix is empty, so it is line 1.
+-- The line with this number is the first after the longest prefix of the lines that is a driver.
+-- For `main():` alone that prefix is empty, so it is line 1.
 pub record StopsAt (lines : List Line) (number : ℕ) : Type 0 where
   pub driver : Driver
   pub line : Line
@@ -30,14 +31,14 @@ pub record StopsAt (lines : List Line) (number : ℕ) : Type 0 where
   pub longest : IsLongest lines (line ∷ others)
   pub numbered : number ≡ line.number
 
--- a fault of lines
+-- an error of lines
 abbrev pub IsLineFault : List Line → DriverFault → Type 0
 IsLineFault lines (DriverToken n) = ⊥
 IsLineFault lines (DriverTooDeep n) = FirstTooDeep [] lines n
 IsLineFault lines (DriverSyntax n) = Shallow [] lines × StopsAt lines n
 IsLineFault lines Memory = ⊥
 
--- a fault of bytes: of their tokens, or else of their lines
+-- an error of bytes: of their tokens, or else of their lines
 abbrev pub IsFault : List ℕ → DriverFault → Type 0
 IsFault bytes (DriverToken n) = FirstBadToken 1 (lines_of bytes) n
 IsFault bytes (DriverTooDeep n) = (lines : List Line) × HasLines bytes lines × FirstTooDeep [] lines n

@@ -1,7 +1,8 @@
--- How terms and lines are spelled: relations between trees and tokens.
+-- The grammar of terms and lines, as relations between trees and tokens.
 --
--- In each relation the last two arguments are tokens. `SpellsSum E t ts rest` says that the tokens ts begin with a
--- spelling of the sum t, and that rest are the tokens after it. E says how terms inside of brackets are spelled.
+-- In each relation the last two arguments are lists of tokens. `SpellsSum E t ts rest`: the tokens
+-- ts begin with a spelling of the sum t, and rest are the tokens after it. E is the grammar of
+-- terms in brackets. The limits of nesting are part of the grammar.
 use Rattle.std.specs.Prelude.{◌≡◌, ℕ, zero, suc, ℤ, pos, cond, List, [], ◌∷◌, Option, Some, None, option_map, codes}
 use denote.Enum.Bare.{sameb}
 use Rattle.m_places.specs.declared.limits.TheConstants.{BRACKET_DEPTH}
@@ -75,7 +76,7 @@ multiplication _ = None
 abbrev pub link : Op → Term → DLink
 link op t = record { op = op; term = t }
 
--- one operand stands for itself, and several are a chain from the left
+-- one operand is itself, and several are a left-associative chain
 abbrev pub gathered : Term → List DLink → Term
 gathered t [] = t
 gathered t (l ∷ ls) = chain t (links_of (l ∷ ls))
@@ -93,9 +94,9 @@ unary op a = apply op (a_term a no_terms)
 abbrev pub binary : Op → Term → Term → Term
 binary op a b = apply op (a_term a (a_term b no_terms))
 
--- Names of cells, and kinds.
+-- Cells and kinds.
 
--- cell := WORD [ "[" WHOLE "]" ], where WORD is no reserved word
+-- cell := WORD [ "[" WHOLE "]" ], where WORD isn't reserved
 pub data SpellsCell : CellName → List DriverPiece → List DriverPiece → Type 0 where
   plain : {w : List ℕ} {rest : List DriverPiece} → keyword_of w ≡ None → SpellsCell (record { name = w; index = None }) (Word w ∷ rest) rest
   indexed : {w t : List ℕ} {z : ℤ} {n : ℕ} {rest : List DriverPiece}
@@ -125,7 +126,7 @@ pub data SpellsKind : Kind → List DriverPiece → List DriverPiece → Type 0 
 
 -- Terms.
 
--- a cell's value, and 0 where it is undefined: `v + 0`
+-- a cell's value, and 0 if it is undefined: `v + 0`
 abbrev pub cast_of : CellName → Term
 cast_of c = chain (named c) (a_link ops.Add (lit (Num (pos 0))) no_links)
 
@@ -180,12 +181,12 @@ SpellsConjunction E = Gathered conjunction (SpellsNegation E)
 abbrev pub SpellsDisjunction : (Term → List DriverPiece → List DriverPiece → Type 0) → Term → List DriverPiece → List DriverPiece → Type 0
 SpellsDisjunction E = Gathered disjunction (SpellsConjunction E)
 
--- what stands inside of brackets, where d further ones may be opened: a term in which d - 1 may be
+-- a term in brackets, in which brackets are nested at most d - 1 deep
 unfoldable pub SpellsInner : ℕ → Term → List DriverPiece → List DriverPiece → Type 0
 SpellsInner zero = λ t ts rest. ⊥
 SpellsInner (suc d) = SpellsDisjunction (SpellsInner d)
 
--- A term, in which at most 256 brackets stand inside of one another. A line in which more are open is too deep before.
+-- A term with brackets nested at most 256 deep. Lines with more open brackets are rejected earlier.
 abbrev pub SpellsTerm : Term → List DriverPiece → List DriverPiece → Type 0
 SpellsTerm = SpellsDisjunction (SpellsInner BRACKET_DEPTH)
 
@@ -197,7 +198,7 @@ pub data SpellsCells : List CellName → List DriverPiece → List DriverPiece �
       → SpellsCell c ts mid → Chain (is Comma) (λ _ x. x) SpellsCell cs mid rest →
       SpellsCells (c ∷ cs) ts rest
 
--- What one line says, by the tokens at its start:
+-- The sentence of one line, by the tokens at its start:
 --   WORD "(" ")" ":" | cell "=" term | "del" cell | cell { "," cell } "<-" WORD "(" ")"
 --   | "if" term ":" | "else" ":" | "partition" "with" kind ":"
 pub data SpellsSentence : Sentence → List DriverPiece → List DriverPiece → Type 0 where

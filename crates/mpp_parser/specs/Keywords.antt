@@ -4,7 +4,7 @@ use Rattle.std.specs.Str.{bytes_eq}
 use Rattle.mpp_parser.specs.declared.keyword.Keyword.{Keyword}
 use Rattle.mpp_parser.specs.declared.keyword.Keyword.TheVariants.{Del, If, Else, Partition, With, And, Or, Not, Present, Cast, Exists}
 
--- of those that stand in terms
+-- the keywords of terms
 unfoldable pub operator_keyword_of : List ℕ → Option Keyword
 operator_keyword_of word =
     if bytes_eq word (codes "and") then Some And else
@@ -14,7 +14,7 @@ operator_keyword_of word =
     if bytes_eq word (codes "cast") then Some Cast else
     if bytes_eq word (codes "exists") then Some Exists else None
 
--- The reserved word that a word is. `else` is one; `Else`, `taxbenefit` and `REV` are none.
+-- The keyword that a word is. `else` is one; `Else`, `taxbenefit` and `REV` aren't.
 unfoldable pub keyword_of : List ℕ → Option Keyword
 keyword_of word =
     if bytes_eq word (codes "del") then Some Del else

@@ -1,4 +1,4 @@
--- The term that a node stands for, and what lists of its parts stand for.
+-- The term of a node, and the lists of its parts.
 use Rattle.std.specs.Prelude.{List, [], ◌∷◌}
 use Rattle.mpp_parser.specs.declared.term.DNode.{DNode}
 use Rattle.mpp_parser.specs.declared.term.DNode.TheVariants.{Lit, Named, Apply, Chain, Exists}

@@ -1,4 +1,4 @@
--- What contracts see of a driver's terms. Two are equal where these are.
+-- The terms of a driver as contracts see them; equality of terms is equality of these.
 use Rattle.std.specs.Prelude.{ℕ, ◌+◌}
 use Rattle.m_fixed.specs.declared.amount.Value.{Value}
 use Rattle.m_fixed.specs.declared.operator.Op.{Op}
@@ -15,17 +15,17 @@ mutual
     chain : Term → Links → Term
     exists : Kind → Term
 
-  -- arguments of an operator
+  -- the arguments of an operator
   pub data Terms : Type 0 where
     no_terms : Terms
     a_term : Term → Terms → Terms
 
-  -- what a chain adds to its first operand, from left to right
+  -- the links of a chain, from left to right
   pub data Links : Type 0 where
     no_links : Links
     a_link : Op → Term → Links → Links
 
--- how many nodes a term has: a measure for recursion
+-- the number of nodes of a term: a measure for recursion
 abbrev mutual
   pub term_nodes : Term → ℕ
   term_nodes (lit v) = 1

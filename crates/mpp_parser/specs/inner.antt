@@ -1,4 +1,5 @@
--- How the logic stores trees, and what the contracts of inner functions speak of. Those of the public calls need none of it.
+-- The logic's encoding of trees, and what only the contracts of inner functions use. Those of the
+-- public calls use none of it.
 pub mod TermCoding
 pub mod TermFalls
 pub mod CommandCoding

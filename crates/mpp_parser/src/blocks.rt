@@ -1,4 +1,4 @@
-//! Blocks by their indentation, commands and functions.
+//! Parses blocks, which indentation delimits, commands and functions.
 ghost use Rattle.std.specs.Prelude.{◌≡◌, ℕ, ◌<◌, ◌≤◌, ◌∷◌, [], List, IfOk, OnOk, IfSome, MatchBool, MatchOption, Some, None, length};
 ghost use Rattle.std.specs.Bool.{OnTrue};
 ghost use Rattle.mpp_lexer.specs.declared.piece.DriverPiece.{DriverPiece};
@@ -16,7 +16,7 @@ use mpp_lexer::{DriverPiece, DriverSign, Line};
 use std::alloc::{AllocError, Global};
 use std::marker::Model;
 
-/// The lines that are left. Contracts see it as their list.
+/// The remaining lines. Contracts see it as their list.
 #[derive(Drop)]
 pub struct LineCursor<'a> {
     left: &'a [Line],
@@ -32,21 +32,21 @@ impl<'a> Model for LineCursor<'a> {
 }
 
 impl<'a> LineCursor<'a> {
-    /// A cursor before the first of these lines.
+    /// A cursor at the first of these lines.
     pub fn new(lines: &'a [Line]) -> LineCursor<'a>
         ensures { result ≡ lines.now }
     {
         LineCursor { left: lines }
     }
 
-    // A second cursor at the same place.
+    // A copy of the cursor.
     fn here(&self) -> LineCursor<'a>
         ensures { result ≡ self.now }
     {
         LineCursor { left: self.left }
     }
 
-    /// The next line, which stays.
+    /// The next line, without taking it.
     pub fn first(&self) -> Option<&'a Line>
         ensures { MatchOption result (self.now ≡ []) (λ l. (rest : List Line) × (self.now ≡ l.now ∷ rest)) }
     {
@@ -63,7 +63,7 @@ impl<'a> LineCursor<'a> {
         Some(first)
     }
 
-    // Takes the next line if it says `else:` at an indentation.
+    // Takes the next line if it is `else:` with this indentation.
     #[tactic(auto, unfolding(crate::specs::inner::Blocks::else_at))]
     fn take_else(&mut self, indent: u32) -> bool
         ensures line { MatchBool result (else_at indent self.old ≡ Some self.new) ((self.new ≡ self.old) × (else_at indent self.old ≡ None)) }
@@ -80,7 +80,7 @@ impl<'a> LineCursor<'a> {
     }
 }
 
-// Whether a line says `else:`.
+// Whether a line is `else:`.
 #[tactic(auto, unfolding(crate::specs::inner::Blocks::is_else))]
 fn is_else_line(tokens: &[DriverPiece]) -> bool
     ensures { result ≡ is_else tokens.now }
@@ -94,7 +94,7 @@ fn is_else_line(tokens: &[DriverPiece]) -> bool
     }
 }
 
-// What a whole line says, or none.
+// Parses a whole line; `None` if it is no sentence.
 fn line_sentence(alloc: Global, tokens: &[DriverPiece]) -> Result<Option<Sentence>, AllocError>
     ensures { IfOk result (λ s. line_at tokens.now ≡ s) }
 {
@@ -105,7 +105,7 @@ fn line_sentence(alloc: Global, tokens: &[DriverPiece]) -> Result<Option<Sentenc
     }
 }
 
-// As many commands as stand here at an indentation, with at most depth blocks inside of one another.
+// Parses as many commands as there are at an indentation, with blocks nested at most `depth` deep.
 #[cycle(blocks)]
 fn read_commands(
     alloc: Global,
@@ -123,7 +123,7 @@ fn read_commands(
     Ok(commands)
 }
 
-// The command that stands here at an indentation, or none, and then the cursor stays.
+// Parses a command at an indentation; on `None` the cursor hasn't moved.
 #[cycle(blocks)]
 #[tactic(auto, unfolding(crate::specs::inner::Blocks::command_at))]
 fn read_command(
@@ -153,7 +153,7 @@ fn read_command(
     Ok(Some(command))
 }
 
-// The command that a line begins which says so.
+// Parses the rest of a command whose first line is this sentence.
 #[cycle(blocks)]
 #[tactic(auto, unfolding(crate::specs::inner::Blocks::stated_at))]
 fn read_written(
@@ -191,7 +191,7 @@ fn read_written(
     }
 }
 
-// `else:` and its block, or an empty block where they don't stand here, and then the cursor stays.
+// Parses `else:` and its block; if there is none, the block is empty and the cursor hasn't moved.
 #[cycle(blocks)]
 #[tactic(auto, unfolding(crate::specs::inner::Blocks::otherwise_at))]
 fn read_otherwise(
@@ -214,7 +214,8 @@ fn read_otherwise(
     Ok(block)
 }
 
-// The block of a line at an indentation, in which at most depth - 1 blocks stand inside of one another.
+// Parses the block under a line of this indentation, in which blocks are nested at most `depth - 1`
+// deep.
 #[cycle(blocks)]
 fn read_block(
     alloc: Global,
@@ -241,7 +242,7 @@ fn read_block(
     Ok(Some(commands))
 }
 
-// The function that stands here, or none, and then the cursor stays.
+// Parses a function; on `None` the cursor hasn't moved.
 #[tactic(auto, unfolding(crate::specs::inner::Blocks::function_at, crate::specs::inner::Blocks::headed_at))]
 fn read_function(alloc: Global, lines: &mut LineCursor<'_>) -> Result<Option<Function>, AllocError>
     ensures reads { GivesOne (λ f. f) result (function_at lines.old) lines.new }
@@ -268,7 +269,7 @@ fn read_function(alloc: Global, lines: &mut LineCursor<'_>) -> Result<Option<Fun
     }))
 }
 
-/// As many functions as stand here. The cursor stays before the first line that belongs to none.
+/// Parses as many functions as there are, up to the first line that belongs to none.
 #[tactic(auto, unfolding(crate::specs::inner::Blocks::functions_at))]
 pub fn read_functions(
     alloc: Global,

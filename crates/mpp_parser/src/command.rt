@@ -1,4 +1,4 @@
-//! The trees of commands, functions and drivers.
+//! The syntax trees of commands, functions and drivers.
 
 ghost use Rattle.std.specs.Prelude.{◌≡◌};
 ghost use Rattle.mpp_parser.specs.CommandView.{command_of};
@@ -7,14 +7,14 @@ use crate::term::{CellName, DTerm, Kind};
 use m_places::{Name, Seq};
 use std::marker::Model;
 
-/// A command. Contracts see it as an `Act` of specs/.
+/// A command. Contracts see it as an `Act` of specs/, plain data.
 #[cycle(command)]
 #[derive(Drop)]
 pub struct Command {
     pub node: CommandNode,
 }
 
-/// What a command is. The number that comes first is that of its line, from 1.
+/// The forms of a command. The first field is the number of its line, from 1.
 #[cycle(command)]
 #[derive(Drop)]
 pub enum CommandNode {
@@ -22,10 +22,10 @@ pub enum CommandNode {
     Set(u32, CellName, DTerm),
     /// Makes a cell undefined.
     Del(u32, CellName),
-    /// Does the first block where the condition is a number other than 0, and the second, which may
-    /// be empty, where it is 0 or undefined.
+    /// Runs the first block if the condition is a number other than 0, and the second, which may be
+    /// empty, if it is 0 or undefined.
     If(u32, DTerm, Vec<Command>, Vec<Command>),
-    /// Does the block with the inputs of a kind undefined, and gives them their values back.
+    /// Runs the block with the inputs of a kind undefined, and then restores their values.
     Partition(u32, Kind, Vec<Command>),
     /// Calls a function, or the rules, and receives these cells.
     Call(u32, Seq<CellName>, Name),

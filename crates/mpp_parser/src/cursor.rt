@@ -1,4 +1,4 @@
-//! A place in the tokens of a line, and the readers of single tokens. It knows nothing of trees.
+//! A cursor over the tokens of a line, and the parsers of single tokens. It knows nothing of trees.
 ghost use Rattle.std.specs.Prelude.{◌≡◌, ◌<◌, ◌∷◌, [], length, Some, None, MatchBool, MatchOption, OnSome};
 ghost use Rattle.m_places.specs.Refusals.{Takes};
 ghost use Rattle.std.specs.Bool.{OnTrue};
@@ -14,7 +14,7 @@ use m_text::whole_number;
 use mpp_lexer::{DriverPiece, DriverSign};
 use std::marker::Model;
 
-/// The tokens that are left. Contracts see it as their list.
+/// The remaining tokens. Contracts see it as their list.
 #[derive(Drop)]
 pub struct Cursor<'a> {
     left: &'a [DriverPiece],
@@ -30,7 +30,7 @@ impl<'a> Model for Cursor<'a> {
 }
 
 impl<'a> Cursor<'a> {
-    /// A cursor before the first of these tokens.
+    /// A cursor at the first of these tokens.
     pub fn new(tokens: &'a [DriverPiece]) -> Cursor<'a>
         ensures { result ≡ tokens.now }
     {
@@ -44,7 +44,7 @@ impl<'a> Cursor<'a> {
         self.left.is_empty()
     }
 
-    /// Takes the next token, whatever it is.
+    /// Takes the next token.
     pub fn next(&mut self) -> Option<&'a DriverPiece>
         ensures { MatchOption result (self.old ≡ []) (λ t. self.old ≡ t.now ∷ self.new) }
     {

@@ -1,4 +1,4 @@
-//! How deep lines stand, and how many brackets are open in them.
+//! The nesting level of each line, and its open brackets.
 ghost use Rattle.std.specs.Prelude.{◌≡◌, ◌≤◌, ◌||◌, nat_lt, [], length, IfOk, MatchOption};
 ghost use Rattle.m_places.specs.declared.limits.TheConstants.{BRACKET_DEPTH, DRIVER_LEVEL};
 ghost use Rattle.mpp_parser.specs.Depths.{open_behind, opens_too_many, FirstTooDeep, Shallow};
@@ -10,11 +10,12 @@ use m_places::limits::{BRACKET_DEPTH, DRIVER_LEVEL};
 use mpp_lexer::{DriverPiece, DriverSign, Line};
 use std::alloc::{AllocError, Global};
 
-/// The number of the first line whose level is above 64, or in which more than 256 brackets are open.
+/// The number of the first line whose level is above 64, or that has more than 256 brackets open at
+/// once.
 pub fn first_too_deep(alloc: Global, lines: &[Line]) -> Result<Option<u32>, AllocError>
     ensures { IfOk result (λ o. MatchOption o (Shallow [] lines.now) (FirstTooDeep [] lines.now)) }
 {
-    // The indentations of the line before and of its outer lines, the nearest first.
+    // The indentations of the previous line and its outer lines, innermost first.
     let mut outers = Vec::new(alloc);
     let mut left = LineCursor::new(lines);
     while let Some(line) = left.next() {
@@ -27,14 +28,14 @@ pub fn first_too_deep(alloc: Global, lines: &[Line]) -> Result<Option<u32>, Allo
     Ok(None)
 }
 
-// Whether a line is too deep that has these outer lines and tokens.
+// Whether a line with these outer lines and tokens is too deep.
 fn is_too_deep(outers: &[u32], tokens: &[DriverPiece]) -> bool
     ensures { result ≡ (nat_lt DRIVER_LEVEL (length outers.now) || opens_too_many 0 tokens.now) }
 {
     outers.len() > DRIVER_LEVEL as usize || opens_too_many(tokens)
 }
 
-// Takes away the indentations, nearest first, that aren't less than a line's.
+// Drops the indentations, innermost first, that aren't less than a line's.
 fn leave_blocks(outers: &mut Vec<u32>, indent: u32)
     ensures { outers.new.items ≡ left_outers indent outers.old.items }
 {
@@ -43,7 +44,7 @@ fn leave_blocks(outers: &mut Vec<u32>, indent: u32)
     }
 }
 
-// Whether more than 256 brackets are open at some token.
+// Whether more than 256 brackets are open after some token.
 fn opens_too_many(tokens: &[DriverPiece]) -> bool
     ensures { result ≡ opens_too_many 0 tokens.now }
 {
@@ -58,7 +59,7 @@ fn opens_too_many(tokens: &[DriverPiece]) -> bool
     false
 }
 
-// How many brackets are open after a token.
+// The number of open brackets after a token.
 fn open_behind(brackets: u32, token: &DriverPiece) -> u32
     requires { brackets ≤ BRACKET_DEPTH }
     ensures { result ≡ open_behind brackets token.now }

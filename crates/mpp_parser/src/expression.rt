@@ -1,4 +1,4 @@
-//! Terms as they are written.
+//! Parses terms.
 ghost use Rattle.std.specs.Prelude.{◌≡◌, ◌<◌, ◌≤◌, length, IfOk, OnOk, codes};
 ghost use Rattle.m_places.specs.declared.limits.TheConstants.{BRACKET_DEPTH};
 ghost use Rattle.std.specs.Str.{bytes_eq};
@@ -19,7 +19,7 @@ use m_places::{Name, Seq};
 use mpp_lexer::{DriverPiece, DriverSign};
 use std::alloc::{AllocError, Global};
 
-/// A level of operators that make chains from the left, from the loosest to the tightest.
+/// The levels of left-associative operators, from the loosest to the tightest.
 #[derive(Clone, Copy, Debug, PartialEq, Eq)]
 pub enum Level {
     Or,
@@ -28,7 +28,7 @@ pub enum Level {
     Product,
 }
 
-// A node in a box.
+// Boxes a node.
 fn boxed(alloc: Global, node: DNode) -> Result<Box<DTerm>, AllocError>
     ensures { IfOk result (λ t. t.value ≡ term_of node) }
 {
@@ -142,7 +142,7 @@ fn tax_benefit(alloc: Global) -> Result<Kind, AllocError>
     Ok(Kind::Attribute(name, Seq::from_vec(values)))
 }
 
-// Whether a word names the inputs that give a benefit.
+// Whether a word is `taxbenefit`.
 fn is_benefit(word: &Name) -> bool
     ensures { result ≡ bytes_eq word.now (codes "taxbenefit") }
 {
@@ -201,7 +201,7 @@ fn read_enclosed_kind(alloc: Global, cursor: &mut Cursor<'_>) -> Result<Kind, Un
     Ok(kind)
 }
 
-// What begins with a word: a cell, or "present", "cast" or "exists" and brackets.
+// After a word: a cell, or "present", "cast" or "exists" with brackets
 #[tactic(auto, unfolding(crate::specs::inner::Reading::word_prim_at))]
 fn read_word_prim(alloc: Global, cursor: &mut Cursor<'_>, word: &Name) -> Result<Box<DTerm>, Unread>
     ensures reads { GivesBy (λ t. t.value) result (word_prim_at word.now (keyword_of word.now) cursor.old) cursor.new }
@@ -229,7 +229,7 @@ fn read_word_prim(alloc: Global, cursor: &mut Cursor<'_>, word: &Name) -> Result
     }
 }
 
-// What stands inside of brackets, of which depth further ones may be opened.
+// A term in brackets, in which at most `depth` further brackets are nested.
 #[cycle(read)]
 fn read_inner(alloc: Global, cursor: &mut Cursor<'_>, depth: u32) -> Result<Box<DTerm>, Unread>
     ensures reads { GivesBy (λ t. t.value) result (inner_at depth cursor.old) cursor.new }
@@ -315,7 +315,7 @@ fn read_negation(alloc: Global, cursor: &mut Cursor<'_>, depth: u32) -> Result<B
     Ok(unary(alloc, Op::Not, term)?)
 }
 
-// What stands between the operators of a level.
+// The operands of a level.
 #[cycle(read)]
 fn read_part(
     alloc: Global,

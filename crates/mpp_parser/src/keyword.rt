@@ -19,7 +19,7 @@ pub enum Keyword {
     Exists,
 }
 
-/// The reserved word that a word is, if it is one. Takes no memory.
+/// The keyword that a word is, if it is one. Takes no memory.
 #[tactic(auto, unfolding(crate::specs::Keywords::keyword_of))]
 pub fn keyword_of(word: &[u8]) -> Option<Keyword>
     ensures { result ≡ keyword_of word.now }
@@ -42,7 +42,7 @@ pub fn keyword_of(word: &[u8]) -> Option<Keyword>
     operator_keyword_of(word)
 }
 
-// The same of the words that stand in terms.
+// The same for the words of terms.
 #[tactic(auto, unfolding(crate::specs::Keywords::operator_keyword_of))]
 fn operator_keyword_of(word: &[u8]) -> Option<Keyword>
     ensures { result ≡ operator_keyword_of word.now }

@@ -1,7 +1,9 @@
-//! The trees of a driver, and how its lines are read as functions, commands and terms.
+//! The syntax trees of drivers, and the parser from lines to functions, commands and terms.
 //!
-//! This crate stands on the lines of a driver. It knows nothing of variables, nor of what a
-//! command does.
+//! Uses the lines of mpp_lexer. Knows nothing of variables, nor of what a command does.
+//!
+//! Blocks are parsed greedily; that this yields the longest prefix is a law on lists of lines
+//! (`proofs/BlockLaws`). `taxbenefit` and `cast` have no nodes of their own in the tree.
 #![tactic(auto)]
 
 mod blocks;

@@ -1,4 +1,4 @@
-//! A driver, from its bytes.
+//! Parses a driver from bytes.
 ghost use Rattle.std.specs.Prelude.{◌≤◌, [], length};
 ghost use Rattle.m_places.specs.Refusals.{Outcome};
 ghost use Rattle.m_places.specs.declared.limits.TheConstants.{FILE_BYTES};
@@ -14,11 +14,12 @@ use m_places::Seq;
 use mpp_lexer::{DriverFault, Line, lex_driver};
 use std::alloc::Global;
 
-/// The driver that the bytes spell.
+/// The driver that the bytes parse to, or the first error.
 ///
-/// `main():\n  IRN <- call_m()\n` is a driver of one function with one command. `main():` alone is refused as
-/// `DriverSyntax(1)`, since a function has at least one command, and so is `main():\n  IRN <-1\n`. After
-/// `main():\n  IRN = 1\n` the line `  IRN <-1` is refused as `DriverSyntax(3)`.
+/// `main():\n  IRN <- call_m()\n` is a driver of one function with one command. `main():` alone is
+/// rejected as `DriverSyntax(1)`, since a function has at least one command, and so is
+/// `main():\n  IRN <-1\n`. After `main():\n  IRN = 1\n` the line `  IRN <-1` is rejected as
+/// `DriverSyntax(3)`.
 pub fn parse_driver(alloc: Global, bytes: &[u8]) -> Result<Driver, DriverFault>
     requires { length bytes.now ≤ FILE_BYTES }
     ensures outcome { Outcome Memory result (IsDriver bytes.now) (IsFault bytes.now) }
@@ -27,7 +28,7 @@ pub fn parse_driver(alloc: Global, bytes: &[u8]) -> Result<Driver, DriverFault>
     read_driver(alloc, lines.as_slice())
 }
 
-// The driver that the lines spell.
+// The driver that the lines parse to.
 fn read_driver(alloc: Global, lines: &[Line]) -> Result<Driver, DriverFault>
     ensures outcome { Outcome Memory result
         (λ driver. Shallow [] lines.now × SpellsDriver driver lines.now [])

@@ -1,4 +1,4 @@
-//! What one line says.
+//! Parses single lines.
 ghost use Rattle.std.specs.Prelude.{◌≡◌, List, []};
 ghost use Rattle.m_places.specs.Refusals.{Outcome};
 ghost use Rattle.mpp_lexer.specs.declared.piece.DriverPiece.{DriverPiece};
@@ -19,7 +19,7 @@ use m_places::{Name, Seq};
 use mpp_lexer::{DriverPiece, DriverSign};
 use std::alloc::Global;
 
-/// What one line says, whatever stands on the others.
+/// One line, parsed independently of the others.
 #[derive(Drop)]
 pub enum Sentence {
     /// The first line of a function.
@@ -30,11 +30,11 @@ pub enum Sentence {
     Del(CellName),
     /// Calls a function, or the rules, and receives these cells.
     Call(Seq<CellName>, Name),
-    /// The condition of the block below.
+    /// The condition of the block that follows.
     If(DTerm),
-    /// What is done in place of the block above.
+    /// The alternative to the block before it.
     Else,
-    /// The kind that is undefined in the block below.
+    /// The kind that is undefined in the block that follows.
     Partition(Kind),
 }
 
@@ -56,7 +56,7 @@ fn read_cells(
     Ok(cells)
 }
 
-// "<-" WORD "(" ")", after what is received
+// "<-" WORD "(" ")", after the received cells
 #[tactic(auto, unfolding(crate::specs::inner::Reading::called_at))]
 fn read_called(
     alloc: Global,
@@ -78,7 +78,7 @@ fn read_called(
     Ok(Sentence::Call(Seq::from_vec(cells), function))
 }
 
-// "=" term | { "," cell } "<-" WORD "(" ")", after a cell whose name begins with the word
+// "=" term | { "," cell } "<-" WORD "(" ")", after the word of the first cell
 #[tactic(auto, unfolding(crate::specs::inner::Reading::command_rest_at, crate::specs::inner::Reading::call_at))]
 fn read_command_rest(
     alloc: Global,
@@ -96,7 +96,7 @@ fn read_command_rest(
     read_called(alloc, cursor, cells)
 }
 
-// What begins with a word that isn't reserved.
+// After a word that isn't reserved.
 #[tactic(auto, unfolding(crate::specs::inner::Reading::named_at, crate::specs::inner::Reading::function_rest_at))]
 fn read_named(alloc: Global, cursor: &mut Cursor<'_>, word: &Name) -> Result<Sentence, Unread>
     ensures reads { GivesBy (λ s. s) result (named_at word.now cursor.old) cursor.new }
@@ -137,7 +137,7 @@ fn read_condition(alloc: Global, cursor: &mut Cursor<'_>) -> Result<Box<DTerm>, 
     Ok(term)
 }
 
-// What begins with a word.
+// After a word.
 #[tactic(auto, unfolding(crate::specs::inner::Reading::worded_at))]
 fn read_worded(alloc: Global, cursor: &mut Cursor<'_>, word: &Name) -> Result<Sentence, Unread>
     ensures reads { GivesBy (λ s. s) result (worded_at word.now (keyword_of word.now) cursor.old) cursor.new }
@@ -173,7 +173,7 @@ fn read_front(alloc: Global, cursor: &mut Cursor<'_>) -> Result<Sentence, Unread
     }
 }
 
-/// What the tokens of a whole line say, as a function reads them.
+/// Parses the tokens of a whole line, as the parsing function does.
 #[tactic(auto, unfolding(crate::specs::inner::Reading::line_at))]
 pub fn read_line(alloc: Global, tokens: &[DriverPiece]) -> Result<Sentence, Unread>
     ensures { ReadsAll result (line_at tokens.now) }
@@ -186,9 +186,9 @@ pub fn read_line(alloc: Global, tokens: &[DriverPiece]) -> Result<Sentence, Unre
     Ok(sentence)
 }
 
-/// What the tokens of a whole line say. It is one thing alone.
+/// Parses the tokens of a whole line, which spell at most one sentence.
 ///
-/// `IRN = REV + 1` sets `IRN`; `IRN = REV 1` says nothing.
+/// `IRN = REV + 1` sets `IRN`; `IRN = REV 1` is no sentence.
 pub fn read_sentence(alloc: Global, tokens: &[DriverPiece]) -> Result<Sentence, Unread>
     ensures outcome { Outcome Memory result
         (λ sentence. SpellsSentence sentence tokens.now [])
@@ -197,7 +197,7 @@ pub fn read_sentence(alloc: Global, tokens: &[DriverPiece]) -> Result<Sentence, 
     read_line(alloc, tokens)
 }
 
-/// The tokens of a line say at most one thing.
+/// The tokens of a line spell at most one sentence.
 pub fn one_sentence()
     ensures { (s u : Sentence) (ts : List DriverPiece) → SpellsSentence s ts [] → SpellsSentence u ts [] → s ≡ u }
 {}

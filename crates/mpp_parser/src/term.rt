@@ -1,4 +1,4 @@
-//! The trees of terms.
+//! The syntax trees of terms.
 
 ghost use Rattle.std.specs.Prelude.{◌≡◌};
 ghost use Rattle.mpp_parser.specs.TermView.{term_of};
@@ -7,7 +7,7 @@ use m_fixed::{Amount, Op, Value};
 use m_places::{Name, Seq};
 use std::marker::Model;
 
-/// The name of a cell: a variable's name, or a table's with the number of the cell, as in `T[3]`.
+/// The name of a cell: a variable's name, or a table's name with the cell's number, as in `T[3]`.
 #[derive(Drop)]
 pub struct CellName {
     pub name: Name,
@@ -21,30 +21,31 @@ pub enum Kind {
     Attribute(Name, Seq<Amount>),
 }
 
-/// A term of a driver. Contracts see it as a `Term` of specs/.
+/// A term of a driver. Contracts see it as a `Term` of specs/, plain data.
 #[cycle(term)]
 #[derive(Drop)]
 pub struct DTerm {
     pub node: DNode,
 }
 
-/// What a term is.
+/// The forms of a term.
 #[cycle(term)]
 #[derive(Drop)]
 pub enum DNode {
     Lit(Value),
     /// A variable, or a cell of a table.
     Named(CellName),
-    /// An operator on its arguments in order: `not`, `-`, a comparison, and `present`.
+    /// An operator with its arguments in order: `not`, `-`, a comparison, or `present`.
     Apply(Op, Vec<DTerm>),
-    /// Operands joined from the left by operators of one level: `A - B + C` is A, then `- B`, then
-    /// `+ C`. So are products, `and` and `or`. `cast(A)` is `A + 0`. There is at least one link.
+    /// A left-associative chain of operators of one level: `A - B + C` is A, then `- B`, then
+    /// `+ C`. Products, `and` and `or` are chains too, and `cast(A)` is `A + 0`. There is at least
+    /// one link.
     Chain(Box<DTerm>, Vec<DLink>),
     /// Whether an input of a kind is present.
     Exists(Kind),
 }
 
-/// A further operand of a chain, and the operator before it.
+/// An operand of a chain, with the operator before it.
 #[cycle(term)]
 #[derive(Drop)]
 pub struct DLink {
@@ -71,7 +72,7 @@ impl Model for DTerm {
     ghost size_decreases = { λ a h. falls a.node };
 }
 
-/// The term of a node.
+/// The term with this node.
 pub fn term_made(node: DNode) -> DTerm
     ensures { result ≡ term_of node }
 {

@@ -3,12 +3,12 @@ ghost use Rattle.mpp_parser.specs.declared.unread.Unread.TheVariants.{Memory};
 
 use std::alloc::{AllocError, AllocFailed};
 
-/// Why a part of a line isn't read.
+/// Why a part of a line doesn't parse.
 #[derive(Clone, Copy, Debug, PartialEq, Eq)]
 pub enum Unread {
-    /// The tokens don't spell it.
+    /// The tokens don't spell the part.
     NotSpelled,
-    /// There was no memory.
+    /// Out of memory.
     Memory,
 }
 

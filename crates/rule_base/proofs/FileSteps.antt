@@ -1,4 +1,4 @@
--- What a step's fault says of a file.
+-- The error of a step, as the error of a file.
 use Rattle.std.proofs.Common.{◌≡◌, ◌≢◌, ◌∙◌, ℕ, List, Result, Ok, Err, refl, sym, subst}
 use Rattle.std.specs.Prelude.{IsErrAnd}
 use Rattle.m_places.specs.Refusals.{Outcome}
@@ -14,7 +14,7 @@ use Rattle.rule_base.specs.declared.read_fault.ReadFault.TheVariants.{Memory}
 use Rattle.rule_base.specs.Files.{IsFileFault, of_tokens, of_items}
 use Rattle.rule_base.specs.inner.FileSteps.{lex_step, parse_step}
 
--- an error that this fault is
+-- the error is this one
 pub reported : {T E : Type 0} (memory : E) (good : T → Type 0) (bad : E → Type 0) (result : Result T E) (fault : E) → IsErrAnd result (λ x. x ≡ fault)
     → (fault ≢ memory → bad fault)
     → Outcome memory result good bad

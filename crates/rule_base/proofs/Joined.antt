@@ -1,4 +1,4 @@
--- The items of files, one file's after another's.
+-- Concatenating the items of files.
 use Rattle.std.proofs.Common.{◌≡◌, List, [], ◌∷◌, ◌++◌, sym, ap, ◌∙◌, append_assoc}
 use Rattle.std.proofs.lemmas.List.{append-nil}
 use Rattle.m_ast.specs.declared.item.Item.{Item}

@@ -1,4 +1,4 @@
--- Files say one list of items or have one first fault, and not both.
+-- Files parse to one list of items or have one first error, and not both.
 use Rattle.std.proofs.Common.{◌≡◌, ◌+◌, ℕ, List, [], ◌∷◌, ◌++◌, All, refl, ap, subst}
 use Rattle.std.proofs.lemmas.List.Elements.{All-nil, All-append}
 use Rattle.m_places.specs.declared.source.Text.{Text}
@@ -69,7 +69,7 @@ each_or_fail number _ _ fault none_each f = elim f [ ]
 each_or_fail number _ _ fault (one_each {text = t} {items = a} s h) (here f) = meaning_or_fails number t a fault s f
 each_or_fail number _ _ fault (one_each {texts = ts} {others = fs} s h) (later u k) = each_or_fail (number + 1) ts fs fault h k
 
--- all items are those of each file, one file's after another's
+-- all items are those of each file, concatenated
 pub stated_all : (number : ℕ) (texts : List Text) (files : List (List Item)) → SayEach number texts files → SayAll number texts (all_items files)
 stated_all number _ _ none_each = no_files
 stated_all number _ _ (one_each {texts = ts} {others = fs} s h) = a_file s (stated_all (number + 1) ts fs h)

@@ -1,4 +1,4 @@
--- Rule files have one base or one fault, and not both.
+-- Rule files have one base or one error, and not both.
 use Rattle.std.proofs.Common.{◌≡◌, ℕ, List, map, Option, Some, None, Result, Ok, Err, sym, ap, ◌∙◌, subst}
 use Rattle.m_places.specs.declared.source.Text.{Text}
 use Rattle.m_ast.specs.declared.item.Item.{Item}
@@ -39,7 +39,7 @@ err_one e f = cc
 ok_or_err : {A E : Type 0} {r : Result A E} {x : A} {y : E} → r ≡ Ok x → r ≡ Err y → ⊥
 ok_or_err e f = cc
 
--- The same base.
+-- The base is unique.
 stated_one : (texts : List Text) (xs ys : List Item) → Declares texts xs → Declares texts ys → xs ≡ ys
 stated_one texts xs ys a b = mean_one 0 texts xs ys a.stated b.stated
 
@@ -50,7 +50,7 @@ one_base texts application declared others base other a b =
     let s : declared ≡ others = a.symbols ∙ (ap declared_by i ∙ sym b.symbols) in
     (s, ok_one a.resolves ((λ k. resolved (s k) (expansion (i k) application (s k))) ∙ b.resolves))
 
--- After each step the texts have no fault of it.
+-- Texts that pass a step have no error of it.
 declared_well : (texts : List Text) (xs ys : List Item) (fault : DeclareFault) → Declares texts xs → SayAll 0 texts ys → first_fault ys ≡ Some fault → ⊥
 declared_well texts xs ys fault d s e = some_or_none e (subst (λ is. first_fault is ≡ None) (mean_one 0 texts xs ys d.stated s) d.faultless)
 
@@ -62,7 +62,7 @@ names_one : (texts : List Text) (application : List ℕ) (xs ys : List Item) →
     → resolved (declared_by xs) (expansion xs application (declared_by xs)) ≡ resolved (declared_by ys) (expansion ys application (declared_by ys))
 names_one texts application xs ys a b = ap (λ is. resolved (declared_by is) (expansion is application (declared_by is))) (stated_one texts xs ys a b)
 
--- what a base says of the items themselves
+-- what a base implies of the items
 made_expands : {texts : List Text} {application : List ℕ} {declared : Declared} {base : Base} (made : IsBaseOf texts application declared base)
     → expand_fault made.items application (declared_by made.items) ≡ None
 made_expands {texts} {application} made = subst (λ (k : Declared). expand_fault made.items application k ≡ None) made.symbols made.expands
@@ -72,7 +72,7 @@ made_resolves : {texts : List Text} {application : List ℕ} {declared : Declare
 made_resolves {texts} {application} {declared} {base} made = subst (λ (k : Declared). resolved k (expansion made.items application k) ≡ Ok base) made.symbols
     made.resolves
 
--- A base, or the fault of a step.
+-- A base excludes the error of each step.
 base_or_loops : (texts : List Text) (application : List ℕ) (declared : Declared) (base : Base) (items : List Item) (fault : ExpandFault)
     → IsBaseOf texts application declared base → Declares texts items
     → expand_fault items application (declared_by items) ≡ Some fault → ⊥
@@ -98,7 +98,7 @@ no_base_and_fault texts application declared base _ made free (of_names {items =
 no_base_and_fault texts application declared base _ made free (of_a_cycle {declared = others} {base = other} cells also c b) =
     free cells (subst (λ (k : Base). IsCycle k cells) (sym (one_base texts application declared others base other made also).1) c)
 
--- The faults of an earlier step stand before those of a later one.
+-- An error of an earlier step excludes the errors of later ones.
 by_tokens : (texts : List Text) (application : List ℕ) (fault : LexFault) (other : RuleFault) → IsFirstFileFault 0 texts (read.Lex fault)
     → IsRuleFault texts application other → AreOneRuleFault (Lex fault) other
 by_tokens texts application fault _ f (of_tokens {fault = other} g) = the_same

@@ -1,4 +1,4 @@
--- What the workers give, each of its files, is what is said of all.
+-- The results of the workers, one for each run of files, make the result for all files.
 use Rattle.std.proofs.Common.{◌≡◌, ◌≢◌, ℕ, ◌+◌, ◌*◌, ◌<◌, ◌≤◌, get_or, take, drop, List, length, Result, Ok, Err, Vec}
 use Rattle.std.specs.declared.alloc.Global.{Global}
 use Rattle.m_places.specs.Refusals.{Outcome}
@@ -11,11 +11,11 @@ use Rattle.rule_base.specs.declared.read_fault.ReadFault.TheVariants.{Memory}
 use Rattle.rule_base.specs.Files.{SayEach, none_each, IsFirstFileFault}
 use Rattle.rule_base.proofs.Rows.{both_each, front_fault, behind_fault}
 
--- what a worker gives: the items of its files, or a fault
+-- the result of a worker: the items of its files, or an error
 abbrev pub Given : Type 0
 Given = Result (Vec (List Item) Global) ReadFault
 
--- what is given says what files say, of which the first has this number
+-- the result is that of files, of which the first has this number
 abbrev pub SaysFiles : ℕ → List Text → Result (List (List Item)) ReadFault → Type 0
 SaysFiles number texts (Ok files) = SayEach number texts files
 SaysFiles number texts (Err fault) = fault ≢ Memory → IsFirstFileFault number texts fault
@@ -26,7 +26,7 @@ goes : (size number : ℕ) (texts : List Text) (part : Vec (List Item) Global) (
 goes size number texts part (Ok rest) gave is = both_each size number texts part.items rest gave is
 goes size number texts part (Err fault) gave is = λ n. behind_fault size number texts part.items fault gave (is n)
 
--- what is given of a worker's files, of which the first has this number
+-- the result is that of a worker's files, of which the first has this number
 abbrev pub IsGiven : ℕ → List Text → Given → Type 0
 IsGiven number texts given = Outcome Memory given (λ stated. SayEach number texts stated.items) (IsFirstFileFault number texts)
 

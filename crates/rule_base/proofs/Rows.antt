@@ -1,4 +1,4 @@
--- Files in a row: the first so many of them, and those after.
+-- A list of files, split in two.
 use Rattle.std.proofs.Common.{◌≡◌, ◌≢◌, ℕ, zero, suc, ◌+◌, ◌<◌, ◌≤◌, arith, get_or, take, drop, List, [], ◌∷◌, ◌++◌, length, sym, ◌∙◌, subst, append_assoc}
 use Rattle.std.proofs.Math.Seq.{drop-cons}
 use Rattle.std.proofs.lemmas.List.{append-nil, drop_all}
@@ -19,7 +19,7 @@ both_each (suc size) number (text ∷ texts) _ others (one_each {others = files}
     one_each s (both_each size (number + 1) texts files others k
     (subst (λ n. SayEach n (drop size texts) others) (let e : number + suc size ≡ number + 1 + size = omega arith in e) h))
 
--- a fault of the first files is that of all
+-- an error of the first files is that of all
 pub front_fault : (size number : ℕ) (texts : List Text) (fault : ReadFault) → IsFirstFileFault number (take size texts) fault
     → IsFirstFileFault number texts fault
 front_fault zero number texts fault f = elim f [ ]
@@ -27,7 +27,7 @@ front_fault (suc size) number [] fault f = elim f [ ]
 front_fault (suc size) number (text ∷ texts) fault (here f) = here f
 front_fault (suc size) number (text ∷ texts) fault (later s k) = later s (front_fault size (number + 1) texts fault k)
 
--- a fault after files without one
+-- an error after files that parse
 pub behind_fault : (size number : ℕ) (texts : List Text) (files : List (List Item)) (fault : ReadFault) → SayEach number (take size texts) files
     → IsFirstFileFault (number + size) (drop size texts) fault
     → IsFirstFileFault number texts fault
@@ -48,7 +48,8 @@ within_take zero texts w = tt
 within_take (suc n) [] w = tt
 within_take (suc n) (text ∷ texts) w = (w.0, within_take n texts w.1)
 
--- What the files from now on say is said, after the files so far, by all; and a fault of theirs is one of all.
+-- If the files that are left parse, all files parse, with the items so far as a prefix; and an
+-- error of theirs is one of all.
 pub record Goes (start : ℕ) (texts left : List Text) (number : ℕ) (files : List (List Item)) : Type 0 where
   pub good : (more : List (List Item)) → SayEach number left more → SayEach start texts (files ++ more)
   pub bad : (fault : ReadFault) → IsFirstFileFault number left fault → IsFirstFileFault start texts fault

@@ -228,7 +228,7 @@ or-none (Some x) b e = cc
 
 -- ---- a base
 
--- what the limits leave of a base
+-- what the limits imply of a base
 pub few-cells : {texts : List Text} {application : List ℕ} {declared : Declared} {base : Base} → IsBaseOf texts application declared base → base.cells ≤ CELLS
 few-cells {texts} {application} {declared} {base} m =
     omega (

@@ -1,4 +1,4 @@
--- What a step's fault says of the rule files.
+-- The error of a step, as the error of the rule files.
 use Rattle.std.proofs.Common.{◌≡◌, ◌≢◌, ◌<◌, ◌+◌, ℕ, List, [], ◌∷◌, length, map, All, Some, None, Result, Ok, Err, refl, sym, subst, ap}
 use Rattle.std.specs.Prelude.{IfOk}
 use Rattle.m_places.specs.Refusals.{Outcome}
@@ -46,12 +46,12 @@ read_reported texts (read.Lex f) h k = bad_tokens (h (λ e. cc))
 read_reported texts (read.Parse f) h k = bad_items (h (λ e. cc))
 read_reported texts read.Memory h k = absurd (k refl)
 
--- a fault of the files is one of their base
+-- an error of the files is one of their base
 pub file_reported : (texts : List Text) (application : List ℕ) (fault : RuleFault) → IsReadFault texts fault → IsRuleFault texts application fault
 file_reported texts application _ (bad_tokens f) = of_tokens f
 file_reported texts application _ (bad_items f) = of_items f
 
--- the faults of the steps after the declarations
+-- the errors of the steps after the declarations
 pub expand_reported : (items : List Item) (application : List ℕ) (declared : Declared) (fault : ExpandFault)
     → (fault ≢ expand.Memory → expand_fault items application declared ≡ Some fault)
     → expand_step fault ≢ Memory → IsOverFault items application declared (expand_step fault)
@@ -78,7 +78,7 @@ resolve_reported items application declared plain (resolve.DefinedTwice n p) x e
 resolve_reported items application declared plain (resolve.UnknownError n p) x e h k = names x
     (subst (λ (q : Plain). resolved declared q ≡ Err (resolve.UnknownError n p)) e (h (λ z. cc)))
 
--- the base that plain rules come to, once they are those of the items
+-- the base that plain rules resolve to, if they are the items' rules
 pub resolve_done : (items : List Item) (application : List ℕ) (declared : Declared) (plain : Plain) (base : Base)
     → expand_fault items application declared ≡ None → plain ≡ expansion items application declared
     → resolved declared plain ≡ Ok base → IsBaseOver items application declared base
@@ -94,7 +94,7 @@ resolved_cells declared plain base r =
     let s : base_with declared d.0 c.0 ≡ base = (let e = c.2 in cc) in
     ap (λ (b : Base). b.cells) (sym s)
 
--- what items declare is placed
+-- the declarations of items are placed
 items_placed : (first : ℕ) (vs : List VariableItem) → placed_from first vs ≡ placed_from first (items_of (placed_from first vs))
 items_placed first [] = refl
 items_placed first (v ∷ vs) = ap (λ (rest : List Variable). record { item = v; first_cell = first; cells = variable_cells v } ∷ rest)
@@ -103,7 +103,7 @@ items_placed first (v ∷ vs) = ap (λ (rest : List Variable). record { item = v
 pub declared_placed : (items : List Item) (declared : Declared) → declared ≡ declared_by items → IsPlaced declared
 declared_placed items declared e = subst IsPlaced (sym e) (items_placed 0 (variables_of items))
 
--- the fault of declarations
+-- the error of declarations
 pub declare_reported : (texts : List Text) (application : List ℕ) (items : List Item) (fault : DeclareFault) → SayAll 0 texts items
     → (fault ≢ declare.Memory → first_fault items ≡ Some fault)
     → declare_step fault ≢ Memory → IsRuleFault texts application (declare_step fault)
@@ -113,7 +113,7 @@ declare_reported texts application items (declare.AliasTwice n p q) s h k = of_d
 declare_reported texts application items (declare.TableSize p) s h k = of_declarations s (h (λ e. cc))
 declare_reported texts application items (declare.TooManyCells p) s h k = of_declarations s (h (λ e. cc))
 
--- the cells of a shown cycle are cells of what is declared
+-- the cells of a reported cycle are declared
 pub cycle_of_cells : (base : Base) (declared : Declared) (fault : OrderFault) (cells : List ℕ) → fault ≡ order.Cycle cells → IsValidBase base
     → base.cells ≡ length (owners_from 0 declared.variables)
     → (fault ≢ order.Memory → ShowsCycle base fault) → All (λ c. c < length (owners_from 0 declared.variables)) cells
@@ -128,12 +128,12 @@ shown_cycle base declared fault cells reported_as e h t =
     let s : ShowsCycle base (order.Cycle cells) = subst (ShowsCycle base) e (h (λ m. cc (e, m))) in
     subst (ShowsNamedCycle declared base) (sym t) (shown cells s.0 s.1)
 
--- declarations without a fault
+-- declarations without an error
 declares : (texts : List Text) (items : List Item) (declared : Declared) → SayAll 0 texts items → (first_fault items ≡ None) × (declared ≡ declared_by items)
     → Declares texts items
 declares texts items declared s d = record { stated = s; faultless = d.0 }
 
--- a fault after the declarations
+-- an error after the declarations
 pub over_reported : (texts : List Text) (application : List ℕ) (items : List Item) (declared : Declared) (fault : RuleFault) → SayAll 0 texts items
     → (first_fault items ≡ None) × (declared ≡ declared_by items)
     → IsOverFault items application declared fault → IsRuleFault texts application fault
@@ -150,7 +150,7 @@ base_made : (texts : List Text) (application : List ℕ) (items : List Item) (de
 base_made texts application items declared base s d o =
     record { items = items; declares = declares texts items declared s d; symbols = d.1; expands = o.expands; resolves = o.resolves }
 
--- a shown cycle is a fault of the texts
+-- a reported cycle is an error of the texts
 cycle_reported : (texts : List Text) (application : List ℕ) (declared : Declared) (base : Base) (fault : RuleFault) → IsBaseOf texts application declared base
     → ShowsNamedCycle declared base fault → IsRuleFault texts application fault
 cycle_reported texts application declared base fault made (shown cells c b) = of_a_cycle cells made c b
@@ -170,7 +170,7 @@ finished texts application items declared base (Ok made) s d o h =
 finished texts application items declared base (Err fault) s d o h = λ n. cycle_reported texts application declared base fault
     (base_made texts application items declared base s d o) (h n)
 
--- what was placed is placed still
+-- placed declarations stay placed
 pub placed_after : (declared : Declared) (base : Base) (result : Result RuleBase RuleFault) (bad : RuleFault → Type 0) → IsPlaced declared
     → Outcome Memory result (λ made. (made.symbols ≡ declared) × (made.ordered.base ≡ base) × IsOrder base made.ordered.sequence) bad
     → IfOk result (λ made. IsPlaced made.symbols)

@@ -1,4 +1,4 @@
--- Why rule files have no base whose definitions can be put in an order: the fault of the earliest step that has one.
+-- Why rule files have no ordered base: the error of the earliest step that fails.
 use Rattle.std.specs.Prelude.{◌≡◌, ℕ, List, map, Some, None, Err}
 use Rattle.m_places.specs.declared.source.Text.{Text}
 use Rattle.m_ast.specs.declared.item.Item.{Item}
@@ -21,8 +21,8 @@ use Rattle.rule_base.specs.declared.fault.RuleFault.{RuleFault}
 use Rattle.rule_base.specs.declared.fault.RuleFault.TheVariants.{Lex, Parse, Declare, Expand, Resolve, Cycle}
 use Rattle.rule_base.specs.Base.{Declares, IsBaseOf}
 
--- The steps in their order: the files one after the other, declarations, loops, names, and whether a cell reads itself on some way. Of
--- several cycles any true one may be shown, from its least cell on.
+-- The steps in order: lexing and parsing file by file, declarations, loops, names, cycles. Any of
+-- several cycles may be reported, beginning with its least cell.
 pub data IsRuleFault (texts : List Text) (application : List ℕ) : RuleFault → Type 0 where
   of_tokens : {fault : LexFault} → IsFirstFileFault 0 texts (read.Lex fault) → IsRuleFault texts application (Lex fault)
   of_items : {fault : ParseFault} → IsFirstFileFault 0 texts (read.Parse fault) → IsRuleFault texts application (Parse fault)
@@ -35,7 +35,7 @@ pub data IsRuleFault (texts : List Text) (application : List ℕ) : RuleFault �
   of_a_cycle : {declared : Declared} {base : Base} (cells : List ℕ) → IsBaseOf texts application declared base → IsCycle base cells → BeginsWithLeast cells
       → IsRuleFault texts application (Cycle (map (cell_name declared) cells))
 
--- Two faults are one where they are the same, or where both show a cycle, of which any true one may be shown.
+-- Equality of errors, up to the choice of the reported cycle.
 pub data AreOneRuleFault : RuleFault → RuleFault → Type 0 where
   the_same : {fault other : RuleFault} → fault ≡ other → AreOneRuleFault fault other
   both_cycles : {names others : List (List ℕ)} → AreOneRuleFault (Cycle names) (Cycle others)

@@ -1,4 +1,4 @@
--- What inner functions' contracts speak of. No reader of the public contract needs it.
+-- Used by the contracts of inner functions only, not by the public contract.
 pub mod Steps
 pub mod Parts
 pub mod FileSteps

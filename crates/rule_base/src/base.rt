@@ -28,18 +28,19 @@ use rule_order::{OrderFault, Ordered, order};
 use std::alloc::{AllocError, Global};
 use std::thread::Threads;
 
-/// What rule files declare, and the rules of one application over the cells of that.
+/// The declarations of rule files, and the rules of one application over the declared cells.
 #[derive(Drop)]
 pub struct RuleBase {
     pub symbols: Symbols,
     pub ordered: Ordered,
 }
 
-/// The base of the application in these rule files, in an order of its definitions, or the fault of the earliest step
-/// that has one: of a file, of the declarations, of a loop, of a name, or cells that read each other in a ring.
+/// The base of the application in these rule files, with an order of its definitions, or the error
+/// of the earliest step that fails: lexing or parsing a file, the declarations, the loops, the
+/// names, or the order, which a cycle of cells excludes.
 ///
-/// Of the one file `A : const = 1 ; B : calculee : "b" ; regle 1 : application : iliad ; B = A ;` the base for `iliad` has
-/// two cells and one definition.
+/// For the one file `A : const = 1 ; B : calculee : "b" ; regle 1 : application : iliad ; B = A ;`
+/// the base of `iliad` has two cells and one definition.
 pub fn rule_base<R: Threads + Sync>(
     rt: &R,
     alloc: Global,
@@ -61,7 +62,7 @@ pub fn rule_base<R: Threads + Sync>(
     ordered_base(alloc, symbols, base)
 }
 
-// The rules of the application, over the cells of what is declared.
+// The application's rules over the declared cells.
 fn base_over(
     alloc: Global,
     items: &[Item],
@@ -80,7 +81,7 @@ fn base_over(
     Ok(base)
 }
 
-// The base in an order, or a cycle by the names of its cells.
+// The base with an order, or a cycle as the names of its cells.
 fn ordered_base(alloc: Global, symbols: Symbols, base: Base) -> Result<RuleBase, RuleFault>
     requires valid { IsValidBase base }
     requires cells { base.cells ≡ length (owners_from 0 symbols.variables) }
@@ -96,7 +97,7 @@ fn ordered_base(alloc: Global, symbols: Symbols, base: Base) -> Result<RuleBase,
     }
 }
 
-// The fault of a cycle: the names of its cells, or running out of memory for them.
+// The error of a cycle: the names of its cells, or `Memory` if there is none for them.
 fn cycle_of(alloc: Global, symbols: &Symbols, cells: &[u32]) -> RuleFault
     requires { All (λ c. c < length (owners_from 0 symbols.now.variables)) cells.now }
     ensures { result ≢ Memory → result ≡ Cycle (map (cell_name symbols.now) cells.now) }

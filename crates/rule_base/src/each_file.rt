@@ -1,4 +1,4 @@
-//! One worker's files, one after the other.
+//! The files of one worker, in order.
 
 ghost use Rattle.std.specs.Prelude.{◌≤◌, ◌+◌, length};
 ghost use Rattle.m_places.specs.Refusals.{Outcome};
@@ -14,8 +14,8 @@ use m_lexer::lex;
 use m_places::{Seq, Text};
 use std::alloc::Global;
 
-/// The items of each of these files in order, or the fault of the first that has one. The first of them has this number.
-/// The tokens of a file are dropped before the next one is read.
+/// The items of each of these files, or the error of the first file that fails. `number` is the
+/// first file's number. A file's tokens are dropped before the next file is read.
 pub(crate) fn read_files(
     alloc: Global,
     start: usize,
@@ -35,7 +35,7 @@ pub(crate) fn read_files(
     Ok(files)
 }
 
-// The items of the file with this number, or its fault.
+// The items of the file with this number, or its error.
 fn file_items(alloc: Global, text: &Text, number: u32) -> Result<Seq<Item>, ReadFault>
     requires { length text.now.bytes ≤ FILE_BYTES }
     ensures { Outcome Memory result (SaysItems number text.now) (IsFileFault number text.now) }

@@ -13,23 +13,23 @@ use m_resolve::ResolveFault;
 use m_symbols::DeclareFault;
 use std::alloc::{AllocError, AllocFailed};
 
-/// Why rule files have no base: the fault of the earliest step that has one. A fault of a step is never that step's
-/// running out of memory, which is the one `Memory` of this type.
+/// Why rule files have no base: the error of the earliest step that fails. No variant holds a
+/// step's own `Memory`: running out of memory is always the `Memory` of this type.
 #[derive(Drop)]
 pub enum RuleFault {
-    /// A file has no tokens.
+    /// A file can't be cut into tokens.
     Lex(LexFault),
-    /// The tokens of a file are no items.
+    /// The tokens of a file don't parse.
     Parse(ParseFault),
-    /// A declaration has a fault.
+    /// A bad declaration.
     Declare(DeclareFault),
-    /// A loop has a fault.
+    /// A bad loop.
     Expand(ExpandFault),
-    /// A name has a fault.
+    /// A name that doesn't resolve.
     Resolve(ResolveFault),
-    /// Cells that read each other in a ring, by their names.
+    /// A cycle of cells, by their names.
     Cycle(Seq<Name>),
-    /// There was no memory.
+    /// Out of memory.
     Memory,
 }
 

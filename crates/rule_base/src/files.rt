@@ -15,7 +15,8 @@ use m_places::{Open, Seq, Text};
 use std::alloc::{AllocError, Global};
 use std::thread::Threads;
 
-/// The items of all files in order, or the fault of the first file that has one. The files are read by several workers.
+/// The items of all files in order, or the error of the first file that fails. Several workers read
+/// the files.
 pub(crate) fn items_of<R: Threads + Sync>(
     rt: &R,
     alloc: Global,
@@ -31,7 +32,7 @@ pub(crate) fn items_of<R: Threads + Sync>(
     Ok(items)
 }
 
-// The items of files, one file's after another's. Its only error is running out of memory.
+// The concatenated items of files. Its only error is running out of memory.
 fn joined(alloc: Global, files: Seq<Seq<Item>>) -> Result<Vec<Item>, AllocError>
     ensures { IfOk result (λ items. items.items ≡ all_items files) }
 {

@@ -1,7 +1,8 @@
-//! From the texts of rule files to the base of an application: the items of each file, which several workers read at once, the declarations,
-//! and the rules over cells in an order in which each stands after those that it reads.
+//! From the texts of rule files to the ordered base of one application, or the error of the
+//! earliest step that fails: lexing, parsing, declarations, loops, names, cycles.
 //!
-//! This crate puts the steps of the language one after the other. It knows nothing of files on a disk, of drivers or households.
+//! Uses the crates of these steps, and workers that read the files in parallel. Knows nothing of
+//! files on a disk, drivers or households.
 #![tactic(auto)]
 
 mod base;

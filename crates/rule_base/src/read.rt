@@ -1,4 +1,4 @@
-//! Rule files, shared out among workers.
+//! Rule files, parsed by several workers.
 
 ghost use Rattle.std.specs.Prelude.{◌≤◌, ◌+◌, length};
 ghost use Rattle.m_places.specs.Refusals.{Outcome};
@@ -15,11 +15,14 @@ use std::alloc::Global;
 use std::thread::Threads;
 use workers::{join_parts, part_size};
 
-// How many parts there are for each processor: files differ in size, so a processor that is done with a part goes on with another.
+// Parts per processor. Files differ in size, so there are more parts than processors: a worker that
+// finishes a part takes another. A part is a run of neighbouring files; one large file is read by
+// one worker.
 const PARTS: usize = 4;
 
-/// The items of each rule file, in the order of the files, or the fault of the first file that has one, whatever the order
-/// in time. The worker that reads file k, from 0, first calls `gate.pass(k)`.
+/// The items of each rule file, in the order of the files, or the error of the first file that
+/// fails, in whatever order the workers finish. The worker that reads file k, from 0, first calls
+/// `gate.pass(k)`. `TextsAreWithin` bounds the count of files, so a file's number can't overflow.
 pub fn read_all<R: Threads + Sync, G: Gate + Sync>(
     rt: &R,
     alloc: Global,

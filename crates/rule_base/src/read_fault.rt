@@ -1,4 +1,4 @@
-//! Why rule files say no items.
+//! Why rule files don't parse.
 
 ghost use Rattle.std.specs.Prelude.{◌≡◌};
 ghost use Rattle.rule_base.specs.declared.read_fault.ReadFault.TheVariants.{Memory};
@@ -8,13 +8,13 @@ use m_items::ParseFault;
 use m_lexer::LexFault;
 use std::alloc::{AllocError, AllocFailed};
 
-/// Why rule files say no items: the fault of the first file that has one. It is never the lexer's or the parser's own
-/// running out of memory, which is the one `Memory` of this type.
+/// Why rule files don't parse: the error of the first file that fails. No variant holds the lexer's
+/// or the parser's own `Memory`: running out of memory is always the `Memory` of this type.
 #[derive(Clone, Copy, Debug, PartialEq, Eq)]
 pub enum ReadFault {
-    /// A file has no tokens.
+    /// A file can't be cut into tokens.
     Lex(LexFault),
-    /// The tokens of a file are no items.
+    /// The tokens of a file don't parse.
     Parse(ParseFault),
     /// Out of memory.
     Memory,

@@ -1,4 +1,4 @@
--- What is kept of the lines that were checked tells exactly whether the next one follows.
+-- The state of a check decides whether the next line follows.
 use Rattle.std.proofs.Common.{◌≡◌, ℕ, zero, suc, ◌+◌, ◌<◌, Bool, true, false, cond, nat_eq, List, [], ◌∷◌, length, get_or, set, take, replicate, Option, None}
 use Rattle.std.proofs.Common.{Some, refl, ap, sym, ◌∙◌, subst, inl, inr, add-one, arith}
 use mathlib.Core.Bool.{◌||◌}
@@ -103,7 +103,7 @@ derived base given cells earlier checked line kept follows =
           ∙ sym (follows.has_value ∙ ap (λ o. option_map_or (term_value (reported_values earlier)) o (given line.cell)) some))),
     )
 
--- the line at a position that was read of the list
+-- the line at a position of the list
 pub line-is : (lines : List ReportLine) (i : ℕ) (line : ReportLine) → i < length lines → line ≡ get_or lines i line → line ≡ line_at lines i
 line-is lines i line low is = is ∙ get_or_default lines i line (line_at [] 0) low
 
@@ -121,7 +121,7 @@ reported-before base given cells i lines checked line kept is here follows =
     clash here (derived base given cells (take i lines) checked line kept (subst (λ (l : ReportLine). IsDerived base given (take i lines) l) (sym is)
     follows)).0
 
--- another value, or a cell that is read and doesn't stand
+-- another value, or a cell that is read and has no earlier line
 pub not-derived : (base : Base) (given : Environment) (cells i : ℕ) (lines : List ReportLine) (checked : Checked) (line : ReportLine) (found : Option Value)
     → Keeps cells (take i lines) checked → line ≡ line_at lines i → found ≡ derived_value base given checked.marks.items checked.values.items line.cell
     → (found ≡ Some line.value → ⊥) → IsDerivedAt base given lines i → ⊥
@@ -129,7 +129,7 @@ not-derived base given cells i lines checked line found kept is derived_is other
     other (derived_is ∙ (derived base given cells (take i lines) checked line kept (subst (λ (l : ReportLine). IsDerived base given (take i lines) l) (sym is)
     follows)).1)
 
--- ---- one line more is kept
+-- ---- one more line
 
 is_set-more : (marks : List Bool) (cell : ℕ) → cell < length marks → (c : ℕ) → is_set (set marks cell true) c ≡ (is_set marks c || (nat_eq c cell || false))
 is_set-more marks cell low c = elim (cases_eq c cell) [
@@ -191,7 +191,7 @@ keeps-more cells i lines old new line ks kept low is within away values marks sa
           (subst (λ (ns : List ℕ). AllStand old.marks.items first (get_or ns first 0)) (sym same_known) (known first) c above below);
     }
 
--- ---- what is found
+-- ---- the result
 
 pub first-unsound : (base : Base) (given : Environment) (lines : List ReportLine) (i : ℕ) → ((p : ℕ) → p < i → IsDerivedAt base given lines p)
     → i < length lines → (IsDerivedAt base given lines i → ⊥) → IsFirstUnsound base given lines i
@@ -212,7 +212,7 @@ sound-so-far base given lines i sound here p h = elim (cases_eq p i) [
     less : (p ≡ i → ⊥) → p < i
     less n = omega arith
 
--- the term that a cell is defined by keeps within the base
+-- the term that defines a cell reads cells of the base only
 pub term-within : (base : Base) (c n : ℕ) (t : Tree) → IsValidBase base → definition_of base c ≡ Some t → n ≡ base.cells → IsWithin n t
 term-within base c n t valid is size =
     let k = definition_of-position base c t is in
@@ -222,11 +222,11 @@ term-within base c n t valid is size =
     terms-long : (b : Base) → length (terms_of b) ≡ length b.definitions
     terms-long b = length-map b.definitions (λ (d : Definition). d.1)
 
--- a mark that was read
+-- a mark that was looked up
 pub mark-false : (marks : List Bool) (c : ℕ) (b : Bool) → b ≡ get_or marks c b → b ≡ false → is_set marks c ≡ false
 mark-false marks c b is f = ap (λ d. get_or marks c d) (sym f) ∙ sym is ∙ f
 
--- what was derived of slices is derived of what is kept
+-- a value that follows from slices follows from the state of a check
 pub derived-kept : (base : Base) (given : Environment) (checked : Checked) (c : ℕ) (marks : List Bool) (values : List Value) (found : Option Value)
     → found ≡ derived_value base given marks values c → marks ≡ checked.marks.items → values ≡ checked.values.items
     → found ≡ derived_value base given checked.marks.items checked.values.items c

@@ -29,7 +29,7 @@ pub down-distinct : (base : Base) (xs : List ℕ) → IsDown base xs → AreDist
 down-distinct base [] d = tt
 down-distinct base (x ∷ xs) d = (d.0, down-distinct base xs d.2)
 
--- a number isn't among those of which it differs from each
+-- a number that differs from all of a list isn't among them
 pub not-true : (b : Bool) → (b ≡ true → ⊥) → b ≡ false
 not-true true f = absurd (f refl)
 not-true false f = refl
@@ -83,7 +83,7 @@ bare-down base (suc n) = option_cases (definition_of base n)
 
 -- ---- all cells
 
--- these are all cells but those that the definitions at these positions define
+-- all cells except those defined at these positions
 pub record AreLeft (base : Base) (ps cells : List ℕ) : Type 0 where
   pub covers : (c : ℕ) → c < base.cells → is_among c (cells_at base ps) ≡ false → is_among c cells ≡ true
   pub apart : (c : ℕ) → is_among c cells ≡ true → is_among c (cells_at base ps) ≡ false
@@ -142,7 +142,7 @@ all-left ordered valid order =
     (cells-distinct ordered.base ordered.sequence valid.defined_once order.within order.once)
     (left-first ordered.base ordered.sequence valid order)
 
--- ---- how many there are
+-- ---- the count of cells
 
 pub down-length : (ordered : Ordered) → IsValidBase ordered.base → IsOrder ordered.base ordered.sequence → length (cells_down ordered) ≡ ordered.base.cells
 down-length ordered valid order =

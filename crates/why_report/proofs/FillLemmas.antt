@@ -1,4 +1,4 @@
--- The turns in which lines are put: the values of the cells that have lines are all that plays a part.
+-- The loop that writes lines; only the values of the cells that have lines matter.
 use Rattle.std.proofs.Common.{◌≡◌, ℕ, suc, ◌+◌, ◌<◌, ◌≤◌, true, false, cond, nat_eq, List, [], ◌∷◌, ◌++◌, length, get_or, set, take, drop, None, Some, refl, ap}
 use Rattle.std.proofs.Common.{sym, ◌∙◌, subst, inl, inr, arith}
 use mathlib.Core.Bool.{◌||◌}
@@ -21,7 +21,8 @@ use Rattle.why_report.specs.inner.Held.{AreFollowing}
 use Rattle.why_report.proofs.ReadLemmas.{or-either}
 use Rattle.why_report.proofs.ReasonLemmas.{reported-more, following-line}
 
--- what holds when the first lines were put: the rest completes them, and the values are those that they tell
+-- The invariant after the first lines: the rest completes them, and the values are those of the
+-- lines.
 pub record IsFill (base : Base) (given : Environment) (cells : List ℕ) (values : List Value) (lines : List ReportLine) (i : ℕ) : Type 0 where
   pub rest : lines_over base given (take i lines) (drop i cells) ≡ lines_over base given [] cells
   pub following : AreFollowing base (reported_cells (take i lines)) (drop i cells)
@@ -31,7 +32,7 @@ pub fill-first : (base : Base) (given : Environment) (cells : List ℕ) (values 
     → IsFill base given cells values lines 0
 fill-first base given cells values lines h = record { rest = refl; following = h; values_are = λ c t. absurd (cc) }
 
--- the value of a cell by values that agree on what it reads
+-- a cell's value depends only on what it reads
 value-same : (base : Base) (given e f : Environment) (x : ℕ) → ((c : ℕ) → Reads base x c → e c ≡ f c)
     → option_map_or (term_value e) (definition_of base x) (given x) ≡ option_map_or (term_value f) (definition_of base x) (given x)
 value-same base given e f x h = option_cases (definition_of base x)
@@ -41,7 +42,7 @@ value-same base given e f x h = option_cases (definition_of base x)
     ∙ term_value-same t e f (λ c r. h c (subst (λ o. IsSomeAnd o (λ u. TermReads u c)) (sym s) r))
     ∙ sym (ap (λ o. option_map_or (term_value f) o (given x)) s))
 
--- one line after others tells its cell alone
+-- one more line changes its own cell's value only
 reported-old : (lines : List ReportLine) (l : ReportLine) (c : ℕ) → is_among c (reported_cells lines) ≡ true
     → reported_values (lines ++ l ∷ []) c ≡ reported_values lines c
 reported-old [] l c h = absurd (cc)

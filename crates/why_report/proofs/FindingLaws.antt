@@ -1,4 +1,4 @@
--- What is found of a derivation is one thing.
+-- The result of a check is unique.
 use Rattle.std.proofs.Common.{◌≡◌, ℕ, ◌<◌, ◌≤◌, List, [], inl, inr, length, get_or, take, sym, subst, arith}
 use Rattle.std.proofs.lemmas.Bool.{cases_lt}
 use Rattle.std.proofs.lemmas.List.{get_or-take, take-take, length-take-le}
@@ -7,7 +7,7 @@ use Rattle.micro_m.specs.Values.{Environment}
 use Rattle.why_report.specs.declared.line.ReportLine.{ReportLine}
 use Rattle.why_report.specs.Derivations.{IsDerived, IsDerivedAt, IsFirstUnsound, IsSound, line_at}
 
--- what follows in a part of a list from its first line on follows in the list
+-- a line that follows in a prefix of the list follows in the list
 pub part-derived : (base : Base) (given : Environment) (lines : List ReportLine) (k p : ℕ) → k ≤ length lines → IsSound base given (take k lines) → p < k
     → IsDerivedAt base given lines p
 part-derived base given lines k p low sound below =
@@ -27,7 +27,7 @@ not_before base given lines one other a b h =
     let within = b.within in
     a.unsound (part-derived base given lines other one (omega (arith, within)) b.sound_before h)
 
--- and another has one first line that isn't
+-- the first unsound line is unique
 pub one_unsound : (base : Base) (given : Environment) (lines : List ReportLine) (one other : ℕ) → IsFirstUnsound base given lines one
     → IsFirstUnsound base given lines other → one ≡ other
 one_unsound base given lines one other a b =

@@ -1,4 +1,4 @@
--- The lines before a position: which cells they tell, and with which values.
+-- The lines before a position: their cells and values.
 use Rattle.std.proofs.Common.{◌≡◌, ℕ, zero, suc, ◌<◌, ◌≤◌, ◌++◌, true, false, cond, nat_eq, List, [], ◌∷◌, length, get_or, take, refl, ap, sym, ◌∙◌, subst}
 use Rattle.std.proofs.Common.{arith}
 use mathlib.Core.Bool.{◌||◌}
@@ -12,7 +12,7 @@ use Rattle.micro_m.proofs.NumberLemmas.{same, itself, cases, or-false, clash, di
 use Rattle.why_report.specs.declared.line.ReportLine.{ReportLine}
 use Rattle.why_report.specs.Derivations.{reported_cells, reported_values, line_at, IsDerived, IsDerivedAt, IsSound}
 
--- a cell that lines tell, and the first line that tells it
+-- a cell that lines have, and the first line that has it
 pub reported-at : (lines : List ReportLine) (c : ℕ) → is_among c (reported_cells lines) ≡ true → (q : ℕ) × (q < length lines)
     × ((d : ReportLine) → (get_or lines q d).cell ≡ c) × ((d : ReportLine) → (get_or lines q d).value ≡ reported_values lines c)
 reported-at [] c h = absurd (cc)
@@ -22,7 +22,7 @@ reported-at (line ∷ lines) c h = cases (nat_eq c line.cell)
     let k = reported-at lines c (ap (λ b. b || is_among c (reported_cells lines)) (sym f) ∙ h) in
     (suc k.0, omega arith, k.2, λ d. k.3 d ∙ sym (ap (λ b. cond b line.value (reported_values lines c)) f)))
 
--- one line more tells its cell
+-- one more line adds its cell
 pub cells-more : (lines : List ReportLine) (i : ℕ) → i < length lines → reported_cells (take (suc i) lines) ≡ reported_cells (take i lines)
     ++ (line_at lines i).cell ∷ []
 cells-more [] i low = absurd (omega arith)
@@ -43,7 +43,7 @@ swap c a b x y z f = cases (nat_eq c a)
     ap (λ e. cond e x (cond (nat_eq c b) y z)) g
     ∙ sym (ap (λ e. cond (nat_eq c b) y (cond e x z)) g))
 
--- one line more, of another cell than those before it, tells its value
+-- one more line, of a new cell, adds its value
 pub values-more : (lines : List ReportLine) (i c : ℕ) → i < length lines → is_among (line_at lines i).cell (reported_cells (take i lines)) ≡ false
     → reported_values (take (suc i) lines) c ≡ cond (nat_eq c (line_at lines i).cell) (line_at lines i).value (reported_values (take i lines) c)
 values-more [] i c low away = absurd (omega arith)
@@ -56,7 +56,7 @@ values-more (l ∷ lines) (suc i) c low away =
 
 -- ---- lines that follow
 
--- the lines before a position tell distinct cells, if each follows
+-- the lines before a position have distinct cells, if each follows
 pub reported-distinct : (base : Base) (given : Environment) (lines : List ReportLine) (k : ℕ) → ((p : ℕ) → p < k → IsDerivedAt base given lines p)
     → k ≤ length lines → AreDistinctCells (reported_cells (take k lines))
 reported-distinct base given lines zero sound low = tt
@@ -66,7 +66,7 @@ reported-distinct base given lines (suc k) sound low =
     (reported-distinct base given lines k (λ p h. sound p (omega arith)) (omega arith))
     (sound k (omega arith)).reported_once)
 
--- they are no more than there are cells
+-- they are at most as many as the cells
 pub reported-few : (base : Base) (given : Environment) (lines : List ReportLine) (k : ℕ) → ((p : ℕ) → p < k → IsDerivedAt base given lines p) → k ≤ length lines
     → All (λ line. line.cell < base.cells) lines → k ≤ base.cells
 reported-few base given lines k sound low cells =
@@ -86,7 +86,7 @@ reported-few base given lines k sound low cells =
     reported-length [] = refl
     reported-length (l ∷ ls) = ap (λ n. suc n) (reported-length ls)
 
--- what follows in a list follows in a part of it from its first line on
+-- a line that follows in a list follows in its prefix
 pub sound-part : (base : Base) (given : Environment) (lines : List ReportLine) (k : ℕ) → ((p : ℕ) → p < k → IsDerivedAt base given lines p) → k ≤ length lines
     → IsSound base given (take k lines)
 sound-part base given lines k sound low p h =

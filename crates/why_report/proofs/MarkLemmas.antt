@@ -1,4 +1,4 @@
--- Marks grow by what is read, and what is known to be marked stays so.
+-- Marks grow by the cells that are read, and cells known to be marked stay marked.
 use Rattle.std.proofs.Common.{◌≡◌, ℕ, ◌+◌, ◌<◌, ◌≤◌, Bool, true, false, nat_eq, List, length, get_or, set, refl, ap, sym, ◌∙◌, subst, inl, inr, arith}
 use mathlib.Core.Bool.{◌||◌}
 use Rattle.std.proofs.lemmas.List.{length-set, get_or-set_same, get_or-set_other, set_past}
@@ -90,13 +90,13 @@ run-turn spots old now new first passed m n =
     below : (c : ℕ) → c < first + (passed + 1) → (c ≡ first + passed → ⊥) → c < first + passed
     below c l o = omega arith
 
--- a row that is known already
+-- a run that is known to be marked
 pub run-known : (spots : List ℕ) (old : List Bool) (known : List ℕ) (first size : ℕ) → IsMarking spots old known → size ≤ get_or known first 0
     → Marks spots old old (is_in_run first size)
 run-known spots old known first size k low =
     run-first spots old first size (λ c here from below. k.knows first c here from (omega arith))
 
--- and one that is known from now on
+-- a run that is known to be marked from now on
 pub knows-run : (spots : List ℕ) (old new : List Bool) (known : List ℕ) (first size : ℕ) → IsMarking spots old known
     → Marks spots old new (is_in_run first size) → IsMarking spots new (set known first size)
 knows-run spots old new known first size k m = record {
@@ -120,7 +120,7 @@ pick-within cells first size v (Fixed w) e h = tt
 
 -- ---- several terms
 
--- the marks so far and what the rest reads are together the first marks and what all reads
+-- the marks so far, with what the rest reads, are the first marks with all that is read
 pub record MarksOn (spots : List ℕ) (old now : List Bool) (rest whole : ℕ → Bool) : Type 0 where
   pub size : length now ≡ length old
   pub each : (c : ℕ) → c < length spots → (is_marked spots now c || rest c) ≡ (is_marked spots old c || whole c)

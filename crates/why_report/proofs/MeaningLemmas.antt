@@ -1,5 +1,5 @@
--- Each value of a sound derivation is its cell's value by the base's meaning: as many turns suffice as there are lines with a
--- definition up to it, and these are no more than there are definitions.
+-- Each value of a sound derivation is its cell's value by the base's meaning: the lines with a
+-- definition, up to it, are turns enough, and they are no more than the definitions.
 use Rattle.std.proofs.Common.{◌≡◌, ℕ, zero, suc, ◌+◌, ◌-◌, ◌<◌, ◌≤◌, true, false, nat_eq, List, [], ◌∷◌, length, get_or, take, Option, None, Some, refl, ap}
 use Rattle.std.proofs.Common.{sym, ◌∙◌, subst, arith}
 use mathlib.Core.Bool.{◌||◌}

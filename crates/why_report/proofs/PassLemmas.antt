@@ -1,4 +1,4 @@
--- The turns in which needed cells are found by their marks.
+-- The loop that finds the needed cells by their marks.
 use Rattle.std.proofs.Common.{◌≡◌, ℕ, zero, suc, ◌+◌, ◌-◌, ◌<◌, ◌≤◌, Bool, true, false, nat_eq, List, [], ◌∷◌, length, get_or, set, take, drop, replicate, refl}
 use Rattle.std.proofs.Common.{ap, sym, ◌∙◌, subst, inl, inr, arith}
 use mathlib.Core.Bool.{◌||◌}
@@ -20,7 +20,7 @@ use Rattle.why_report.proofs.ReasonLemmas.{any_reads, along-taken, along-passed,
 use Rattle.why_report.proofs.PlanLemmas.{plan-spots}
 use Rattle.why_report.proofs.MarkLemmas.{spots-more}
 
--- What holds between two turns: the cells that were found, the marks, and that what is left adds the rest.
+-- The loop invariant: the cells found so far, the marks, and that the remaining turns add the rest.
 pub record IsPass (ordered : Ordered) (c : ℕ) (plan : Plan) (marked : List Bool) (known needed : List ℕ) (from at : ℕ) : Type 0 where
   pub marking : IsMarking plan.spots.items marked known
   pub size : length marked ≡ ordered.base.cells
@@ -175,7 +175,7 @@ pass-end ordered c plan marked known needed from at valid order is pass none =
     (λ i a b. sym (marked-spot ordered c plan marked known needed from at valid order is pass i (omega arith)) ∙ none i a))
     ∙ pass.rest
 
--- what is known is of needed cells
+-- cells are known to be marked from needed cells on only
 pub known-needed : (ordered : Ordered) (c : ℕ) (plan : Plan) (marked : List Bool) (known needed : List ℕ) (from at : ℕ) → IsValidBase ordered.base
     → IsOrder ordered.base ordered.sequence → c < ordered.base.cells → IsPlanOf ordered plan → IsPass ordered c plan marked known needed from at
     → drop at needed ≡ needed_cells ordered c → (d : ℕ) → (get_or known d 0 ≡ 0 → ⊥) → is_among d (needed_cells ordered c) ≡ true
@@ -197,9 +197,9 @@ known-needed ordered c plan marked known needed from at valid order low is pass 
     out (x ∷ xs) zero h = absurd (omega arith)
     out (x ∷ xs) (suc i) h = out xs i (omega arith)
 
--- ---- marks that are taken away
+-- ---- clearing the marks
 
--- one more number is 0, and the others are of the cells that are left
+-- one more count is 0, and the nonzero ones are of the remaining cells
 pub forgotten : (cells known : List ℕ) (i c : ℕ) → i < length cells → c ≡ get_or cells i 0
     → ((d : ℕ) → (get_or known d 0 ≡ 0 → ⊥) → is_among d (drop i cells) ≡ true) → (d : ℕ) → (get_or (set known c 0) d 0 ≡ 0 → ⊥)
     → is_among d (drop (i + 1) cells) ≡ true
@@ -227,6 +227,6 @@ forgotten-all cells known i low kept d = elim (cases_eq (get_or known d 0) 0) [
   | inr n ↦ absurd (clash (subst (λ (xs : List ℕ). is_among d xs ≡ true) (drop_all i cells low) (kept d n)) refl)
 ]
 
--- what stands at the end of a list, as a slice
+-- the end of a list, as a slice
 pub end-slice : (xs ys zs : List ℕ) (n : ℕ) → xs ≡ ys → drop n ys ≡ zs → take (length xs - n) (drop n xs) ≡ zs
 end-slice xs ys zs n same is = take_all (length xs - n) (drop n xs) (omega (arith, length-drop n xs)) ∙ ap (drop n) same ∙ is

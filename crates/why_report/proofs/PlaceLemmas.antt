@@ -8,7 +8,7 @@ use Rattle.micro_m.proofs.PositionLemmas.{definition_of-target, definition_of-po
 use Rattle.micro_m.proofs.TurnLemmas.{option_cases}
 use Rattle.why_report.specs.inner.Checked.{IsPlaceOf, ArePlaces}
 
--- so many definitions from the first on have left their places, and no others stand there
+-- the places of the first `done` definitions are entered, and no others
 pub record ArePlacesSoFar (base : Base) (places : List ℕ) (done : ℕ) : Type 0 where
   pub size : length places ≡ base.cells
   pub missing : (c p : ℕ) → get_or places c 0 ≡ 0 → p < done → target_at base p ≡ c → ⊥

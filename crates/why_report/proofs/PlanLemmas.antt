@@ -1,4 +1,4 @@
--- The lists of a plan, as they are made.
+-- The lists of a plan, as they are built.
 use Rattle.std.proofs.Common.{◌≡◌, ℕ, zero, suc, ◌+◌, ◌<◌, cond, List, [], ◌∷◌, ◌++◌, length, get_or, set, drop, refl, ap, sym, ◌∙◌, subst, inl, inr, arith}
 use Rattle.std.specs.Prelude.{is_some}
 use Rattle.std.proofs.Math.Seq.{drop-cons}
@@ -29,7 +29,7 @@ targets-append base (p ∷ later) further =
     ∙ sym (append-assoc (targets_down base later []) (target_at base p ∷ []) further)
     ∙ ap (λ (xs : List ℕ). xs ++ further) (sym (targets-append base later (target_at base p ∷ [])))
 
--- one position more is gone through, from the last on
+-- one more position, from the last to the first
 pub targets-turn : (base : Base) (sequence cells : List ℕ) (k c : ℕ) → k < length sequence → c ≡ target_at base (get_or sequence k 0)
     → cells ≡ targets_down base (drop (k + 1) sequence) [] → cells ++ c ∷ [] ≡ targets_down base (drop k sequence) []
 targets-turn base sequence cells k c low is so_far =
@@ -50,7 +50,7 @@ pub bare-not : (base : Base) (n place : ℕ) → IsPlaceOf base n place → (pla
 bare-not base n zero is e = absurd (e refl)
 bare-not base n (suc p) is e = ap (λ o. cond (is_some o) (bare_below base n) (n ∷ bare_below base n)) is.1
 
--- what was added and what is left are all
+-- the cells appended and those left are all
 pub bare-added : (base : Base) (cells whole : List ℕ) (n place : ℕ) → IsPlaceOf base n place → place ≡ 0 → cells ++ bare_below base (suc n) ≡ whole
     → (cells ++ n ∷ []) ++ bare_below base n ≡ whole
 bare-added base cells whole n place is e so_far = append-assoc cells (n ∷ []) (bare_below base n)
@@ -62,7 +62,7 @@ bare-passed base cells whole n place is e so_far = ap (λ (xs : List ℕ). cells
 
 -- ---- spots
 
--- the spots of the first cells are kept
+-- the spots of the first cells are entered
 pub record AreSpotsSoFar (cells spots : List ℕ) (count i : ℕ) : Type 0 where
   pub size : length spots ≡ count
   pub each : (s : ℕ) → s < i → get_or spots (get_or cells s 0) 0 ≡ s
@@ -86,7 +86,7 @@ spots-next cells spots count i c once within low is so_far = record {
     less : (s : ℕ) → s < i + 1 → (s ≡ i → ⊥) → s < i
     less s h n = omega arith
 
--- ---- what a plan says of spots
+-- ---- the spots of a plan
 
 pub spot-below : (ordered : Ordered) (plan : Plan) (c : ℕ) → IsValidBase ordered.base → IsOrder ordered.base ordered.sequence → IsPlanOf ordered plan
     → c < ordered.base.cells → (s : ℕ) × (s < ordered.base.cells) × (get_or plan.cells.items s 0 ≡ c) × (get_or plan.spots.items c 0 ≡ s)

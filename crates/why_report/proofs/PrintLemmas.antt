@@ -11,7 +11,7 @@ use Rattle.tax_print.specs.Lines.{value_line}
 use Rattle.why_report.specs.declared.line.ReportLine.{ReportLine}
 use Rattle.why_report.specs.Reports.{report_text}
 
--- a line is a name and what stands after it
+-- a line is a name and the rest
 line-parts : (name : List ℕ) (value : Value) → value_line name value ≡ name ++ value_line [] value
 line-parts name Undef = refl
 line-parts name (Num amount) = refl
@@ -23,7 +23,7 @@ named-line declared cell owner v value is found =
     ap (λ name. value_line name value) (ap (λ o. option_map_or (printed_cell cell) o []) (ap (slice_get declared.variables) (sym is) ∙ found))
     ∙ line-parts (printed_cell cell v) value
 
--- from a position on the text begins with the line that stands there
+-- from a position on the text begins with the line there
 pub report-at : (declared : Declared) (lines : List ReportLine) (i : ℕ) (line d : ReportLine) → i < length lines → line ≡ get_or lines i d
     → report_text declared (drop i lines) ≡ value_line (cell_name declared line.cell) line.value ++ report_text declared (drop (i + 1) lines)
 report-at declared lines i line d low is =

@@ -1,4 +1,4 @@
--- The test whether a term reads a cell, against what it is to read one.
+-- The test whether a term reads a cell agrees with its definition.
 use Rattle.std.proofs.Common.{◌≡◌, ℕ, ◌+◌, ◌<◌, ◌≤◌, Bool, true, false, nat_eq, nat_lt, nat_le, Option, None, Some, List, [], ◌∷◌, refl, ap, sym, ◌∙◌, subst}
 use Rattle.std.proofs.Common.{inl, inr, ◌⊎◌, arith}
 use mathlib.Core.Bool.{◌||◌}
@@ -50,7 +50,7 @@ or-swap false true false = refl
 or-swap false false true = refl
 or-swap false false false = refl
 
--- a truth value is another where each follows from the other
+-- truth values that imply one another are equal
 pub truth-same : (a b : Bool) → (a ≡ true → b ≡ true) → (b ≡ true → a ≡ true) → a ≡ b
 truth-same true true f g = refl
 truth-same true false f g = absurd (let e = f refl in cc)

@@ -1,4 +1,4 @@
--- The cells that are needed stand after all that they read, and their lines are a reason.
+-- Needed cells come after all that they read, and their lines are a reason.
 use Rattle.std.proofs.Common.{◌≡◌, ℕ, zero, suc, ◌<◌, ◌≤◌, Bool, true, false, cond, nat_eq, List, [], ◌∷◌, ◌++◌, length, get_or, take, refl, ap, sym, ◌∙◌}
 use Rattle.std.proofs.Common.{subst, inl, inr, ◌⊎◌, arith}
 use mathlib.Core.Bool.{◌||◌}
@@ -24,7 +24,7 @@ any_reads base xs d = list_any (λ x. cell_reads base x d) xs
 
 -- ---- cells after those that they read
 
--- fewer cells before them suffice, if those that they read are left
+-- fewer earlier cells suffice, if all that are read remain
 pub following-less : (base : Base) (f g cells : List ℕ) → ((c : ℕ) → is_among c g ≡ true → is_among c f ≡ true)
     → ((c : ℕ) → any_reads base cells c ≡ true → is_among c f ≡ true → is_among c g ≡ true) → AreFollowing base f cells → AreFollowing base g cells
 following-less base f g [] back on h = tt
@@ -45,7 +45,7 @@ following-less base f g (x ∷ cells) back on h = (
       h.2,
 )
 
--- a step down: the cell is taken, or it is passed
+-- a step down: the cell is taken or skipped
 pub along-taken : (base : Base) (c d : ℕ) (later ds : List ℕ) → is_needed base c later d ≡ true
     → needed_along base c later (d ∷ ds) ≡ needed_along base c (d ∷ later) ds
 along-taken base c d later ds t = ap (λ b. needed_along base c (cond b (d ∷ later) later) ds) t
@@ -209,7 +209,7 @@ pub reported-more : (lines : List ReportLine) (line : ReportLine) (c : ℕ)
     → is_among c (reported_cells (lines ++ line ∷ [])) ≡ (is_among c (reported_cells lines) || (nat_eq c line.cell || false))
 reported-more lines line c = ap (is_among c) (reported-append lines (line ∷ [])) ∙ among-append c (reported_cells lines) (line.cell ∷ [])
 
--- cells that follow one stand after its line
+-- cells that come after another come after its line
 pub following-line : (base : Base) (lines : List ReportLine) (line : ReportLine) (cells : List ℕ) → AreFollowing base (line.cell ∷ reported_cells lines) cells
     → AreFollowing base (reported_cells (lines ++ line ∷ [])) cells
 following-line base lines line cells h =
@@ -240,7 +240,7 @@ lines-cells base given earlier (c ∷ cells) =
     append-assoc [] ys zs = refl
     append-assoc (x ∷ xs) ys zs = ap (λ (ws : List ℕ). x ∷ ws) (append-assoc xs ys zs)
 
--- sound lines and one more that follows
+-- sound lines, and one more that follows
 take-front : (xs : List ReportLine) (l : ReportLine) (p : ℕ) → p ≤ length xs → take p (xs ++ l ∷ []) ≡ take p xs
 take-front [] l zero h = refl
 take-front [] l (suc p) h = absurd (omega arith)

@@ -1,4 +1,5 @@
--- Whether a term's cells stand is told by the cells that it reads, and a table by its cells in a row.
+-- Whether a term's cells are marked, by the cells that it reads, and for a table by its run of
+-- cells.
 use Rattle.std.proofs.Common.{◌≡◌, ℕ, zero, suc, ◌+◌, ◌<◌, ◌≤◌, Bool, true, false, List, length, get_or, set, refl, ap, sym, ◌∙◌, inl, inr, arith}
 use Rattle.std.proofs.lemmas.List.{get_or-set_same, get_or-set_other, set_past}
 use Rattle.std.proofs.lemmas.Bool.{and_parts, and_from, cases_eq, cases_lt, cases_Bool}
@@ -28,12 +29,12 @@ all-run marks first (suc size) h =
     and_from (is_set marks first) (run_is_marked marks (suc first) size) (h first (omega arith) (omega arith))
     (all-run marks (suc first) size (λ c low high. h c (omega arith) (omega arith)))
 
--- one cell that doesn't stand
+-- one cell that isn't marked
 pub run-not : (marks : List Bool) (first size c : ℕ) → first ≤ c → c < first + size → is_set marks c ≡ false → run_is_marked marks first size ≡ false
 run-not marks first size c low high f = elim (cases_Bool (run_is_marked marks first size))
     [ inl t ↦ absurd (clash (run-all marks first size t c low high) f) | inr g ↦ g ]
 
--- so many more cells that are known to stand
+-- a longer run that is known to be marked
 pub knows-more : (marks : List Bool) (known : List ℕ) (first size : ℕ) → KnowsStanding marks known → AllStand marks first size
     → KnowsStanding marks (set known first size)
 knows-more marks known first size knows all f c low high =

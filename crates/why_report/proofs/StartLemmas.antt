@@ -1,4 +1,5 @@
--- The environment at the start: its length, the cells of inputs in it, and what it is when an input is set.
+-- The initial environment: its length, the inputs' cells in it, and its change when an input is
+-- set.
 use Rattle.std.proofs.Common.{◌≡◌, ℕ, zero, suc, ◌+◌, ◌-◌, ◌<◌, ◌≤◌, true, false, cond, List, [], ◌∷◌, ◌++◌, length, get_or, set, drop, slice_get, replicate}
 use Rattle.std.proofs.Common.{Some, refl, ap, sym, ◌∙◌, subst, arith}
 use Rattle.std.specs.List.{All}
@@ -115,7 +116,8 @@ cells-end vs n cells whole low so_far = sym (append-none cells) ∙ sym (ap (λ 
 
 -- ---- the cells of the inputs
 
--- the cells of the inputs of a variable with this role and of those after it, and what their cells begin with
+-- the cells of the inputs among a variable with this role and those after it, and their initial
+-- values
 abbrev role-cells : Role → ℕ → List VariableItem → List ℕ
 role-cells role first items = cond (is_input role) (first ∷ input_cells_among (placed_from (first + cells_in (size_in role)) items))
     (input_cells_among (placed_from (first + cells_in (size_in role)) items))
@@ -134,7 +136,7 @@ cell-of first items j = get_or (input_cells_among (placed_from first items)) j 0
 abbrev count-of : ℕ → List VariableItem → ℕ
 count-of first items = length (input_cells_among (placed_from first items))
 
--- there are as many as inputs
+-- they are as many as the inputs
 long-role : (role : Role) (items : List VariableItem) → ((m first : ℕ) → count-of first items ≡ length (inputs_from m (placed_from first items)))
     → (m first : ℕ) → length (role-cells role first items) ≡ length (role-inputs role m first items)
 long-role (Input code) items h m first = ap suc (h (m + 1) (first + 1))

@@ -1,4 +1,4 @@
--- The reason of a cell's value: the cells that it needs, and the derivation over them.
+-- The reason for a cell's value: the cells that it needs, and the derivation over them.
 use Rattle.std.specs.Prelude.{◌≡◌, ℕ, zero, suc, ◌==◌, ◌||◌, Bool, true, false, List, [], ◌∷◌, ◌++◌, is_some, if◌then◌else◌}
 use Rattle.std.specs.List.{list_any}
 use Rattle.std.specs.Option.{option_map_or}
@@ -23,8 +23,8 @@ AreNeededBy base c [] = ⊥
 AreNeededBy base c (d ∷ []) = d ≡ c
 AreNeededBy base c (d ∷ x ∷ later) = IsReadAmong base (x ∷ later) d × AreNeededBy base c (x ∷ later)
 
--- The reason of a cell's value over an environment: a sound derivation, of which the last line is the cell's and each other line's
--- cell is read by a later line.
+-- The reason for a cell's value over an environment: a sound derivation, of which the last line is
+-- the cell's and each other line's cell is read by a later line.
 pub record IsReasonOf (base : Base) (given : Environment) (c : ℕ) (lines : List ReportLine) : Type 0 where
   pub sound : IsSound base given lines
   pub needed : AreNeededBy base c (reported_cells lines)
@@ -42,27 +42,29 @@ abbrev pub bare_below : Base → ℕ → List ℕ
 bare_below base zero = []
 bare_below base (suc c) = if is_some (definition_of base c) then bare_below base c else c ∷ bare_below base c
 
--- the cells of the definitions at these positions from the last on, and then further cells
+-- the cells of the definitions at these positions, from the last to the first, followed by further
+-- cells
 abbrev pub targets_down : Base → List ℕ → List ℕ → List ℕ
 targets_down base [] further = further
 targets_down base (p ∷ later) further = targets_down base later (target_at base p ∷ further)
 
--- The cells of an ordered base, each before all that it reads: those with definitions from the last of the order on, and then those
--- without, from the greatest on. Where `B = A` and `C = B` are ordered so, they are `C`, `B` and `A`.
+-- The cells of an ordered base, each before all that it reads: those with definitions from the last
+-- of the order to the first, then those without, from the greatest to the least. If `B = A` and
+-- `C = B` are in this order, they are `C`, `B` and `A`.
 abbrev pub cells_down : Ordered → List ℕ
 cells_down ordered = targets_down ordered.base ordered.sequence (bare_below ordered.base ordered.base.cells)
 
--- whether a cell is this one, or is read by one of these
+-- whether a cell is this one, or one of these reads it
 abbrev pub is_needed : Base → ℕ → List ℕ → ℕ → Bool
 is_needed base c later d = d == c || list_any (λ x. cell_reads base x d) later
 
--- Going down along cells, those that are needed by a cell or by one of those that were found, which stand later: the needed cells, each
--- after those that it reads.
+-- Visits cells, each before those that it reads, and puts each that is needed before the ones found
+-- so far, `later`. The result has each cell after those that it reads.
 abbrev pub needed_along : Base → ℕ → List ℕ → List ℕ → List ℕ
 needed_along base c later [] = later
 needed_along base c later (d ∷ ds) = needed_along base c (if is_needed base c later d then d ∷ later else later) ds
 
--- The cells that a cell needs, with itself, each after those that it reads: the cell is the last.
+-- The cells that a cell needs, each after those that it reads; the last is the cell itself.
 abbrev pub needed_cells : Ordered → ℕ → List ℕ
 needed_cells ordered c = needed_along ordered.base c [] (cells_down ordered)
 
@@ -77,7 +79,8 @@ abbrev pub lines_over : Base → Environment → List ReportLine → List ℕ �
 lines_over base given earlier [] = earlier
 lines_over base given earlier (c ∷ cells) = lines_over base given (earlier ++ line_over base given earlier c ∷ []) cells
 
--- The lines that say why a cell has its value over an environment: a line for each cell that it needs. Where `IRN = REV` is defined and
--- `REV` is 2500.5, the lines for `IRN` are `REV = 2500.5` and `IRN = 2500.5`.
+-- The lines that explain a cell's value over an environment: one for each cell that it needs. If
+-- `IRN = REV` is defined and `REV` is 2500.5, the lines for `IRN` are `REV = 2500.5` and
+-- `IRN = 2500.5`.
 abbrev pub why_lines : Ordered → Environment → ℕ → List ReportLine
 why_lines ordered given c = lines_over ordered.base given [] (needed_cells ordered c)

@@ -1,4 +1,4 @@
--- The environment at the start, by the values of the inputs, and what a reporter holds.
+-- The initial environment, by the values of the inputs, and the state of a reporter.
 use Rattle.std.specs.Prelude.{◌≡◌, ℕ, ◌+◌, List, [], ◌∷◌, ◌++◌, length, replicate, if◌then◌else◌, slice_index, slice_index_or, slice_set}
 use Rattle.m_fixed.specs.declared.amount.Value.{Value}
 use Rattle.m_fixed.specs.declared.amount.Value.TheVariants.{Undef, Num}
@@ -11,8 +11,8 @@ use Rattle.m_symbols.specs.Placed.{IsPlaced}
 use Rattle.rule_order.specs.declared.ordered.Ordered.{Ordered}
 use Rattle.why_report.specs.declared.line.ReportLine.{ReportLine}
 
--- what a variable's cells begin with, where the next input has this number: an input with its value, a constant with its amount, and
--- each other variable is undefined
+-- the initial value of a variable's cells, where the next input has this number: an input's value,
+-- a constant's amount, else undefined
 abbrev pub start_value : List Value → ℕ → Role → Value
 start_value inputs n (Input code) = slice_index_or inputs n Undef
 start_value inputs n (Computed size) = Undef
@@ -22,27 +22,29 @@ start_value inputs n (Constant amount) = Num amount
 abbrev pub input_behind : ℕ → Role → ℕ
 input_behind n role = if is_input role then n + 1 else n
 
--- what the cells of variables begin with, where the first input among them has this number
+-- the initial values of the cells of variables, where the first input among them has this number
 abbrev pub start_among : List Value → ℕ → List Variable → List Value
 start_among inputs n [] = []
 start_among inputs n (v ∷ vs) = replicate v.cells (start_value inputs n v.item.role) ++ start_among inputs (input_behind n v.item.role) vs
 
--- The environment at the start, for a value of each input in order of declaration: of the input `V`, the constant `C` of 2 and
--- the table `T` of 2 cells, for 7, it is 7, 2, undefined, undefined.
+-- The initial environment, for a value of each input in order of declaration: for the input `V`,
+-- the constant `C` of 2 and the table `T` of 2 cells it is, for 7, the list 7, 2, undefined,
+-- undefined.
 abbrev pub start_env : Declared → List Value → List Value
 start_env declared inputs = start_among inputs 0 declared.variables
 
--- the cells of those variables that are inputs, in order
+-- the cells of the inputs among these variables, in order
 abbrev pub input_cells_among : List Variable → List ℕ
 input_cells_among [] = []
 input_cells_among (v ∷ vs) = if is_input v.item.role then v.first_cell ∷ input_cells_among vs else input_cells_among vs
 
--- The cells of the inputs in order: of the table `T` of 2 cells and the inputs `V` and `W` they are 2 and 3.
+-- The cells of the inputs in order: for the table `T` of 2 cells and the inputs `V` and `W` they
+-- are 2 and 3.
 abbrev pub input_cells : Declared → List ℕ
 input_cells declared = input_cells_among declared.variables
 
--- What a reporter holds: a base with its order, the cells of the inputs, the values of the inputs as they were put, the environment,
--- and the lines that were found last.
+-- The state of a reporter: a base with its order, the cells and the values of the inputs, the
+-- environment, and the lines that were found last.
 pub record Reporting : Type 0 where
   pub ordered : Ordered
   pub input_cells : List ℕ
@@ -50,21 +52,21 @@ pub record Reporting : Type 0 where
   pub env : List Value
   pub lines : List ReportLine
 
--- what is held over an ordered base and declarations before a value is put: all inputs are undefined
+-- the state before an input is set: all inputs are undefined
 abbrev pub begun : Ordered → Declared → Reporting
 begun ordered declared =
     let inputs : List Value = replicate (length (inputs_from 0 declared.variables)) Undef in
     record { ordered = ordered; input_cells = input_cells declared; inputs = inputs; env = start_env declared inputs; lines = [] }
 
--- what is held when an input has this value
+-- the state after an input is set
 abbrev pub with_input : Reporting → ℕ → Value → Reporting
 with_input held input v = record held { inputs = slice_set held.inputs input v; env = slice_set held.env (slice_index held.input_cells input) v }
 
--- what is held when these lines were found
+-- the state after these lines are found
 abbrev pub with_lines : Reporting → List ReportLine → Reporting
 with_lines held lines = record held { lines = lines }
 
--- What is held is of these declarations: the environment is that at the start for the inputs' values.
+-- The environment is the initial one of these declarations, for the inputs' values.
 pub record IsStart (declared : Declared) (held : Reporting) : Type 0 where
   pub placed : IsPlaced declared
   pub cells : held.input_cells ≡ input_cells declared

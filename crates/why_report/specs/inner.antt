@@ -1,4 +1,4 @@
--- What the contracts of inner functions speak of. Those of the public calls need none of it.
+-- Used by the contracts of inner functions only, not by those of the public calls.
 pub mod Checked
 pub mod Held
 pub mod Plans

@@ -1,4 +1,4 @@
-//! The check of a derivation, line by line.
+//! Checks a derivation, line by line.
 
 ghost use Rattle.std.specs.Prelude.{◌≡◌, ◌+◌, ◌<◌, [], IfOk, All, length, take, Some, IsTrue, ◌↔◌};
 ghost use Rattle.std.specs.Bool.{OnTrue};
@@ -15,8 +15,8 @@ use m_fixed::Value;
 use micro_m::{Base, term_value};
 use std::alloc::{AllocError, Global};
 
-/// What is kept of the lines that were checked: the values of their cells, which cells these are, and from each cell on how many
-/// are known to be among them.
+/// The state of a check, per cell: its value, whether a checked line has it, and in `known` the
+/// length of a run from it on of cells known to have lines.
 #[derive(Drop)]
 struct Checked {
     values: Vec<Value>,
@@ -24,13 +24,15 @@ struct Checked {
     known: Vec<usize>,
 }
 
-/// The position, from 0, of the first line of a derivation that isn't sound for a base and an environment: an earlier line has its
-/// cell, or it reads a cell that no earlier line has, or it has another value than that of its term under the values of the earlier
-/// lines, or without a definition than the environment's. None exactly where the derivation is sound.
+/// The position, from 0, of the first unsound line of a derivation; `None` exactly if the
+/// derivation is sound, as one without lines is. A line is unsound if an earlier line has its cell,
+/// if it reads a cell that no earlier line has, or if its value differs: from its term's value
+/// under the earlier lines, or without a definition from the environment's.
 ///
-/// The base is valid, with a value in the environment for each of its cells, and each line's cell is one of them. The order of the
-/// base's definitions plays no part. The work is linear in the cells, the definitions and the parts of the terms of the lines' cells,
-/// with each table looked through once. Its only error is running out of memory.
+/// The base is valid, the environment has a value for each of its cells, and each line's cell is
+/// one of them. The order of the definitions is irrelevant. The time is linear in the cells, the
+/// definitions and the terms of the lines' cells; each table is scanned once. The only error is
+/// running out of memory.
 pub fn first_unsound(
     alloc: Global,
     base: &Base,
@@ -53,7 +55,7 @@ pub fn first_unsound(
 }
 
 impl Checked {
-    /// What is kept of no lines.
+    /// The state before the first line.
     fn new(alloc: Global, cells: usize) -> Result<Checked, AllocError>
         ensures { IfOk result (Keeps cells []) }
     {
@@ -64,7 +66,8 @@ impl Checked {
         })
     }
 
-    /// Takes the line at a position, if it follows from those before it, which were taken, and says whether it does.
+    /// Adds the line at a position to the checked ones if it follows from them, and returns whether
+    /// it does.
     fn take(
         &mut self,
         base: &Base,
@@ -104,7 +107,8 @@ impl Checked {
     }
 }
 
-/// The value that a cell has by the values of the cells that stand, if all cells stand that its definition reads.
+/// The value that follows for a cell from the checked lines, if they have all cells that its
+/// definition reads.
 fn derived_value(
     base: &Base,
     places: &[usize],
@@ -135,7 +139,7 @@ fn derived_value(
     }
 }
 
-/// The value at a cell's number, and undefined beyond the last.
+/// The value of a cell, undefined beyond the last.
 pub(crate) fn value_at(values: &[Value], cell: usize) -> Value
     ensures { result ≡ environment values.now cell }
 {
@@ -145,7 +149,7 @@ pub(crate) fn value_at(values: &[Value], cell: usize) -> Value
     }
 }
 
-/// Whether there is a value, and it is this one.
+/// Whether `found` is this value.
 fn is_value(found: Option<Value>, value: Value) -> bool
     ensures { IsTrue result ↔ (found ≡ Some value) }
 {

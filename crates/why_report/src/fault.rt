@@ -1,16 +1,16 @@
-//! Why a report isn't read.
+//! Why a report doesn't parse.
 
 ghost use Rattle.std.specs.Prelude.{◌≡◌};
 ghost use Rattle.why_report.specs.declared.fault.ReportFault.TheVariants.{Memory};
 
 use std::alloc::{AllocError, AllocFailed};
 
-/// Why a report isn't read.
+/// Why a report doesn't parse.
 #[derive(Clone, Copy, Debug, PartialEq, Eq)]
 pub enum ReportFault {
-    /// The line with this number, from 1, isn't of the form of a line. The first such line decides.
+    /// The number, from 1, of the first malformed line.
     BadLine(u32),
-    /// There was no memory.
+    /// Out of memory.
     Memory,
 }
 

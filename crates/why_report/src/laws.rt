@@ -10,14 +10,16 @@ ghost use Rattle.why_report.specs.declared.line.ReportLine.{ReportLine};
 ghost use Rattle.why_report.specs.Derivations.{IsSound};
 ghost use Rattle.why_report.specs.Reasons.{IsReasonOf, why_lines};
 
-/// Each value of a sound derivation is its cell's value by the base's meaning, also where other cells of the base are on a cycle.
+/// Each value of a sound derivation is its cell's value by the base's meaning, even if other cells
+/// of the base are on a cycle.
 pub fn sound_lines_hold_values()
     ensures { (base : Base) (given : Environment) (lines : List ReportLine) → IsSound base given lines
         → All (λ line. line.value ≡ value_of base given line.cell) lines }
 {}
 
-/// The lines that say why a cell has its value are its reason over any environment, where the base is ordered: they are sound, the last
-/// is the cell's, and each other line's cell is read by a later line.
+/// In an ordered base, the lines of `why_lines` are the reason for a cell's value over any
+/// environment: they are sound, the last line is the cell's, and each other line's cell is read by
+/// a later line.
 pub fn why_lines_are_a_reason()
     ensures { (ordered : Ordered) (given : Environment) (c : ℕ) → IsValidBase ordered.base → IsOrder ordered.base ordered.sequence
         → c < ordered.base.cells → IsReasonOf ordered.base given c (why_lines ordered given c) }

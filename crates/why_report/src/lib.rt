@@ -1,7 +1,10 @@
-//! Why a cell has its value: derivations, the check that one is sound, and their text.
+//! Derivations, which explain why a cell has its value: finding one, checking that one is sound,
+//! and their text form.
 //!
-//! This crate stands on the meaning of a base and on what is declared. It knows nothing of commands, files or drivers.
-//! The check of a derivation uses no order of the definitions; a reporter finds derivations along one.
+//! Uses the meaning of a base and the declarations. Knows nothing of commands, files or drivers.
+//!
+//! The check needs no order of the definitions; a reporter finds derivations along one. A sound
+//! derivation reaches no cycle, so its law requires nothing of the base.
 #![tactic(auto)]
 
 mod check;

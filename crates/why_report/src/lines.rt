@@ -1,4 +1,4 @@
-//! The lines of cells, each after those that it reads.
+//! The lines of cells, each after the lines of the cells that it reads.
 
 ghost use Rattle.std.specs.Prelude.{◌≡◌, ◌<◌, ◌≤◌, [], All, length, take, slice_set};
 ghost use Rattle.std.specs.Option.{option_map_or};
@@ -14,7 +14,8 @@ use crate::places::definition_at;
 use m_fixed::Value;
 use micro_m::{Base, term_value};
 
-/// Puts the lines of these cells to the start of a list. The values that stood in the table before play no part.
+/// Writes the lines of these cells to the start of a list. The table's former values are
+/// irrelevant.
 pub(crate) fn fill_lines(
     base: &Base,
     places: &[usize],
@@ -38,7 +39,7 @@ pub(crate) fn fill_lines(
     }
 }
 
-// The value of a cell by the values of those that it reads.
+// The value of a cell under the values of the cells that it reads.
 fn cell_value(base: &Base, places: &[usize], env: &[Value], cell: usize, values: &[Value]) -> Value
     requires places { ArePlaces base.now places.now }
     requires cell { cell < base.now.cells }
@@ -50,7 +51,7 @@ fn cell_value(base: &Base, places: &[usize], env: &[Value], cell: usize, values:
     }
 }
 
-// Puts a line to a position.
+// Writes a line at a position.
 fn put_line(cell: u32, value: Value, position: usize, lines: &mut [ReportLine])
     requires { position < length lines.old }
     ensures { lines.new ≡ slice_set lines.old position (record { cell = cell; value = value }) }

@@ -1,4 +1,4 @@
-//! The marks of what is read.
+//! Marks the cells that definitions read.
 
 ghost use Rattle.std.specs.Prelude.{◌≡◌, ◌+◌, ◌<◌, ◌≤◌, ◌==◌, length};
 ghost use Rattle.micro_m.specs.Views.{trees_of, steps_of};
@@ -34,8 +34,8 @@ pub(crate) fn mark_read(
     }
 }
 
-/// Marks the cells that a term reads. From each cell on, as many cells as `known` says are known to be marked, so that a table that is
-/// read often is gone through once.
+/// Marks the cells that a term reads. From each cell on, `known` of its cells are known to be
+/// marked, so a table that is read often is scanned once.
 #[cycle(marks)]
 fn mark_term(term: &MTerm, spots: &[u32], marked: &mut Bits, known: &mut [usize])
     requires within { IsWithin (length spots.now) term.now }
@@ -82,7 +82,8 @@ fn mark_steps(steps: &[Step], spots: &[u32], marked: &mut Bits, known: &mut [usi
     }
 }
 
-// Marks what a table read reads of its table: at a literal the one cell that it comes to, if it comes to one, and else all cells.
+// Marks the cells that a table read reads: at a literal index the selected cell, if there is one,
+// and else all cells of the table.
 fn mark_table(
     first: u32,
     size: u32,
@@ -105,7 +106,7 @@ fn mark_table(
     }
 }
 
-// Marks the cell that a table comes to, if it comes to one.
+// Marks the cell that a literal index selects, if there is one.
 fn mark_picked(picked: Picked, spots: &[u32], marked: &mut Bits, known: &mut [usize])
     requires within { PickedIsWithin (length spots.now) picked }
     requires marking { IsMarking spots.now marked.old known.old }
@@ -127,7 +128,7 @@ pub(crate) fn mark_cell(cell: usize, spots: &[u32], marked: &mut Bits)
     marked.insert(spots[cell]);
 }
 
-// Marks each of so many cells from one on. Those that are known to be marked aren't looked at.
+// Marks `size` cells from `first` on, skipping those known to be marked.
 fn mark_run(first: usize, size: usize, spots: &[u32], marked: &mut Bits, known: &mut [usize])
     requires within { first + size ≤ length spots.now }
     requires marking { IsMarking spots.now marked.old known.old }
@@ -140,7 +141,7 @@ fn mark_run(first: usize, size: usize, spots: &[u32], marked: &mut Bits, known: 
     }
 }
 
-// Marks each of so many cells from one on, of which the first so many are marked.
+// Marks `size` cells from `first` on, of which the first `known` are marked.
 fn mark_rest(first: usize, size: usize, known: usize, spots: &[u32], marked: &mut Bits)
     requires within { first + size ≤ length spots.now }
     requires few { known ≤ size }

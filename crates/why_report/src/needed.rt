@@ -11,8 +11,8 @@ use crate::plan::Plan;
 use dirty_set::Bits;
 use rule_order::Ordered;
 
-/// Puts the cells that a cell needs, with itself, to the end of a list, each after those that it reads, and tells where the first of
-/// them stands. Of the spots only the marked ones are visited.
+/// Writes the cells that a cell needs, itself included, to the end of a list, each after those that
+/// it reads, and returns the position of the first. Only marked spots are visited.
 pub(crate) fn find_needed(
     ordered: &Ordered,
     plan: &Plan,
@@ -54,7 +54,7 @@ pub(crate) fn find_needed(
     at
 }
 
-/// Takes all marks away, where what is known is of these cells.
+/// Clears all marks and the `known` counts, which are nonzero at these cells only.
 pub(crate) fn forget(cells: &[u32], marked: &mut Bits, known: &mut [usize])
     requires cells { All (λ c. c < length known.old) cells.now }
     requires known { (c : ℕ) → (slice_index_or known.old c 0 ≡ 0 → ⊥) → is_among c cells.now ≡ true }

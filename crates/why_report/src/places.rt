@@ -1,4 +1,4 @@
-//! The definition of each cell, found by the cell's number.
+//! The definition of each cell, by the cell's number.
 
 ghost use Rattle.std.specs.Prelude.{◌≡◌, ◌<◌, IfOk, option_copied};
 ghost use Rattle.micro_m.specs.Bases.{IsValidBase, definition_of};
@@ -19,7 +19,7 @@ pub fn places_of(alloc: Global, base: &Base) -> Result<Vec<usize>, AllocError>
     Ok(places)
 }
 
-/// The term that a cell is defined by, if it has a definition.
+/// The term that defines a cell, if it has a definition.
 pub fn definition_at<'a>(base: &'a Base, places: &[usize], cell: usize) -> Option<&'a MTerm>
     requires places { ArePlaces base.now places.now }
     requires cell { cell < base.now.cells }

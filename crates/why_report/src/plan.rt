@@ -1,4 +1,5 @@
-//! The cells of an ordered base, each before those that it reads, and where each of them stands.
+//! The order in which `why` visits the cells of an ordered base: each cell before those that it
+//! reads.
 
 ghost use Rattle.std.specs.Prelude.{◌≡◌, ◌<◌, ◌≤◌, ◌++◌, [], IfOk, OnOk, All, length};
 ghost use Rattle.micro_m.specs.Bases.{AreDistinctCells, IsValidBase};
@@ -12,8 +13,8 @@ use micro_m::Base;
 use rule_order::Ordered;
 use std::alloc::{AllocError, Global};
 
-/// Where the definitions of an ordered base are, its cells, each before those that it reads, and for each cell the position at which it
-/// stands among them.
+/// The plan of an ordered base: the places of the definitions, the cells, each before those that it
+/// reads, and for each cell its spot, which is its position among them.
 #[derive(Drop)]
 pub(crate) struct Plan {
     pub(crate) places: Vec<usize>,
@@ -50,7 +51,7 @@ fn cells_of(alloc: Global, ordered: &Ordered, places: &[usize]) -> Result<Vec<u3
     Ok(cells)
 }
 
-// Adds the cells that have definitions to none, from the last of the order on.
+// Appends the cells that have definitions, from the last of the order to the first.
 fn add_targets(ordered: &Ordered, cells: &mut Vec<u32>) -> Result<(), AllocError>
     requires order { IsOrder ordered.now.base ordered.now.sequence }
     requires none { cells.old.items ≡ [] }
@@ -66,7 +67,7 @@ fn add_targets(ordered: &Ordered, cells: &mut Vec<u32>) -> Result<(), AllocError
     Ok(())
 }
 
-// Adds the cells that have no definition, from the greatest on.
+// Appends the cells that have no definition, from the greatest to the least.
 fn add_bare(base: &Base, places: &[usize], cells: &mut Vec<u32>) -> Result<(), AllocError>
     requires { ArePlaces base.now places.now }
     ensures { OnOk result (cells.new.items ≡ cells.old.items ++ bare_below base.now base.now.cells) }
@@ -81,7 +82,7 @@ fn add_bare(base: &Base, places: &[usize], cells: &mut Vec<u32>) -> Result<(), A
     Ok(())
 }
 
-// For each cell below a count its position among these, which are distinct.
+// For each cell below `count` its position among these cells, which are distinct.
 fn spots_of(alloc: Global, cells: &[u32], count: u32) -> Result<Vec<u32>, AllocError>
     requires once { AreDistinctCells cells.now }
     requires within { All (λ c. c < count) cells.now }

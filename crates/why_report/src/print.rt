@@ -1,4 +1,4 @@
-//! Reports printed as text.
+//! Prints reports.
 
 ghost use Rattle.std.specs.Prelude.{◌∷◌, [], ◌<◌, All, Some, codes, length};
 ghost use Rattle.m_ports.specs.Giving.{Gives};
@@ -16,9 +16,9 @@ use m_fixed::{Amount, Value, write_amount};
 use m_ports::{Failed, Sink, give_pieces};
 use m_symbols::{Symbols, Variable};
 
-/// Writes the lines of a derivation: of each the cell's printed name and its value, as `IRN = 2500.5`, `IRN undefined` or `IRN over`,
-/// with its line feed. Each cell is one of those that are declared. On a failure a prefix of the lines was appended. It takes no
-/// memory.
+/// Writes the lines of a derivation, each with the cell's printed name, its value and a line feed:
+/// `IRN = 2500.5`, `IRN undefined` or `IRN over`. Each cell is declared. On a failure a prefix of
+/// the text was appended. Takes no memory.
 pub fn print_report<K: Sink>(
     symbols: &Symbols,
     lines: &[ReportLine],
@@ -67,7 +67,7 @@ fn print_index<K: Sink>(name: &[u8], k: u32, out: &mut K) -> Result<(), Failed>
     give_pieces(out, &[name, b"[", digits, b"]"])
 }
 
-// What stands after a cell's name in its line.
+// The rest of a line, after the cell's name.
 fn print_value<K: Sink>(value: Value, out: &mut K) -> Result<(), Failed>
     ensures { Gives K.written K.faults out.old out.new result (value_line [] value) }
 {

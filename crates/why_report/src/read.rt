@@ -1,4 +1,4 @@
-//! Reports read from text.
+//! Parses reports.
 
 ghost use Rattle.std.specs.Prelude.{◌≡◌, ◌+◌, ◌<◌, ◌≤◌, ◌++◌, ◌∷◌, [], All, IfOk, IfSome, OnOk, Ok, Err};
 ghost use Rattle.std.specs.Prelude.{Some, None, length, take, drop, option_copied, option_to_list, is_some};
@@ -18,10 +18,12 @@ use m_symbols::{Symbols, find_request};
 use m_text::{first_exact_line, first_of};
 use std::alloc::{AllocError, Global};
 
-/// The derivation that a report says. Each line is the printed name of a cell, one space, and `= ` and an amount, `undefined` or
-/// `over`: `T[1] = 2500.50`. The last line may lack its line feed, and a last line `.` is skipped.
+/// Parses a derivation. A line is a cell's printed name, one space, and `= ` with an amount,
+/// `undefined` or `over`: `T[1] = 2500.50`. A line ends at a line feed, which may be missing after
+/// the last; a last line `.` is skipped. An empty line, one with a carriage return, or a `.` that
+/// isn't last is malformed.
 ///
-/// The error is the number, from 1, of the first line of another form, or that there was no memory.
+/// The error is the number, from 1, of the first malformed line, or running out of memory.
 pub fn read_report(
     alloc: Global,
     bytes: &[u8],
@@ -38,7 +40,7 @@ pub fn read_report(
     Ok(Seq::from_vec(lines))
 }
 
-// Adds the lines of the derivation to none.
+// Appends the parsed lines.
 fn add_lines(
     bytes: &[u8],
     symbols: &Symbols,
@@ -66,7 +68,7 @@ fn add_lines(
     Ok(())
 }
 
-// Adds the line of a derivation that a line of text says, and tells whether it says one.
+// Appends the parsed line, and returns whether the line is well-formed.
 fn add_line(line: &[u8], symbols: &Symbols, lines: &mut Vec<ReportLine>) -> Result<bool, AllocError>
     requires placed { IsPlaced symbols.now }
     requires known { All (λ reported. reported.cell < length (owners_from 0 symbols.now.variables)) lines.old.items }
@@ -83,7 +85,7 @@ fn add_line(line: &[u8], symbols: &Symbols, lines: &mut Vec<ReportLine>) -> Resu
     }
 }
 
-// Adds a line of a derivation.
+// Appends a line of a derivation.
 fn add(cell: u32, value: Value, lines: &mut Vec<ReportLine>) -> Result<(), AllocError>
     ensures { OnOk result (lines.new.items ≡ lines.old.items ++ record { cell = cell; value = value } ∷ []) }
 {
@@ -91,7 +93,7 @@ fn add(cell: u32, value: Value, lines: &mut Vec<ReportLine>) -> Result<(), Alloc
     Ok(())
 }
 
-// Whether a line is the last, before this rest, and is `.`.
+// Whether a line is `.` and the last, where `rest` is the text after it.
 fn ends_report(line: &[u8], rest: &[u8]) -> bool
     ensures { result ≡ ends_report line.now (exact_lines_of rest.now) }
 {
@@ -101,7 +103,7 @@ fn ends_report(line: &[u8], rest: &[u8]) -> bool
     }
 }
 
-// The line of a derivation that a line of text says.
+// Parses a line.
 fn read_line(line: &[u8], symbols: &Symbols) -> Option<ReportLine>
     requires { IsPlaced symbols.now }
     ensures stated { result ≡ parsed_line symbols.now line.now }
@@ -116,7 +118,7 @@ fn read_line(line: &[u8], symbols: &Symbols) -> Option<ReportLine>
     Some(ReportLine { cell, value })
 }
 
-// The value that is said after a cell's name and a space.
+// Parses the part after a cell's name and a space.
 fn read_value(text: &[u8]) -> Option<Value>
     ensures { result ≡ parsed_value text.now }
 {
@@ -132,7 +134,7 @@ fn read_value(text: &[u8]) -> Option<Value>
     }
 }
 
-// The value of an amount's text.
+// Parses an amount.
 fn amount_value(text: &[u8]) -> Option<Value>
     ensures { result ≡ amount_value (amount_read (text_value text.now)) }
 {
@@ -142,7 +144,7 @@ fn amount_value(text: &[u8]) -> Option<Value>
     }
 }
 
-// What stands after `= ` at the start of a text.
+// The text after a leading `= `.
 fn behind_equals(text: &[u8]) -> Option<&[u8]>
     ensures { option_copied result ≡ behind_equals text.now }
 {

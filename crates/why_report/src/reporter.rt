@@ -1,4 +1,4 @@
-//! A reporter: an ordered base and an environment, of which it is told why a cell has its value.
+//! A reporter: an ordered base and an environment, over which it explains values of cells.
 
 ghost use Rattle.std.specs.Prelude.{◌≡◌, ◌<◌, All, IfOk, length};
 ghost use Rattle.micro_m.specs.Bases.{IsValidBase};
@@ -22,8 +22,8 @@ use rule_order::Ordered;
 use std::alloc::{AllocError, Global};
 use std::marker::Model;
 
-/// An ordered base with an environment, whose inputs can be put. Contracts see the base and its order, the cells of the inputs,
-/// their values, the environment, and the lines that were found last.
+/// An ordered base with an environment whose inputs can be set. Contracts see the base and its
+/// order, the cells and values of the inputs, the environment, and the lines that were found last.
 #[derive(Drop)]
 pub struct Reporter {
     ordered: Ordered,
@@ -59,8 +59,9 @@ impl Model for Reporter {
 }
 
 impl Reporter {
-    /// A reporter over an ordered valid base and what is declared. All inputs are undefined at first, and constants have their amounts.
-    /// Its only error is running out of memory, and no later call takes memory.
+    /// A reporter over an ordered valid base and the declarations. All inputs are undefined, and
+    /// constants have their amounts. Its only error is running out of memory; no later call takes
+    /// memory.
     pub fn new(alloc: Global, ordered: Ordered, symbols: &Symbols) -> Result<Reporter, AllocError>
         requires valid { IsValidBase ordered.base }
         requires order { IsOrder ordered.base ordered.sequence }
@@ -109,9 +110,9 @@ impl Reporter {
         self.env[cell as usize] = self.inputs[input as usize];
     }
 
-    /// Finds why a cell has its value: the lines of a sound derivation, of which the last is the cell's, and each other line's cell is
-    /// read by a later line. The time goes with the lines and the parts of their cells' terms. All else that is held stays as it was,
-    /// and no memory is taken.
+    /// Finds why a cell has its value: the lines of a sound derivation, of which the last is the
+    /// cell's, and each other line's cell is read by a later line. The time is linear in the lines
+    /// and the terms of their cells. Changes only the lines, and takes no memory.
     pub fn why(&mut self, cell: u32)
         requires { cell < self.old.ordered.base.cells }
         ensures lines { self.new ≡ with_lines self.old (why_lines self.old.ordered (environment self.old.env) cell) }
@@ -141,7 +142,7 @@ impl Reporter {
         self.found = cells.len();
     }
 
-    /// The lines that were found last, and none before the first.
+    /// The lines that were found last; empty before the first call of `why`.
     pub fn lines(&self) -> &[ReportLine]
         ensures { result.now ≡ self.now.lines }
     {

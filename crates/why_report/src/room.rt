@@ -1,4 +1,4 @@
-//! Room in which derivations are found without memory.
+//! Buffers with which derivations are found without taking memory.
 
 ghost use Rattle.std.specs.Prelude.{IfOk};
 ghost use Rattle.why_report.specs.inner.Held.{IsRoomFor};
@@ -8,8 +8,9 @@ use dirty_set::Bits;
 use m_fixed::Value;
 use std::alloc::{AllocError, Global};
 
-/// Room for the cells of a base: the marks of those that are needed at their spots, from each cell on how many are known to be marked,
-/// the needed cells at the end of a list, the values of those that have lines, and the lines.
+/// Buffers for the cells of a base: a mark for each spot, for each cell how many cells from it on
+/// are known to be marked, the needed cells at the end of a list, the values of the cells that have
+/// lines, and the lines.
 #[derive(Drop)]
 pub(crate) struct Room {
     pub(crate) marked: Bits,
@@ -19,7 +20,7 @@ pub(crate) struct Room {
     pub(crate) lines: Vec<ReportLine>,
 }
 
-/// Room for so many cells.
+/// Buffers for `cells` cells.
 pub(crate) fn room_for(alloc: Global, cells: u32) -> Result<Room, AllocError>
     ensures { IfOk result (IsRoomFor cells) }
 {

@@ -1,4 +1,4 @@
-//! Whether all cells that a term reads stand.
+//! Whether all cells that a term reads are marked: whether the checked lines have them.
 
 ghost use Rattle.std.specs.Prelude.{◌≡◌, ◌+◌, ◌<◌, ◌≤◌, length};
 ghost use Rattle.micro_m.specs.Views.{trees_of, steps_of};
@@ -7,8 +7,8 @@ ghost use Rattle.why_report.specs.inner.Standing.{AllStand, KnowsStanding, run_i
 
 use micro_m::{MNode, MTerm, Picked, Step, pick};
 
-/// Whether all cells stand that a term reads. From each cell on, as many cells as `known` says are known to stand, so that a table
-/// that is read often is looked through once.
+/// Whether all cells that a term reads are marked. From each cell on, `known` of its cells are
+/// known to be marked, so a table that is read often is scanned once.
 #[cycle(standing)]
 pub fn term_is_marked(term: &MTerm, marks: &[bool], known: &mut [usize]) -> bool
     requires within { IsWithin (length marks.now) term.now }
@@ -63,8 +63,8 @@ fn steps_stand(steps: &[Step], marks: &[bool], known: &mut [usize]) -> bool
     true
 }
 
-/// Whether all stands that a table read reads of its table: at a literal the one cell that it comes to, if it comes to one, and else
-/// all cells.
+/// Whether the cells that a table read reads are marked: at a literal index the selected cell, if
+/// there is one, and else all cells of the table.
 fn table_is_marked(
     first: u32,
     size: u32,
@@ -90,7 +90,7 @@ fn table_is_marked(
     }
 }
 
-/// Whether each of so many cells from one on stands. What is known to stand isn't looked at again.
+/// Whether `size` cells from `first` on are marked. Cells known to be marked are skipped.
 fn run_is_marked(first: usize, size: usize, marks: &[bool], known: &mut [usize]) -> bool
     requires within { first + size ≤ length marks.now }
     requires size { length known.old ≡ length marks.now }
@@ -110,7 +110,7 @@ fn run_is_marked(first: usize, size: usize, marks: &[bool], known: &mut [usize])
     true
 }
 
-/// Whether each of so many cells from one on stands, where so many of them are known to.
+/// Whether `size` cells from `first` on are marked, of which `known` are known to be.
 fn rest_is_marked(first: usize, size: usize, known: usize, marks: &[bool]) -> bool
     requires within { first + size ≤ length marks.now }
     requires knows { AllStand marks.now first known }

@@ -9,7 +9,7 @@ use m_fixed::Value;
 use m_symbols::Symbols;
 use std::alloc::{AllocError, Global};
 
-/// What the cells of all variables begin with, where no input has a value.
+/// The initial values of all variables' cells, with all inputs undefined.
 pub(crate) fn start_env(alloc: Global, symbols: &Symbols) -> Result<Vec<Value>, AllocError>
     ensures { IfOk result (λ env. env.items ≡ start_env symbols.now []) }
 {
@@ -35,7 +35,7 @@ pub(crate) fn input_cells(alloc: Global, symbols: &Symbols) -> Result<Vec<u32>, 
     Ok(cells)
 }
 
-// What a variable's cells begin with, where all inputs are undefined.
+// The initial value of a variable's cells, with all inputs undefined.
 fn start_value(role: &Role) -> Value
     ensures { result ≡ start_value [] 0 role.now }
 {
@@ -56,7 +56,7 @@ fn is_input(role: &Role) -> bool
     }
 }
 
-// Adds a value so many times.
+// Appends `count` copies of a value.
 fn add_values(value: Value, count: u32, values: &mut Vec<Value>) -> Result<(), AllocError>
     ensures { OnOk result (values.new.items ≡ values.old.items ++ replicate count value) }
 {

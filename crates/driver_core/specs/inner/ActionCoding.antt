@@ -1,4 +1,5 @@
--- How the logic stores a command: one clause for each constructor, and one for all pairs of two.
+-- The logic's encoding of a command: one clause for each constructor, and one for all pairs of
+-- distinct ones.
 use Rattle.std.proofs.Common.{◌≡◌, refl, ap, arith}
 use Rattle.std.specs.Coded.{Coded, coded_ℕ, coded_list}
 use base.Stored.{Gv, gnil, gnum, gcons, num}

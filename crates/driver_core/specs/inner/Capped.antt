@@ -1,4 +1,4 @@
--- Sums that stop at the greatest number of 64 bits.
+-- Sums that saturate at the greatest number of 64 bits.
 use Rattle.std.specs.Prelude.{ℕ, min}
 
 abbrev pub capped : ℕ → ℕ

@@ -1,4 +1,4 @@
--- How the labels are gathered that may be told: by their numbers, and then by what they print, as texts.
+-- Collecting the labels that may be reported: by number, and then by their text.
 use Rattle.std.specs.Prelude.{ℕ, Bool, true, false, not, ◌&&◌, List, [], ◌∷◌, ◌++◌, length, replicate, slice_get, slice_index_or, slice_set, if◌then◌else◌}
 use Rattle.std.specs.Option.{option_map_or}
 use Rattle.m_places.specs.declared.verification.Label.{Label}
@@ -18,12 +18,12 @@ use Rattle.m_lint.specs.Findings.{fact_at, is_quiet, is_silent}
 
 -- ---- by number
 
--- marks of labels, with those of the checks that aren't silent
+-- marks the labels of the checks that aren't silent
 abbrev pub with_checks : List Possible → List Check → List Bool → List Bool
 with_checks known [] marks = marks
 with_checks known (check ∷ checks) marks = with_checks known checks (if is_silent known check then marks else slice_set marks check.label true)
 
--- with that of an output whose node has this fact, if it is a note that may be told
+-- marks the label of an output whose node has this fact, if it is a note that may be reported
 abbrev pub with_output : Possible → FaceOutput → List Bool → List Bool
 with_output fact (Named name) marks = marks
 with_output fact (Noted number) marks = if is_quiet fact then marks else slice_set marks number true
@@ -38,7 +38,7 @@ loud_of known flat face = with_notes known face.outputs flat.outputs (with_check
 
 -- ---- by text
 
--- a word, so that its end is seen: 1 before each byte, and then 0
+-- a word with an unambiguous end: 1 before each byte, and then 0
 abbrev pub coded_word : List ℕ → List ℕ
 coded_word [] = 0 ∷ []
 coded_word (b ∷ bs) = 1 ∷ b ∷ coded_word bs
@@ -48,15 +48,15 @@ kind_number Anomalie = 0
 kind_number Discordance = 1
 kind_number Informative = 2
 
--- a label as one text, which no other label has
+-- a label as one text, distinct from that of any other label
 abbrev pub coded_label : Label → List ℕ
 coded_label label = coded_word label.verif ++ (coded_word label.error ++ (kind_number label.kind ∷ label.text))
 
--- names with one more, where it isn't there
+-- adds a name, if it isn't among the names
 abbrev pub with_name : List ℕ → List (List ℕ) → List (List ℕ)
 with_name name names = if has name names then names else names ++ name ∷ []
 
--- with the text of a label, if it is marked and a verification's
+-- adds the text of a label, if it is marked and a verification's
 abbrev pub with_label : FaceLabel → Bool → List (List ℕ) → List (List ℕ)
 with_label (Verif label) mark names = if mark then with_name (coded_label label) names else names
 with_label (DriverLine line) mark names = names
@@ -66,7 +66,7 @@ abbrev pub with_labels : List FaceLabel → List Bool → List (List ℕ) → Li
 with_labels (label ∷ labels) (mark ∷ marks) names = with_labels labels marks (with_label label mark names)
 with_labels _ _ names = names
 
--- whether a label, by its number and what it prints, is neither marked nor equal to a marked one
+-- whether a label, by its number and its text, is neither marked nor equal to a marked one
 abbrev pub is_label_unmarked : List Bool → List (List ℕ) → ℕ → Label → Bool
 is_label_unmarked marks names number label = not (slice_index_or marks number false) && not (has (coded_label label) names)
 

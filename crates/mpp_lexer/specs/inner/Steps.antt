@@ -4,8 +4,8 @@ use Rattle.mpp_lexer.specs.declared.piece.DriverSign.{DriverSign}
 use Rattle.mpp_lexer.specs.declared.piece.DriverPiece.{DriverPiece}
 use Rattle.mpp_lexer.specs.Tokens.{TokensOf, HasBadToken, sign_spelling}
 
--- The bytes from a position on have the tokens that those from a later one on have, after the tokens
--- that stand between the two, and a bad token where those have one.
+-- The tokens from a position on are those between it and a later position, followed by those from
+-- there on; and a bad token from there on is one from the earlier position on.
 pub record GoesOn (line : List ℕ) (from : ℕ) (between : List DriverPiece) (to : ℕ) : Type 0 where
   pub lists : (tokens : List DriverPiece) → TokensOf (drop to line) tokens → TokensOf (drop from line) (between ++ tokens)
   pub bad : HasBadToken (drop to line) → HasBadToken (drop from line)

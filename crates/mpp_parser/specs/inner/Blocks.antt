@@ -1,4 +1,5 @@
--- Reading lines as a function: as many commands as the lines at the start spell, and the lines after them.
+-- Parsing lines as a function: as many commands as the lines at the start spell, and the lines
+-- after them.
 use Rattle.std.specs.Prelude.{◌≡◌, ℕ, zero, suc, ◌==◌, ◌&&◌, nat_lt, Bool, false, cond, List, [], ◌∷◌, ◌++◌, length, Option, Some, None, Result, Ok, Err}
 use Rattle.std.specs.Prelude.{is_some}
 use Rattle.std.specs.declared.alloc.AllocError.{AllocError}
@@ -18,12 +19,12 @@ use Rattle.mpp_parser.specs.CommandView.{block_of}
 use Rattle.m_lexer.specs.inner.Chains.{◌>>=◌, choose}
 use Rattle.mpp_parser.specs.inner.Reading.{line_at}
 
--- at most n further ones, after those that are done: as many as can be read
+-- at most n more, appended to those that are done: as many as parse
 unfoldable pub many_at : {A : Type 0} → (List Line → Option (A × List Line)) → ℕ → List A → List Line → List A × List Line
 many_at p zero done ls = (done, ls)
 many_at p (suc n) done ls = choose (p ls) (done, ls) (λ x. many_at p n (done ++ x.0 ∷ []) x.1)
 
--- whether a line says `else:`
+-- whether a line is `else:`
 unfoldable pub is_else : List DriverPiece → Bool
 is_else (Word w ∷ Sign Colon ∷ []) = is_some (found keys.Else (keyword_of w))
 is_else _ = false
@@ -33,11 +34,11 @@ unfoldable pub else_at : ℕ → List Line → Option (List Line)
 else_at i [] = None
 else_at i (l ∷ ls) = cond ((l.indent == i) && is_else l.tokens) (Some ls) None
 
--- the block of an `else`, or none where no whole one stands here
+-- the block of an `else`, empty if there is no whole one
 unfoldable pub otherwise_at : (ℕ → List Line → Option (List Act × List Line)) → ℕ → List Line → List Act × List Line
 otherwise_at b i ls = choose (else_at i ls) ([], ls) (λ rest. choose (b i rest) ([], ls) (λ y. y))
 
--- what a line that says so begins, on line n
+-- the command whose first line is this sentence, on line n
 unfoldable pub stated_at : (ℕ → List Line → Option (List Act × List Line)) → ℕ → ℕ → Sentence → List Line → Option (Act × List Line)
 stated_at b i n (sentences.Set c t) ls = Some (set n c t, ls)
 stated_at b i n (sentences.Del c) ls = Some (del n c, ls)
@@ -74,7 +75,7 @@ function_at (l ∷ ls) = cond (l.indent == 0) (line_at l.tokens >>= λ s. headed
 unfoldable pub functions_at : List Line → List Function × List Line
 functions_at ls = many_at function_at (length ls) [] ls
 
--- What a reader of the code returned is what reading gives, unless memory ran out.
+-- The code's result is that of the parsing function, unless memory ran out.
 abbrev pub GivesOne : {A B : Type 0} → (A → B) → Result (Option A) AllocError → Option (B × List Line) → List Line → Type 0
 GivesOne view (Ok (Some x)) read rest = read ≡ Some (view x, rest)
 GivesOne view (Ok None) read rest = read ≡ None

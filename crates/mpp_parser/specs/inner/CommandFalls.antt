@@ -1,4 +1,4 @@
--- Each command in a command has fewer of them.
+-- A command has more commands in it than each command in it.
 use Rattle.std.specs.Prelude.{◌+◌, ◌≤◌, max, List, [], ◌∷◌}
 use Rattle.std.proofs.Common.{arith}
 use Rattle.mpp_parser.specs.declared.command.CommandNode.{CommandNode}

@@ -1,4 +1,6 @@
--- Reading as a function: the tree at the start of the tokens and the tokens after it, or none.
+-- Parsing as a function: the tree at the start of the tokens and the tokens after it, or none. The
+-- grammar is a relation; the parsers are proved against these functions, and these against the
+-- grammar.
 use Rattle.std.specs.Prelude.{◌≡◌, ℕ, zero, suc, ℤ, cond, List, [], ◌∷◌, ◌++◌, length, Option, Some, None, Result, Ok, Err, codes}
 use Rattle.std.specs.Str.{bytes_eq}
 use Rattle.m_places.specs.declared.limits.TheConstants.{BRACKET_DEPTH}
@@ -28,7 +30,7 @@ use Rattle.mpp_parser.specs.Trees.{Term, lit, named, exists}
 use Rattle.mpp_parser.specs.Grammar.{is, key, disjunction, conjunction, comparison, addition, multiplication, link, gathered, unary, binary, cast_of}
 use Rattle.mpp_parser.specs.Grammar.{tax_benefit}
 
--- What a reader of the code returned is what reading gives, unless memory ran out.
+-- The code's result is that of the parsing function, unless memory ran out.
 abbrev pub Fails : {A : Type 0} → Unread → Option A → Type 0
 Fails NotSpelled read = read ≡ None
 Fails Memory read = Unit {0}
@@ -82,7 +84,7 @@ gathered_at operator p ts = do
   others ← links_at operator p first.1
   Some (gathered first.0 others.0, others.1)
 
--- Names of cells, and kinds.
+-- Cells and kinds.
 
 unfoldable pub bracket_at : List DriverPiece → Option (ℕ × List DriverPiece)
 bracket_at ts = do
@@ -121,7 +123,7 @@ enclosed_at p ts = do
   r ← sign_at CloseParen x.1
   Some (x.0, r.1)
 
--- Terms, where e reads what stands inside of brackets.
+-- Terms, where e parses a term in brackets.
 
 -- a term and a sign after it
 unfoldable pub until_at : (List DriverPiece → Option (Term × List DriverPiece)) → DriverSign → List DriverPiece → Option (Term × List DriverPiece)
@@ -130,7 +132,7 @@ until_at e s ts = do
   r ← sign_at s t.1
   Some (t.0, r.1)
 
--- after a word, by the reserved word that it is
+-- after a word that is this keyword, or none
 unfoldable pub word_prim_at : List ℕ → Option Keyword → List DriverPiece → Option (Term × List DriverPiece)
 word_prim_at w None ts = cell_rest_at w ts >>= λ c. Some (named c.0, c.1)
 word_prim_at w (Some keys.Present) ts = enclosed_at cell_at ts >>= λ c. Some (unary ops.Present (named c.0), c.1)
@@ -171,7 +173,7 @@ unfoldable pub inner_at : ℕ → List DriverPiece → Option (Term × List Driv
 inner_at zero ts = None
 inner_at (suc d) ts = disjunction_at (inner_at d) ts
 
--- the four levels that are chains from the left: their operators, and what stands between these
+-- the four levels of left-associative chains: their operators, and their operands
 abbrev pub operator_of : Level → DriverPiece → Option Op
 operator_of levels.Or = disjunction
 operator_of levels.And = conjunction
@@ -189,7 +191,7 @@ term_at = disjunction_at (inner_at BRACKET_DEPTH)
 
 -- Lines.
 
--- after a name and "<-" the rest of a call, which receives these
+-- after a name and "<-" the rest of a call, which receives these cells
 unfoldable pub called_at : List CellName → List DriverPiece → Option (Sentence × List DriverPiece)
 called_at cs ts = do
   r ← sign_at Receive ts
@@ -228,7 +230,7 @@ partition_at ts = do
   r ← sign_at Colon k.1
   Some (sentences.Partition k.0, r.1)
 
--- after the first word, by the reserved word that it is
+-- after a first word that is this keyword, or none
 unfoldable pub worded_at : List ℕ → Option Keyword → List DriverPiece → Option (Sentence × List DriverPiece)
 worded_at w None ts = named_at w ts
 worded_at w (Some keys.Del) ts = cell_at ts >>= λ c. Some (sentences.Del c.0, c.1)
@@ -245,11 +247,11 @@ abbrev pub whole : Sentence → List DriverPiece → Option Sentence
 whole s [] = Some s
 whole s (t ∷ ts) = None
 
--- what a whole line says
+-- the sentence of a whole line
 unfoldable pub line_at : List DriverPiece → Option Sentence
 line_at ts = sentence_at ts >>= λ s. whole s.0 s.1
 
--- what a reader of a whole line returned is what reading gives, unless memory ran out
+-- the code's result for a whole line is that of the parsing function, unless memory ran out
 abbrev pub ReadsAll : Result Sentence Unread → Option Sentence → Type 0
 ReadsAll (Ok s) read = read ≡ Some s
 ReadsAll (Err e) read = Fails e read

@@ -1,4 +1,4 @@
--- Each part of a term has fewer nodes.
+-- A term has more nodes than each of its parts.
 use Rattle.std.specs.Prelude.{◌+◌, ◌≤◌, max, List, [], ◌∷◌}
 use Rattle.std.proofs.Common.{arith}
 use Rattle.mpp_parser.specs.declared.term.DNode.{DNode}

@@ -1,4 +1,4 @@
--- A step's running out of memory, which is the one of all.
+-- Running out of memory, in any step of reading a file, is `Memory`.
 use Rattle.m_lexer.specs.declared.fault.LexFault.{LexFault}
 use Rattle.m_lexer.specs.declared.fault.LexFault.TheVariants as lex
 use Rattle.m_items.specs.declared.fault.ParseFault.{ParseFault}

@@ -1,4 +1,4 @@
--- The steps from rule files to a base, each by itself.
+-- The steps from rule files to a base, one by one.
 use Rattle.std.specs.Prelude.{◌≡◌, ℕ, List, map, Some, None, Ok, Err}
 use Rattle.m_places.specs.declared.source.Text.{Text}
 use Rattle.m_lexer.specs.declared.fault.LexFault.{LexFault}
@@ -18,22 +18,22 @@ use Rattle.m_symbols.specs.Cells.{cell_name}
 use Rattle.rule_base.specs.declared.fault.RuleFault.{RuleFault}
 use Rattle.rule_base.specs.declared.fault.RuleFault.TheVariants.{Lex, Parse, Expand, Resolve, Cycle}
 
--- why the rule files say no items
+-- why the rule files don't parse
 pub data IsReadFault (texts : List Text) : RuleFault → Type 0 where
   bad_tokens : {fault : LexFault} → IsFirstFileFault 0 texts (read.Lex fault) → IsReadFault texts (Lex fault)
   bad_items : {fault : ParseFault} → IsFirstFileFault 0 texts (read.Parse fault) → IsReadFault texts (Parse fault)
 
--- the rules of the items are this base over what is declared
+-- the items' rules resolve to this base over the declarations
 pub record IsBaseOver (items : List Item) (application : List ℕ) (declared : Declared) (base : Base) : Type 0 where
   pub expands : expand_fault items application declared ≡ None
   pub resolves : resolved declared (expansion items application declared) ≡ Ok base
 
--- why the rules of the items are no base
+-- why the items' rules resolve to no base
 pub data IsOverFault (items : List Item) (application : List ℕ) (declared : Declared) : RuleFault → Type 0 where
   loops : {fault : ExpandFault} → expand_fault items application declared ≡ Some fault → IsOverFault items application declared (Expand fault)
   names : {fault : ResolveFault} → expand_fault items application declared ≡ None → resolved declared (expansion items application declared) ≡ Err fault
       → IsOverFault items application declared (Resolve fault)
 
--- a cycle of the base, shown by the names of its cells
+-- a cycle of the base, reported by the names of its cells
 pub data ShowsNamedCycle (declared : Declared) (base : Base) : RuleFault → Type 0 where
   shown : (cells : List ℕ) → IsCycle base cells → BeginsWithLeast cells → ShowsNamedCycle declared base (Cycle (map (cell_name declared) cells))

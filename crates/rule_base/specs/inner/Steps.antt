@@ -1,4 +1,4 @@
--- The fault of rule files that the fault of a step is: the step's running out of memory is the one of all.
+-- Maps the error of a step to that of rule files; running out of memory, in any step, is `Memory`.
 use Rattle.rule_base.specs.declared.read_fault.ReadFault.{ReadFault}
 use Rattle.rule_base.specs.declared.read_fault.ReadFault.TheVariants as read
 use Rattle.m_symbols.specs.declared.fault.DeclareFault.{DeclareFault}

@@ -1,4 +1,4 @@
--- What a reporter holds, and what is true of it.
+-- The invariants of a reporter.
 use Rattle.std.specs.Prelude.{◌≡◌, ℕ, ◌<◌, true, false, List, [], ◌∷◌, length, replicate, slice_index_or, All}
 use Rattle.micro_m.specs.Bases.{is_among, IsValidBase}
 use Rattle.micro_m.specs.Reads.{Reads}
@@ -9,7 +9,7 @@ use Rattle.why_report.specs.declared.plan.Plan.{Plan}
 use Rattle.why_report.specs.declared.room.Room.{Room}
 use Rattle.why_report.specs.inner.Plans.{IsPlanOf}
 
--- Room for the cells of a base in which nothing is marked.
+-- Buffers for the cells of a base, without marks.
 pub record IsRoomFor (cells : ℕ) (room : Room) : Type 0 where
   pub marked : room.marked ≡ replicate cells false
   pub known_size : length room.known.items ≡ cells
@@ -18,7 +18,8 @@ pub record IsRoomFor (cells : ℕ) (room : Room) : Type 0 where
   pub values : length room.values.items ≡ cells
   pub lines : length room.lines.items ≡ cells
 
--- The parts of a reporter fit: the base is valid and ordered, the plan is its, there is room, and the inputs have cells.
+-- The parts of a reporter agree: the base is valid and ordered, the plan is its plan, the buffers
+-- have its size, and the inputs have cells.
 pub record IsReady (ordered : Ordered) (plan : Plan) (room : Room) (input_cells : List ℕ) (inputs cells : ℕ) : Type 0 where
   pub valid : IsValidBase ordered.base
   pub order : IsOrder ordered.base ordered.sequence
@@ -27,7 +28,7 @@ pub record IsReady (ordered : Ordered) (plan : Plan) (room : Room) (input_cells 
   pub each : length input_cells ≡ inputs
   pub within : All (λ c. c < cells) input_cells
 
--- Cells that stand after all that they read, where these stand before them: none stands twice.
+-- No cell occurs twice, and each comes after all that it reads, where those of `front` come first.
 abbrev pub AreFollowing : Base → List ℕ → List ℕ → Type 0
 AreFollowing base front [] = Unit {0}
 AreFollowing base front (x ∷ cells) =

@@ -1,23 +1,24 @@
--- Which cells stand already, and whether all that a term reads does.
+-- Which cells are marked, and whether all that a term reads are. The checked lines have exactly the
+-- marked cells.
 use Rattle.std.specs.Prelude.{◌≡◌, ℕ, zero, suc, ◌+◌, ◌<◌, ◌≤◌, Bool, true, false, ◌&&◌, List, slice_index_or}
 use Rattle.micro_m.specs.Trees.{Tree, lit, cell, pick, apply, chain, Trees, none, more, Steps, end, step}
 use Rattle.micro_m.specs.declared.table.Picked.{Picked}
 use Rattle.micro_m.specs.declared.table.Picked.TheVariants.{Cell, Fixed}
 use Rattle.micro_m.specs.Values.{picked}
 
--- whether a cell stands
+-- whether a cell is marked
 abbrev pub is_set : List Bool → ℕ → Bool
 is_set marks c = slice_index_or marks c false
 
--- each of so many cells from one on stands
+-- each of `size` cells from `first` on is marked
 abbrev pub AllStand : List Bool → ℕ → ℕ → Type 0
 AllStand marks first size = (c : ℕ) → first ≤ c → c < first + size → is_set marks c ≡ true
 
--- from each cell on, so many cells stand
+-- from each cell on, `known` cells are marked
 abbrev pub KnowsStanding : List Bool → List ℕ → Type 0
 KnowsStanding marks known = (first : ℕ) → AllStand marks first (slice_index_or known first 0)
 
--- whether each of so many cells from one on stands
+-- whether each of `size` cells from `first` on is marked
 abbrev pub run_is_marked : List Bool → ℕ → ℕ → Bool
 run_is_marked marks first zero = true
 run_is_marked marks first (suc size) = is_set marks first && run_is_marked marks (suc first) size
@@ -26,13 +27,14 @@ abbrev pub picked_is_marked : List Bool → Picked → Bool
 picked_is_marked marks (Cell c) = is_set marks c
 picked_is_marked marks (Fixed value) = true
 
--- whether all stands that a table read reads of its table: at a literal the one cell that it comes to, if it comes to one
+-- whether all that a table read reads is marked: at a literal index the selected cell, if there is
+-- one
 abbrev pub table_is_marked : List Bool → ℕ → ℕ → Tree → Bool
 table_is_marked marks first size (lit index) = picked_is_marked marks (picked first size index)
 table_is_marked marks first size _ = run_is_marked marks first size
 
 abbrev mutual
-  -- whether all cells stand that a term reads
+  -- whether all cells that a term reads are marked
   pub term_is_marked : List Bool → Tree → Bool
   term_is_marked marks (lit value) = true
   term_is_marked marks (cell c) = is_set marks c

@@ -6,7 +6,7 @@ use Rattle.mpp_parser.specs.inner.Reading.{links_at, operator_of, part_at, inner
 use Rattle.m_lexer.proofs.Chains.{Going}
 use Rattle.mpp_parser.proofs.expression.+read.Given as goal
 
--- how many readers stand above those of brackets
+-- the number of parsers above that of brackets
 abbrev pub rank : Level → ℕ
 rank Product = 4
 rank Sum = 7
