@@ -31,7 +31,7 @@ next_and_behind s fields field (c ∷ rest) =
     ≡ records_next behind (cond b (Some (fields_after act fields field, s2, rest))
     (next_record default_config s2 (fields_after act fields field) (field_after act c field) rest))) [ true ↦ refl | false ↦ more ]
 
--- what a conditional leaves is no longer than what either branch leaves
+-- a conditional leaves no more than its longer branch
 takes_by : (b : Bool) (q p : Read) (o : Option Read) (n : ℕ) → length q.2 ≤ n → (o ≡ Some p → length p.2 ≤ n) → cond b (Some q) o ≡ Some p → length p.2 ≤ n
 takes_by true q p o n l h e = let same : q ≡ p = cc in omega (arith, ap (λ (r : Read). length r.2) same)
 takes_by false q p o n l h e = h e

@@ -36,7 +36,7 @@ value_set pairs pair n k d within l (inr other) =
     ∙ get_or-values_of pairs n k d l
     ∙ sym (cond-false (eqb pair.0 k) (Num pair.1) (value_at pairs k) (ne_eqb pair.0 k (λ e. other (sym e))))
 
--- one more pair at the front gives its input its amount
+-- one more pair, put first, gives its input its amount
 pub values_of-more : (pairs : List (ℕ × ℤ)) (pair : ℕ × ℤ) (n : ℕ) → pair.0 < n → set (values_of pairs n) pair.0 (Num pair.1) ≡ values_of (pair ∷ pairs) n
 values_of-more pairs pair n within =
     let same_length : length (set (values_of pairs n) pair.0 (Num pair.1)) ≡ n = length-set (values_of pairs n) pair.0 (Num pair.1)

@@ -12,7 +12,7 @@ pub enum HouseholdFault {
     BadHeader,
     /// There are more rows than the limit of a household or a table.
     TooManyRows,
-    /// The record has a wrong number of fields. In a table: or its label is empty or has a byte
+    /// The record has a wrong number of fields, or in a table a label that is empty or has a byte
     /// below 32.
     BadRow(u32),
     /// No input has this code.

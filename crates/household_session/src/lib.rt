@@ -7,8 +7,8 @@
 //! the start of a session takes memory.
 //!
 //! A line over 4,096 bytes is rejected whatever its bytes, so the loop holds at most 4,097. Replies
-//! go through a buffer that is flushed after each line. How a loop ended (`Ends`) mentions the
-//! bytes taken even if the contents of the input aren't known.
+//! go through a buffer that is flushed after each line. `Ends`, the effect of the loop, mentions
+//! the bytes read even if the contents of the input aren't known.
 #![tactic(auto)]
 
 mod buffer;

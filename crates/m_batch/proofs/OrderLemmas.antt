@@ -318,7 +318,7 @@ agree_start used outputs ran registers slots many = record {
   given = length-replicate outputs Undef ∙ sym (length-replicate outputs None);
 }
 
--- From any registers and slots of the right sizes, valid code answers what the machine does.
+-- From any registers and slots of the right sizes, valid code has the machine's answer.
 pub ran_is_run : (code : Listing) (parts : Parts) (inputs : List Value) (ran : Ran) → AreParts code parts → length inputs ≡ code.counts.inputs → ran.stop ≡ None
     → length ran.registers ≡ REGISTERS → length ran.slots ≡ length parts.used.now → length ran.outputs ≡ code.counts.outputs
     → ran_answer (ran_from inputs parts.pool.now ran parts.packed.now) ≡ machine_run code inputs

@@ -100,7 +100,7 @@ one_input : (places : Places) (n m : ℕ) → IsPlacing places → n < length pl
 one_input places n m is n_in m_in some same =
     sym (is.back m m_in (subst (λ (k : ℕ). 0 < k) (sym same) some)) ∙ ap (λ (k : ℕ). get_or places.inputs.items k 0) same ∙ is.back n n_in some
 
--- one more pair at the front
+-- one more pair, put first
 filled_more : (places : Places) (row : List Value) (pairs : List (ℕ × ℤ)) (pair : ℕ × ℤ) → IsPlacing places → length row ≡ length places.inputs.items
     → pair.0 < length places.of.items
     → 0 < place_of places pair.0 → IsFilled places row pairs → IsFilled places (set row (place_of places pair.0) (Num pair.1)) (pair ∷ pairs)

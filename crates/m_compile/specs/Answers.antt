@@ -8,7 +8,7 @@ use Rattle.driver_core.specs.declared.program.Core.{Core}
 use Rattle.driver_core.specs.Answers.{answer_of}
 use Rattle.m_compile.specs.Sources.{running}
 
--- the answer, for these values of the inputs, of the given driver over the base, or without a
--- driver of the one that runs the rules once
+-- the answer, for these values of the inputs, of the driver over the base; without a driver, of a
+-- single call of the rules
 abbrev pub answer_to : Declared → Base → Option Core → List ℕ → List Value → Observation
 answer_to declared base written requests inputs = answer_of (running written requests declared) base declared requests inputs

@@ -21,7 +21,7 @@ use Rattle.code_file.specs.Printable.{IsFreeWord, IsPrintableVerif, IsPrintableL
 use Rattle.code_file.specs.Reading.{IsFittingLabel, IsFittingOutput}
 use Rattle.code_file.specs.inner.Spelled.{cut, number, short}
 
--- ---- what is read
+-- ---- results of parsing
 
 -- the result of parsing a line: the element, if it is valid; nothing if the line denotes none that
 -- is
