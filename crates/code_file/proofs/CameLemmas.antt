@@ -1,4 +1,4 @@
--- Lines that came one after the other, and the first that can't.
+-- Sequences of valid lines, and the first line that isn't valid.
 use Rattle.std.proofs.Common.{◌≡◌, ◌≢◌, ◌<◌, ◌≤◌, ◌+◌, ◌==◌, ℕ, suc, Bool, false, true, not, cond, IsTrue, is_some, List, [], ◌∷◌, ◌++◌, length, fold, refl}
 use Rattle.std.proofs.Common.{sym, ap, ◌∙◌, subst, arith, append_assoc, append-nil, length-append}
 use Rattle.std.specs.List.{AllByRecursion}
@@ -24,7 +24,7 @@ use Rattle.code_file.specs.inner.Faces.{IsRightInput, IsRightLabel, IsRightOutpu
 use Rattle.code_file.specs.inner.Came.{Came, face_so_far, face_text, IsRightFace}
 use Rattle.code_file.proofs.FrontLemmas.{lines-push}
 
--- ---- one line more
+-- ---- one more line
 
 due-push : (d : Draft) (es : List Entry) (e : Entry) → AreDue d es → IsEntry e → IsTrue (due e (fold stated d es)) → AreDue d (es ++ e ∷ [])
 due-push d [] e h i t = (i, t, tt)
@@ -179,13 +179,13 @@ came-outputs bytes rest behind slots n m inputs labels done (x ∷ xs) all c e r
     (came-next bytes rest (lines output_line xs ++ behind) (face_so_far slots inputs labels done) n (an_output x) c r.0
     (notes-prefix labels (done ++ x ∷ []) xs (subst (λ l. notes_stand_first labels l ≡ true) parts f)) h) refl r.1 f parts (omega (arith, k))
 
--- after the count of slots
+-- the state after the slot count
 pub came-slots : (bytes rest : List ℕ) (slots : ℕ) → IsShort slots → bytes ≡ face_text slots [] [] [] rest → Came bytes (face_so_far slots [] [] []) 2 rest
 came-slots bytes rest slots short e =
     came-next bytes (slots_line slots ++ rest) rest (stated blank version) 1 (slot_count slots)
     (came-next bytes bytes (slots_line slots ++ rest) blank 0 version (came-none bytes) tt refl e) short refl refl
 
--- after a face
+-- the state after a face
 pub came-face : (bytes rest : List ℕ) (slots n : ℕ) (inputs : List Coded) (labels : List FaceLabel) (outputs : List FaceOutput)
     → IsRightFace slots inputs labels outputs → bytes ≡ face_text slots inputs labels outputs rest → n ≡ length inputs + (length labels + (length outputs + 2))
     → Came bytes (face_so_far slots inputs labels outputs) n rest

@@ -1,4 +1,4 @@
--- What stands before and after a mark.
+-- Splitting at a separator.
 use Rattle.std.proofs.Common.{◌≡◌, ◌≢◌, ◌<◌, ◌≤◌, ◌+◌, ◌==◌, ℕ, Bool, false, true, not, cond, List, [], ◌∷◌, ◌++◌, length, take, drop, get_or, Option, Some}
 use Rattle.std.proofs.Common.{None, refl, sym, ap, ◌∙◌, subst, append_assoc, ◌&&◌}
 use Rattle.std.specs.Option.{option_map}
@@ -8,11 +8,11 @@ use Rattle.std.proofs.lemmas.Bool.{eqb-true, eq-eqb, ne_eqb, and_parts}
 use Rattle.reg_machine.proofs.TableLemmas.{none≢some, some-is}
 use Rattle.code_file.specs.inner.Spelled.{cut, in_front}
 
--- bytes before the first of two parts
+-- bytes put before the first part
 abbrev pub onto : List ℕ → List ℕ × List ℕ → List ℕ × List ℕ
 onto w p = (w ++ p.0, p.1)
 
--- the parts of a text are those from a place on
+-- splitting a text is splitting its suffix from a position on
 abbrev pub CutFrom : ℕ → List ℕ → ℕ → Type 0
 CutFrom mark bytes k = cut mark bytes ≡ option_map (onto (take k bytes)) (cut mark (drop k bytes))
 
@@ -52,9 +52,9 @@ cut-here mark bytes k lt e h =
 pub cut-none : (mark : ℕ) (bytes : List ℕ) (k : ℕ) → length bytes ≤ k → CutFrom mark bytes k → cut mark bytes ≡ None
 cut-none mark bytes k le h = h ∙ ap (λ l. option_map (onto (take k bytes)) (cut mark l)) (drop_all k bytes le)
 
--- ---- where a text is known
+-- ---- known texts
 
--- whether none of these is the mark
+-- whether no byte is the separator
 abbrev pub lacks : ℕ → List ℕ → Bool
 lacks mark bytes = list_all (λ b. not (b == mark)) bytes
 
@@ -62,7 +62,7 @@ pub not-true : (b : Bool) → not b ≡ true → b ≡ false
 not-true true h = sym h
 not-true false h = refl
 
--- a text without the mark, the mark and more is cut there
+-- a text without the separator, then the separator and more, is split there
 pub cut-at : (mark : ℕ) (w r : List ℕ) → lacks mark w ≡ true → cut mark (w ++ mark ∷ r) ≡ Some (w, r)
 cut-at mark [] r h = ap (λ b. cond b (Some ([], r)) (option_map (in_front mark) (cut mark r))) (eq-eqb mark mark refl)
 cut-at mark (b ∷ w) r h =
@@ -70,7 +70,7 @@ cut-at mark (b ∷ w) r h =
     ap (λ t. cond t (Some ([], w ++ mark ∷ r)) (option_map (in_front b) (cut mark (w ++ mark ∷ r)))) (not-true (b == mark) k.0)
     ∙ ap (option_map (in_front b)) (cut-at mark w r k.1)
 
--- a text without the mark isn't cut
+-- a text without the separator isn't split
 pub cut-not : (mark : ℕ) (w : List ℕ) → lacks mark w ≡ true → cut mark w ≡ None
 cut-not mark [] h = refl
 cut-not mark (b ∷ w) h =
@@ -78,7 +78,7 @@ cut-not mark (b ∷ w) h =
     ap (λ t. cond t (Some ([], w)) (option_map (in_front b) (cut mark w))) (not-true (b == mark) k.0)
     ∙ ap (option_map (in_front b)) (cut-not mark w k.1)
 
--- the parts of a text, with the mark between them, are the text
+-- the parts with the separator between them are the text
 pub record Parts (mark : ℕ) (text : List ℕ) (p : List ℕ × List ℕ) : Type 0 where
   pub whole : text ≡ p.0 ++ mark ∷ p.1
   pub free : lacks mark p.0 ≡ true

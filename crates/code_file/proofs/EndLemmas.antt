@@ -1,4 +1,4 @@
--- The instructions of a code file and its end.
+-- The instructions of a code file, and its end.
 use Rattle.std.proofs.Common.{◌≡◌, ◌≢◌, ◌<◌, ◌+◌, ℕ, zero, suc, Bool, false, true, not, cond, is_some, is_none, List, [], ◌∷◌, ◌++◌, length, get_or, codes}
 use Rattle.std.proofs.Common.{Option, Some, None, refl, sym, ap, ◌∙◌, subst, arith, append_assoc, bytes_eq}
 use Rattle.std.specs.List.{AllByRecursion}
@@ -35,7 +35,7 @@ use Rattle.code_file.proofs.CutLemmas.{cut-at, cut-parts}
 use Rattle.code_file.proofs.CameLemmas.{came-next, fault-line, fault-order}
 use Rattle.code_file.proofs.StageLemmas.{other-word, code-ends, other-fault, some-came}
 
--- ---- words that were compared
+-- ---- comparisons of words
 
 pub is-word : (line word : List ℕ) (b : Bool) → b ≡ bytes_eq line word → b ≡ true → line ≡ word
 is-word line word b e h = (bytes_eq-Decides line word).0 (sym e ∙ h)
@@ -64,7 +64,7 @@ fails-by true None w h t = false≢true t
 fails-by true (Some s) w h t = none≢some w h
 fails-by false o w h t = false≢true t
 
--- what is wrong isn't read
+-- after an invalid instruction `reading` fails
 read-fails : (code : Listing) (i : Instr) (s : State) (w : Wrong) → reading code ≡ Some s → wrong_behind code i ≡ Some w
     → is_some (reading (with_instr code i)) ≡ true → ⊥
 read-fails code i s w e h t =
@@ -112,7 +112,7 @@ wrong-by Order bytes rest text behind slots n m face code i c some k e o w q end
     fault-order bytes rest (code_so_far slots face code.instrs) n m c ends (λ p. absurd (omega (arith, p)))
     (i, behind, instr-front rest text behind i e o, instr-is-right text i o, refl, ap (λ l. wrong_behind l i) (sym k.is) ∙ w) q
 
--- an instruction with which something is wrong
+-- an invalid instruction is the first fault
 pub wrong-fault : (bytes rest text behind : List ℕ) (slots n m : ℕ) (face : Face) (code : Listing) (i : Instr) (w : Wrong)
     → Came bytes (code_so_far slots face code.instrs) n rest → IsCodeSoFar slots face code → cut 10 rest ≡ Some (text, behind) → (text ≡ codes "end" → ⊥)
     → instr_of text ≡ Some i → wrong_behind code i ≡ Some w → m ≡ suc n → IsCodeFault bytes (fault_of w m)
@@ -122,7 +122,7 @@ wrong-fault bytes rest text behind slots n m face code i w c k e other o wr q =
     (subst (λ x. is_some (reading (with_instr code x)) ≡ true) (instr-one rest text behind more i j e o r h) t))
     (λ more h t. other-word rest text behind (codes "end") e other refl more h))
 
--- an instruction with which nothing is wrong
+-- a valid instruction is one more valid line
 pub next-came : (bytes rest text behind : List ℕ) (slots n m : ℕ) (face : Face) (code new : Listing) (i : Instr)
     → Came bytes (code_so_far slots face code.instrs) n rest → IsCodeSoFar slots face code → cut 10 rest ≡ Some (text, behind) → instr_of text ≡ Some i
     → wrong_behind code i ≡ None → new ≡ with_instr code i → m ≡ suc n → Came bytes (code_so_far slots face new.instrs) m behind
@@ -172,7 +172,7 @@ whole-ends d rest code_start more h i t = false≢true t
 whole-ends d rest (an_instr x) more h i t = false≢true t
 whole-ends d rest code_end more h i t = false≢true t
 
--- something stands after `end`
+-- bytes after `end` are a fault
 pub behind-fault : (bytes rest behind : List ℕ) (slots n m : ℕ) (face : Face) (code : Listing) → Came bytes (code_so_far slots face code.instrs) n rest
     → IsCodeSoFar slots face code → rest ≡ codes "end\n" ++ behind → code_fault code ≡ None → behind ≢ [] → m ≡ n + 2 → IsCodeFault bytes (BadLine m)
 behind-fault bytes rest behind slots n m face code c k e f other q =
@@ -233,7 +233,7 @@ is-form bytes rest behind slots loaded code is k r all right text e none =
           ∙ (λ j. text_so_far (counts j) loaded.face (instrs j) (codes "end\n"));
     }
 
--- there is no code without slots, inputs, labels and outputs that something is wrong with
+-- code without instructions has no fault
 pub code-begun : (slots : ℕ) (face : Face) (code : Listing) → code ≡ code_with slots face [] → IsCodeSoFar slots face code
 code-begun slots face code e =
     subst (IsCodeSoFar slots face) (sym e) (record { is = refl; state = start (length face.outputs); read = refl })

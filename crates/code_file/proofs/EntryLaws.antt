@@ -1,4 +1,4 @@
--- Lines of a code file, whatever they say: one text begins with one line that may come next.
+-- Lines of a code file of any kind: a text begins with at most one line that may come next.
 use Rattle.std.proofs.Common.{◌≡◌, ◌≢◌, ℕ, suc, Bool, true, false, cond, List, [], ◌∷◌, ◌++◌, length, take, Option, Some, refl, sym, ap, ◌∙◌, subst}
 use Rattle.std.proofs.Common.{append_assoc}
 use Rattle.std.specs.Prelude.{codes, decimal, fold, ◌==◌}
@@ -43,7 +43,7 @@ kind_of line =
     (cond (bytes_eq (take 4 line) (codes "outp")) of_output (cond (bytes_eq (take 2 line) (codes "no")) of_output
     (cond (bytes_eq (take 3 line) (codes "cod")) of_start (cond (bytes_eq (take 2 line) (codes "en")) of_end of_instr)))))))
 
--- what a line of a kind spells, without its line feed
+-- the entry of a line of this kind, without its line feed
 abbrev entry_by : Kind → List ℕ → Option Entry
 entry_by of_version body = Some version
 entry_by of_slots body = option_map slot_count (slots_of body)
@@ -78,7 +78,7 @@ instr-kind (Check g c false label) = refl
 instr-kind (Check g c true label) = refl
 instr-kind (Output k r) = refl
 
--- ---- each right line spells one thing
+-- ---- each well-formed line has one entry
 
 by-kind : {X : Type 0} (line : X → List ℕ) (of : List ℕ → Option X) (made : X → Entry) (kind : Kind) (x : X) → Spells line of x → kind_of (line x) ≡ kind
     → entry_line (made x) ≡ line x
@@ -106,7 +106,7 @@ entry-spells code_start h = record { body = codes "code"; text = refl; free = re
 entry-spells (an_instr i) h = by-kind instr_line instr_of an_instr of_instr i (instr-spelling.complete i h) (instr-kind i) refl (λ body. refl)
 entry-spells code_end h = record { body = codes "end"; text = refl; free = refl; reads = refl }
 
--- ---- one text begins with one line
+-- ---- a text begins with at most one line
 
 one-front : (text behind other : List ℕ) (x y : Entry) → IsEntry x → IsEntry y → text ≡ entry_line x ++ behind → text ≡ entry_line y ++ other
     → (x ≡ y) × (behind ≡ other)
@@ -120,7 +120,7 @@ one-front text behind other x y h k e f =
 pub never-empty : (d : Draft) → Ends d []
 never-empty d entry behind e h due = none≢some _ (cut-line entry_line entry_of entry (entry-spells entry h) [] behind e)
 
--- two lists of lines that may come, after which no line may, are one
+-- two maximal lists of valid entries of one text are equal
 pub same-stops : (d : Draft) (es fs : List Entry) (rest left : List ℕ) → lines entry_line es ++ rest ≡ lines entry_line fs ++ left → AreDue d es → AreDue d fs
     → Ends (fold stated d es) rest → Ends (fold stated d fs) left
     → (es ≡ fs) × (rest ≡ left)
@@ -139,7 +139,7 @@ same-stops d (x ∷ es) (f ∷ fs) rest left e a b s t =
 one-stop : (bytes : List ℕ) (es fs : List Entry) (rest left : List ℕ) → Stops bytes es rest → Stops bytes fs left → (es ≡ fs) × (rest ≡ left)
 one-stop bytes es fs rest left s t = same-stops blank es fs rest left (sym s.text ∙ t.text) s.due t.due s.ends t.ends
 
--- where a fault is told the lines stop
+-- the lines before a fault are maximal
 pub fault-stops : (bytes : List ℕ) (fault : CodeFault) → IsCodeFault bytes fault → (es : List Entry) × (rest : List ℕ) × Stops bytes es rest
 fault-stops bytes BadHeader f = ([], bytes, f)
 fault-stops bytes (BadLine n) f = (f.0, f.1, f.2)
@@ -152,7 +152,7 @@ unwritten-moved : (es fs : List Entry) (rest left : List ℕ) → es ≡ fs → 
 unwritten-moved es fs rest left e r h =
     subst (λ (x : List ℕ). ReadsUnwritten (draft_of es) x) (sym r) (subst (λ (x : List Entry). ReadsUnwritten (draft_of x) left) (sym e) h)
 
--- nothing is read before the first line
+-- before the first line no instruction is read
 no-start : (fs : List Entry) (left : List ℕ) → [] ≡ fs → ReadsUnwritten (draft_of fs) left → ⊥
 no-start fs left e h = let p : 0 ≡ 3 = ap {A = List Entry} {B = ℕ} (λ l. (draft_of l).part) e ∙ h.4 in cc p
 

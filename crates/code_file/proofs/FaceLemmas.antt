@@ -1,4 +1,4 @@
--- How the lines of a face are spelled.
+-- The lines of a face and their parser.
 use Rattle.std.proofs.Common.{◌≡◌, inl, inr, ◌+◌, ◌/◌, ◌%◌, ◌==◌, ◌&&◌, ltb, ℕ, Bool, false, true, not, cond, List, [], ◌∷◌, ◌++◌, Option, Some, None, codes}
 use Rattle.std.proofs.Common.{decimal, refl, sym, ap, ◌∙◌, subst, arith, append_assoc}
 use Rattle.std.specs.List.{AllByRecursion}
@@ -35,7 +35,7 @@ use Rattle.code_file.proofs.InstrLemmas.{onto-last, short-sound, instr-sound}
 use Rattle.code_file.proofs.InstrCompletes.{lacks-append, short-is, short-lacks, feed, instr-complete}
 use Rattle.code_file.proofs.FrontLemmas.{Spells, IsSpelling}
 
--- a thing that is there under a test
+-- a conditional option that is there has its condition true
 tested : {X : Type 0} (t : Bool) (o : Option X) (x : X) → cond t o None ≡ Some x → (t ≡ true) × (o ≡ Some x)
 tested true o x h = (refl, h)
 tested false o x h = absurd (none≢some x h)
@@ -92,7 +92,7 @@ input-sound body x h r =
     coded-sound p.0.1 x (cut 32 p.0.1) refl t.1
     ∙ ap (λ w. (w ++ 32 ∷ p.0.1) ++ 10 ∷ []) (sym (word-is p.0.0 (codes "input") t.0)) ∙ ap (λ l. l ++ 10 ∷ []) (sym (cut-parts 32 body p.0 p.1).whole)
 
--- an input with a word after its code
+-- an input with a type
 typed : (code word : List ℕ) (kind : InputType) → lacks 32 code ≡ true → lacks 10 code ≡ true → lacks 10 word ≡ true → kind_named word ≡ Some kind
     → input_line (coded code kind) ≡ codes "input" ++ 32 ∷ (code ++ 32 ∷ (word ++ 10 ∷ [])) → Spells input_line input_of (coded code kind)
 typed code word kind a b c k e = record {
@@ -145,11 +145,11 @@ kind-is Anomalie = refl
 kind-is Discordance = refl
 kind-is Informative = refl
 
--- the words of a label
+-- the fields of a label, with spaces between them
 abbrev pub Four : List ℕ → List ℕ → List ℕ → List ℕ → List ℕ
 Four a b c d = a ++ 32 ∷ (b ++ 32 ∷ (c ++ 32 ∷ d))
 
--- its line by its words
+-- its line by its fields
 front-end : (a b c t : List ℕ) → (a ++ 32 ∷ (b ++ 32 ∷ (c ++ 32 ∷ []))) ++ t ≡ a ++ 32 ∷ (b ++ 32 ∷ (c ++ 32 ∷ t))
 front-end a b c t =
     append_assoc a (32 ∷ (b ++ 32 ∷ (c ++ 32 ∷ []))) t
@@ -165,7 +165,7 @@ verif-line label =
     (front-end label.verif label.error (kind_word label.kind) (hex_of label.text ++ 10 ∷ [])
     ∙ sym (four-end label.verif label.error (kind_word label.kind) (hex_of label.text)))
 
--- what its words are
+-- what parsing its fields means for the text
 verif-words-sound : (text : List ℕ) (w : VerifWords) → verif_words text ≡ Some w → text ≡ Four w.number w.error (kind_word w.kind) w.hex
 verif-words-sound text w h =
     let p = then-some (λ p. option_and_then (λ q. option_and_then (words_by p.0 q.0) (cut 32 q.1)) (cut 32 p.1)) (cut 32 text) w h in

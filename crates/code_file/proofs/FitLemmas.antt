@@ -1,4 +1,4 @@
--- The numbers of code fit: those that were read, and registers where nothing is wrong.
+-- The numbers of code are in range: by their types, and registers by validity.
 use Rattle.std.proofs.Common.{◌≡◌, ◌<◌, ◌≤◌, ◌+◌, ℕ, suc, Bool, true, false, List, [], ◌∷◌, length, get_or, drop, Option, Some, None, refl, sym, subst}
 use Rattle.std.specs.Prelude.{if◌then◌else◌}
 use Rattle.std.specs.List.{AllByRecursion}
@@ -15,18 +15,18 @@ use Rattle.code_file.specs.inner.Read.{IsReadInstr}
 
 -- ---- a loop over a list
 
--- where all are so if those from a place on are, and this one is, all are if those after it are
+-- from "those from k + 1 on imply all" to "those from k on imply all"
 pub all-next : {X : Type 0} (P : X → Type 0) (xs : List X) (k : ℕ) (x d : X) → k < length xs → x ≡ get_or xs k d → P x
     → (AllByRecursion P (drop k xs) → AllByRecursion P xs) → AllByRecursion P (drop (k + 1) xs) → AllByRecursion P xs
 all-next P xs k x d lt is p before behind = before (subst (AllByRecursion P) (sym (drop_more xs k d lt)) (subst P is p, behind))
 
--- at the end all are
+-- past the end nothing is missing
 pub all-done : {X : Type 0} (P : X → Type 0) (xs : List X) (k : ℕ) → length xs ≤ k → (AllByRecursion P (drop k xs) → AllByRecursion P xs) → AllByRecursion P xs
 all-done P xs k le before = before (subst (AllByRecursion P) (sym (drop_all k xs le)) tt)
 
 -- ---- instructions
 
--- an instruction that was read, and whose numbers can stand where it stands
+-- an instruction with numbers in range, in valid code
 right-instr : (n : Counts) (s : State) (i : Instr) → has_numbers n s i ≡ true → IsReadInstr i → IsInstr i
 right-instr n s (Take r k) h f = (ltb-true r REGISTERS (and_parts _ _ h).0, f)
 right-instr n s (Lit r v) h f = (ltb-true r REGISTERS h, f)
@@ -56,6 +56,6 @@ right-from n s k (i ∷ instrs) e f = by (λ t e. right-from n t (suc k) instrs 
     by rest true h None e = absurd (cc e)
     by rest false h next e = absurd (cc e)
 
--- all instructions of code with which nothing is wrong
+-- all instructions of valid code
 pub right-instrs : (code : Listing) → code_fault code ≡ None → AllByRecursion IsReadInstr code.instrs → AllByRecursion IsInstr code.instrs
 right-instrs code right read = right-from code.counts (start code.counts.outputs) 0 code.instrs right read

@@ -1,4 +1,4 @@
--- A text is the form of one loaded code, and then has no fault.
+-- A text is the form of at most one loaded code, and then has no fault.
 use Rattle.std.proofs.Common.{◌≡◌, ◌≢◌, ◌<◌, ℕ, suc, Bool, true, false, not, List, [], ◌∷◌, ◌++◌, length, map, Option, Some, None, refl, sym, ap, ◌∙◌, subst}
 use Rattle.std.proofs.Common.{append_assoc, arith}
 use Rattle.std.specs.Prelude.{codes, fold, is_some, is_none, slice_index_or, if◌then◌else◌}
@@ -39,7 +39,7 @@ entries_of loaded =
     version ∷ slot_count loaded.code.counts.slots ∷ (map an_input loaded.face.inputs ++ (map a_label loaded.face.labels ++ (map an_output loaded.face.outputs
     ++ (code_start ∷ (map an_instr loaded.code.instrs ++ code_end ∷ [])))))
 
--- the lines of things, and of others after them
+-- lines of elements of one kind, followed by others
 lines-made : {X : Type 0} (line : X → List ℕ) (made : X → Entry) → ((x : X) → entry_line (made x) ≡ line x)
     → (xs : List X) (behind : List Entry) (text : List ℕ) → lines entry_line behind ≡ text
     → lines entry_line (map made xs ++ behind) ≡ lines line xs ++ text
@@ -56,7 +56,7 @@ form-text loaded =
     let inputs = lines-made input_line an_input (λ x. refl) loaded.face.inputs _ _ labels in
     ap (λ t. codes "mcode 1\n" ++ (slots_line loaded.code.counts.slots ++ t)) inputs
 
--- ---- what they say
+-- ---- the state after them
 
 abbrev draft : ℕ → ℕ → List Coded → List FaceLabel → List FaceOutput → List Instr → Draft
 draft part slots inputs labels outputs instrs = record { part = part; slots = slots; inputs = inputs; labels = labels; outputs = outputs; instrs = instrs }
@@ -93,7 +93,7 @@ all-stated loaded =
     (code_start ∷ (map an_instr loaded.code.instrs ++ code_end ∷ []))
     ∙ stated-instrs loaded.code.counts.slots loaded.face.inputs loaded.face.labels loaded.face.outputs [] loaded.code.instrs (code_end ∷ [])
 
--- ---- codes that differ
+-- ---- codes are different
 
 has-index : (n : List ℕ) (ns : List (List ℕ)) → has n ns ≡ true → (j : ℕ) × (j < length ns) × (slice_index_or ns j [] ≡ n)
 has-index n [] h = cc
@@ -111,7 +111,7 @@ is-not : (b : Bool) → (b ≡ true → ⊥) → not b ≡ true
 is-not true h = absurd (h refl)
 is-not false h = refl
 
--- a name that stands at no other place is not among the others
+-- a name different from all others is not among them
 first-apart : (n : List ℕ) (ns : List (List ℕ)) → AreApart (n ∷ ns) → has n ns ≡ true → ⊥
 first-apart n ns apart h =
     let r = has-index n ns h in
@@ -174,7 +174,7 @@ due-outputs s i l o (x ∷ xs) behind p f first h =
     let last : AreDue (draft 2 s i l ((o ++ x ∷ []) ++ xs) []) behind = subst (λ (z : List FaceOutput). AreDue (draft 2 s i l z []) behind) (sym same) h in
     ((p.0, f.0), notes-front l (o ++ x ∷ []) xs all, due-outputs s i l (o ++ x ∷ []) xs behind p.1 f.1 all last)
 
--- ---- instructions with which nothing is wrong
+-- ---- valid instructions
 
 read-from : (n : Counts) (s : State) (k : ℕ) (instrs : List Instr) → fault_from n s k instrs ≡ None
     → is_some (fold (λ s i. option_and_then (step n i) s) (Some s) instrs) ≡ true
@@ -210,7 +210,7 @@ due-instrs s i l o c (x ∷ xs) behind right read h =
 
 -- ---- the whole
 
--- the counts of loaded code are those of its face
+-- loaded code has the counts of its face
 listing-is : (loaded : Loaded) → loaded.code ≡ code_of (length loaded.face.inputs) loaded.code.counts.slots (length loaded.face.labels)
     (length loaded.face.outputs) loaded.code.instrs
 listing-is loaded =
@@ -254,7 +254,7 @@ no-fault-of-form bytes loaded fault form is =
     f.2.due (form-due bytes loaded form) f.2.ends (never-empty (draft_of (entries_of loaded))) in
     f.2.open_end (ap {A = List Entry} {B = ℕ} (λ l. (draft_of l).part) same.0 ∙ ap {A = Draft} {B = ℕ} (λ d. d.part) (all-stated loaded)) same.1
 
--- A text is the form of one code with one face.
+-- A text is the form of at most one loaded code.
 pub one-form : (bytes : List ℕ) (one other : Loaded) → IsFormOf bytes one → IsFormOf bytes other
     → (one.code ≡ other.code) × (one.face.inputs ≡ other.face.inputs) × (one.face.labels ≡ other.face.labels) × (one.face.outputs ≡ other.face.outputs)
 one-form bytes one other a b =

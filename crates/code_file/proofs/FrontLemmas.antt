@@ -1,4 +1,4 @@
--- Lines at the start of a text.
+-- The first line of a text.
 use Rattle.std.proofs.Common.{◌≡◌, ◌<◌, ℕ, true, List, [], ◌∷◌, ◌++◌, length, Option, Some, None, refl, sym, ap, ◌∙◌, arith, append_assoc, append-nil}
 use Rattle.std.proofs.Common.{length-append}
 use Rattle.std.specs.List.{AllByRecursion}
@@ -8,42 +8,42 @@ use Rattle.code_file.specs.inner.Spelled.{cut}
 use Rattle.code_file.specs.inner.Faces.{IsRead, IsNoFront, IsFront}
 use Rattle.code_file.proofs.CutLemmas.{lacks, cut-at, cut-parts}
 
--- a line, without its line feed, that spells one thing
+-- a line, without its line feed, that is parsed as x
 pub record Spells {X : Type 0} (line : X → List ℕ) (of : List ℕ → Option X) (x : X) : Type 0 where
   pub body : List ℕ
   pub text : line x ≡ body ++ 10 ∷ []
   pub free : lacks 10 body ≡ true
   pub reads : of body ≡ Some x
 
--- how things are spelled: what is read is written so, and what is right is read so
+-- printer and parser agree: what is parsed is printed so, and each valid element is parsed back
 pub record IsSpelling {X : Type 0} (line : X → List ℕ) (of : List ℕ → Option X) (Is : X → Type 0) : Type 0 where
   pub sound : (body : List ℕ) (x : X) → of body ≡ Some x → Is x → line x ≡ body ++ 10 ∷ []
   pub complete : (x : X) → Is x → Spells line of x
 
--- a line with something after it is cut at its end
+-- a line followed by more is split at its end
 pub cut-line : {X : Type 0} (line : X → List ℕ) (of : List ℕ → Option X) (x : X) (s : Spells line of x) (text behind : List ℕ) → text ≡ line x ++ behind
     → cut 10 text ≡ Some (s.body, behind)
 cut-line line of x s text behind e =
     ap (cut 10) (e ∙ ap (λ l. l ++ behind) s.text ∙ append_assoc s.body (10 ∷ []) behind) ∙ cut-at 10 s.body behind s.free
 
 module _ {X : Type 0} (line : X → List ℕ) (of : List ℕ → Option X) (Is : X → Type 0) (spelling : IsSpelling line of Is) where
-  -- a text without a line feed begins with no line
+  -- a text without a line feed doesn't begin with a line
   pub no-line : (text : List ℕ) → cut 10 text ≡ None → IsNoFront line Is text
   no-line text e x behind r h = none≢some _ (sym e ∙ cut-line line of x (spelling.complete x r) text behind h)
 
-  -- a first line that spells nothing right
+  -- the first line is of no valid element
   pub no-front : (text first behind : List ℕ) → cut 10 text ≡ Some (first, behind) → IsRead of Is first None → IsNoFront line Is text
   no-front text first behind e other x more r h =
       let s = spelling.complete x r in
       let same = some-is _ _ (sym e ∙ cut-line line of x s text more h) in
       other x (ap of (ap (λ p. p.0) same) ∙ s.reads) r
 
-  -- a first line that spells something right
+  -- the first line is of a valid element
   pub front-is : (text first behind : List ℕ) (x : X) → cut 10 text ≡ Some (first, behind) → IsRead of Is first (Some x) → IsFront line Is text x behind
   front-is text first behind x e r =
       ((cut-parts 10 text (first, behind) e).whole ∙ sym (ap (λ l. l ++ behind) (spelling.sound first x r.0 r.1) ∙ append_assoc first (10 ∷ []) behind), r.1)
 
-  -- a line isn't empty
+  -- a line isn't empty, so the rest is shorter
   pub front-shorter : (text behind : List ℕ) (x : X) → IsFront line Is text x behind → length behind < length text
   front-shorter text behind x f =
       let s = spelling.complete x f.1 in

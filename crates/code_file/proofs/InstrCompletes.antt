@@ -1,4 +1,4 @@
--- Each instruction is spelled by its line.
+-- Each instruction is parsed from its line.
 use Rattle.std.proofs.Common.{◌≡◌, ◌<◌, ◌≤◌, ◌^◌, ◌==◌, ℕ, suc, ℤ, pos, negsuc, Bool, false, true, not, cond, IsTrue, List, [], ◌∷◌, ◌++◌, Some, codes, decimal}
 use Rattle.std.proofs.Common.{refl, sym, ap, ◌∙◌, subst, arith}
 use Rattle.std.specs.Str.{bytes_eq}
@@ -27,7 +27,7 @@ use Rattle.code_file.proofs.NumberLemmas.{number-complete, decimal-lacks}
 use Rattle.code_file.proofs.OpLemmas.{op-known}
 use Rattle.code_file.proofs.InstrLemmas.{onto-last, line-two, literal_word, literal-line, Spaced, written, args, reps, do-text}
 
--- the line of an instruction, without its line feed, spells it
+-- the line of an instruction, without its line feed, is parsed as it
 pub record Complete (i : Instr) : Type 0 where
   pub line : List ℕ
   pub text : instr_line i ≡ line ++ 10 ∷ []
@@ -37,7 +37,7 @@ pub record Complete (i : Instr) : Type 0 where
 pub lacks-append : (mark : ℕ) (x y : List ℕ) → lacks mark x ≡ true → lacks mark y ≡ true → lacks mark (x ++ y) ≡ true
 lacks-append mark x y a b = list_all-append (λ c. not (c == mark)) x y ∙ and_from (lacks mark x) (lacks mark y) a b
 
--- a line of words
+-- a line of three words
 words-two : (w x y : List ℕ) → lacks 32 w ≡ true → lacks 32 x ≡ true → instr_of (Spaced w x y) ≡ instr_by w (x, y)
 words-two w x y a b =
     ap (option_and_then (λ p. option_and_then (instr_by p.0) (cut 32 p.1))) (cut-at 32 w (x ++ 32 ∷ y) a)
@@ -64,7 +64,7 @@ register-is r small = number-complete 16 r small (omega arith)
 pub short-is : (n : ℕ) → IsShort n → short (decimal n) ≡ Some n
 short-is n small = number-complete 4_294_967_296 n small (omega arith)
 
--- a literal's word is its own
+-- a text without this byte differs from a word that has it
 word-other : (mark : ℕ) (text word : List ℕ) → lacks mark text ≡ true → lacks mark word ≡ false → bytes_eq text word ≡ false
 word-other mark text word a b = false_from_ne_true (bytes_eq text word) (λ e. true≢false (sym a ∙ ap (lacks mark) ((bytes_eq-Decides text word).0 e) ∙ b))
 

@@ -1,4 +1,4 @@
--- Instructions and the lines that spell them.
+-- Instructions and the lines they are parsed from.
 use Rattle.std.proofs.Common.{◌≡◌, ◌<◌, ◌≤◌, ◌^◌, ◌==◌, ◌&&◌, ◌||◌, ℕ, zero, suc, ℤ, pos, negsuc, Bool, false, true, cond, nat_le, List, [], ◌∷◌, ◌++◌, Option}
 use Rattle.std.proofs.Common.{Some, None, codes, decimal, refl, sym, ap, ◌∙◌, subst, arith, append_assoc}
 use Rattle.std.specs.Fmt.{signed_decimal}
@@ -28,7 +28,7 @@ use Rattle.code_file.proofs.OpLemmas.{op-found}
 
 -- ---- lines of words
 
--- the end of a line stands after its last word
+-- the line feed is after the last word
 pub onto-last : (x t : List ℕ) → (x ++ 32 ∷ t) ++ 10 ∷ [] ≡ x ++ 32 ∷ (t ++ 10 ∷ [])
 onto-last x t = append_assoc x (32 ∷ t) (10 ∷ [])
 
@@ -46,9 +46,9 @@ pub line-five : (w x y z u v : List ℕ) → (w ++ 32 ∷ (x ++ 32 ∷ (y ++ 32 
     ++ 32 ∷ (x ++ 32 ∷ (y ++ 32 ∷ (z ++ 32 ∷ (u ++ 32 ∷ (v ++ 10 ∷ [])))))
 line-five w x y z u v = onto-last w (x ++ 32 ∷ (y ++ 32 ∷ (z ++ 32 ∷ (u ++ 32 ∷ v)))) ∙ ap (λ t. w ++ 32 ∷ t) (line-four x y z u v)
 
--- ---- what a line spells is written as that line
+-- ---- a line that is parsed is the line of its instruction
 
--- what is made of a line, and what is written of it
+-- an instruction parsed from a line has that line, with its line feed
 pub record Sound (i : Instr) (line : List ℕ) : Type 0 where
   pub right : IsInstr i
   pub text : instr_line i ≡ line ++ 10 ∷ []
@@ -65,7 +65,7 @@ short-sound text n h = number-sound 4_294_967_296 n text (omega arith) (omega ar
 pub most-sound : (text : List ℕ) (n : ℕ) → number (suc most) text ≡ Some n → (text ≡ decimal n) × (n < suc most)
 most-sound text n h = number-sound (suc most) n text (omega arith) (omega arith) h
 
--- how a literal is written
+-- the word of a literal
 abbrev pub literal_word : Value → List ℕ
 literal_word Undef = codes "undef"
 literal_word (Num z) = signed_decimal z
@@ -114,7 +114,7 @@ literal-line r Undef = refl
 literal-line r (Num z) = refl
 literal-line r Over = refl
 
--- an instruction with two things after its word
+-- three words with spaces between them
 abbrev pub Spaced : List ℕ → List ℕ → List ℕ → List ℕ
 Spaced w x y = w ++ 32 ∷ (x ++ 32 ∷ y)
 
@@ -217,18 +217,18 @@ plain-sound w x y i h = plain-by w x y i (bytes_eq w (codes "in")) (bytes_eq w (
 abbrev pub Done : ℕ → Op → List ℕ → List ℕ
 Done r op args = codes "do" ++ 32 ∷ (decimal r ++ 32 ∷ (op_word op ++ 32 ∷ args))
 
--- how arguments are written, by tests on the arity: is it one, and is it two
+-- how arguments are printed; the tests are whether the arity is one, and whether it is two
 abbrev pub written : Bool → Bool → ℕ → ℕ → ℕ → List ℕ
 written s t a b c = cond s (decimal a) (cond t (decimal a ++ 32 ∷ decimal b) (decimal a ++ 32 ∷ (decimal b ++ 32 ∷ decimal c)))
 
--- how arguments are read
+-- how arguments are parsed
 abbrev pub args : Bool → Bool → Op → ℕ → List ℕ → Option Instr
 args s t op r text =
     cond s (option_map (λ a. Do op r a a a) (register text))
     (option_and_then (λ p. cond t (both (λ a b. Do op r a b a) (register p.0) (register p.1))
     (option_and_then (λ q. all_three (Do op r) (register p.0) (register q.0) (register q.1)) (cut 32 p.1))) (cut 32 text))
 
--- arguments past an arity are the first
+-- arguments past the arity repeat the first
 abbrev pub reps : ℕ → ℕ → ℕ → ℕ → Bool
 reps n a b c = (nat_le 2 n || (b == a)) && (nat_le 3 n || (c == a))
 
@@ -275,7 +275,7 @@ three-args Min e f = absurd (true≢false f)
 three-args At e f = absurd (true≢false f)
 three-args Choose e f = refl
 
--- arguments that were read, and how they are written
+-- parsed arguments are printed as the text
 pub record Arguments (op : Op) (n r : ℕ) (s t : Bool) (text : List ℕ) (i : Instr) : Type 0 where
   pub a : ℕ
   pub b : ℕ
@@ -364,7 +364,7 @@ pub instr-by-sound : (w : List ℕ) (q : List ℕ × List ℕ) (i : Instr) (t : 
 instr-by-sound w q i true e h = subst (λ v. Sound i (Spaced v q.0 q.1)) (sym ((bytes_eq-Decides w (codes "do")).0 e)) (operation-sound q.0 q.1 i h)
 instr-by-sound w q i false e h = plain-sound w q.0 q.1 i h
 
--- the instruction that a line spells is written as that line
+-- the instruction of a line has this line
 pub instr-sound : (line : List ℕ) (i : Instr) → instr_of line ≡ Some i → Sound i line
 instr-sound line i h =
     let p = then-some (λ p. option_and_then (instr_by p.0) (cut 32 p.1)) (cut 32 line) i h in

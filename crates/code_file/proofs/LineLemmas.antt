@@ -1,19 +1,19 @@
--- Lines of things, from one of them on.
+-- Lines of a list, from a position on.
 use Rattle.std.specs.Prelude.{◌/◌, ◌%◌}
 use Rattle.std.proofs.Common.{◌≡◌, ℕ, ◌+◌, ◌<◌, ◌≤◌, length, get_or, drop, List, [], ◌∷◌, ◌++◌, ap, sym, ◌∙◌}
 use Rattle.std.proofs.lemmas.List.{drop_more, drop_all}
 use Rattle.code_file.specs.Text.{lines, hex_of, hex_digit}
 
--- they begin with the line of the one that stands there
+-- they begin with the line of the element at that position
 pub lines-at : {X : Type 0} (line : X → List ℕ) (xs : List X) (k : ℕ) (x d : X) → k < length xs → x ≡ get_or xs k d
     → lines line (drop k xs) ≡ line x ++ lines line (drop (k + 1) xs)
 lines-at line xs k x d lt is = ap (lines line) (drop_more xs k d lt) ∙ ap (λ y. line y ++ lines line (drop (k + 1) xs)) (sym is)
 
--- after the last there is nothing
+-- past the end there is none
 pub lines-end : {X : Type 0} (line : X → List ℕ) (xs : List X) (k : ℕ) → length xs ≤ k → lines line (drop k xs) ≡ []
 lines-end line xs k le = ap (lines line) (drop_all k xs le)
 
--- the same of bytes in hexadecimal digits
+-- the digits of bytes from a position on begin with those of the byte there
 pub hex-at : (bytes : List ℕ) (k : ℕ) → k < length bytes → hex_of (drop k bytes) ≡ (hex_digit (get_or bytes k 0 / 16) ∷ hex_digit (get_or bytes k 0 % 16) ∷ [])
     ++ hex_of (drop (k + 1) bytes)
 hex-at bytes k lt = ap hex_of (drop_more bytes k 0 lt)

@@ -1,4 +1,4 @@
--- Words of code files, and tests of them.
+-- Words of code files, and their tests.
 use Rattle.std.proofs.Common.{◌≡◌, ◌≢◌, inl, inr, ◌<◌, ◌≤◌, ◌==◌, ◌&&◌, ℕ, Bool, false, true, not, cond, nat_le, nat_lt, is_some, List, [], ◌∷◌, ◌++◌, length}
 use Rattle.std.proofs.Common.{Option, Some, None, decimal, refl, sym, ap, ◌∙◌, subst, arith, leb, ltb}
 use Rattle.std.specs.List.{list_all, AllByRecursion}
@@ -76,9 +76,9 @@ no-small-is (b ∷ bs) h =
     ])
     (no-small-is bs h.1)
 
--- ---- what words lack
+-- ---- bytes that words don't have
 
--- no byte of a word
+-- a byte that occurs in no word
 abbrev pub IsApart : ℕ → Type 0
 IsApart mark = IsWordByte mark → ⊥
 
@@ -112,7 +112,7 @@ closing a b = omega arith
 
 -- ---- cells of tables
 
--- what stands after `[` in the name of a table's cell
+-- the part after `[` in the name of a table's cell
 abbrev pub Index : List ℕ → ℕ → Type 0
 Index text k = (k < 1024) × (text ≡ decimal k ++ 93 ∷ [])
 
@@ -140,11 +140,11 @@ index-is k small =
     ap index_by (cut-at 93 (decimal k) [] (decimal-lacks 93 k closing (omega arith)))
     ∙ ap is_some (number-complete 1024 k small (omega arith))
 
--- the name and the index of a table's cell
+-- splitting the name of a table's cell
 pub cell-cut : (text name : List ℕ) (k : ℕ) → IsPlainName name → text ≡ name ++ 91 ∷ (decimal k ++ 93 ∷ []) → cut 91 text ≡ Some (name, decimal k ++ 93 ∷ [])
 cell-cut text name k h e = ap (cut 91) e ∙ cut-at 91 name (decimal k ++ 93 ∷ []) (word-lacks 91 name bracket-apart h.0.0.0)
 
--- a cell's name that is no name alone
+-- a cell's name with an index
 abbrev pub Tabled : List ℕ → Type 0
 Tabled t = (name : List ℕ) × (k : ℕ) × IsPlainName name × (k < 1024) × (t ≡ name ++ 91 ∷ (decimal k ++ 93 ∷ []))
 

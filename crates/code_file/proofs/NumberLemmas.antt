@@ -1,4 +1,4 @@
--- Numbers that digits spell.
+-- Decimal numbers.
 use Rattle.std.proofs.Common.{◌≡◌, ◌<◌, ◌≤◌, ◌+◌, ◌-◌, ◌*◌, ◌^◌, ◌==◌, ◌&&◌, ℕ, zero, suc, Bool, false, true, not, cond, nat_lt, leb, decimal, List, [], ◌∷◌}
 use Rattle.std.proofs.Common.{length, drop, get_or, Some, None, refl, sym, ap, ◌∙◌, subst, arith}
 use Rattle.std.proofs.lemmas.List.{drop_more, drop_all}
@@ -38,7 +38,7 @@ digits-great below n text k lt great =
 pub digits-end : (below n : ℕ) (text : List ℕ) (k : ℕ) → length text ≤ k → number_after below n (drop k text) ≡ Some n
 digits-end below n text k le = ap (number_after below n) (drop_all k text le)
 
--- ---- what is read is what is written
+-- ---- parsing and printing
 
 digit-range : (b : ℕ) → is_digit b ≡ true → IsInRange 48 57 b
 digit-range b e = let k = and_parts (leb 48 b) (leb b 57) e in (leb-true 48 b k.0, leb-true b 57 k.1)
@@ -76,7 +76,7 @@ number-by below n b bs z false ez el some few h = number-found below n b bs some
     (sym (ap (λ t. cond t None (number_after below 0 (b ∷ bs))) (and_right z false refl)) ∙ h)
 number-by below n b bs false true ez el some few h = number-found below n b bs some few (λ e. absurd (eqb-false b 48 ez e)) h
 
--- what spells a number is how it is written
+-- a text that is parsed as a number is the decimal of that number
 pub number-sound : (below n : ℕ) (text : List ℕ) → 0 < below → below ≤ 2 ^ 64 → number below text ≡ Some n → (text ≡ decimal n) × (n < below)
 number-sound below n [] some few h = absurd (none≢some n h)
 number-sound below n (b ∷ bs) some few h = number-by below n b bs (b == 48) (nat_lt 0 (length bs)) refl refl some few h
@@ -113,14 +113,14 @@ lead-of : (n : ℕ) → n < 2 ^ 64 → get_or (decimal n) 0 0 ≡ 48 → length 
 lead-of zero small e = ap length (decimal_digit 0 (omega arith))
 lead-of (suc n) small e = absurd (omega (arith, e, first_decimal (suc n) (omega arith) small))
 
--- how a number is written spells it
+-- the decimal of a number is parsed as it
 pub number-complete : (below n : ℕ) → n < below → below ≤ 2 ^ 64 → number below (decimal n) ≡ Some n
 number-complete below n small few =
     let fits : n < 2 ^ 64 = omega arith in
     let k = decimal_is_IsNumeral n fits in
     number-of below n (decimal n) k.0 k.1 small (lead-of n fits)
 
--- ---- what no number has
+-- ---- bytes that numbers don't have
 
 -- a byte that is no digit
 abbrev pub IsNoDigit : ℕ → Type 0

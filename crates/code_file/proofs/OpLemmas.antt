@@ -15,7 +15,7 @@ pub op-next : (ops : List Op) (word : List ℕ) (k : ℕ) (d : Op) → k < lengt
 op-next ops word k d lt e =
     ap (λ l. op_among l word) (drop_more ops k d lt) ∙ ap (λ b. cond b (Some (get_or ops k d)) (op_among (drop (k + 1) ops) word)) e
 
--- what is found has the word
+-- the operator that is found has the word
 found-by : (op op' : Op) (ops : List Op) (word : List ℕ) (b : Bool) → bytes_eq word (op_word op) ≡ b → (op_among ops word ≡ Some op' → word ≡ op_word op')
     → cond b (Some op) (op_among ops word) ≡ Some op' → word ≡ op_word op'
 found-by op op' ops word true e behind h = (bytes_eq-Decides word (op_word op)).0 e ∙ ap op_word (some-is op op' h)

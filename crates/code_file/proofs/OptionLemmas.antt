@@ -1,4 +1,4 @@
--- What is there where something made of it is there.
+-- Options whose image is `Some`.
 use Rattle.std.proofs.Common.{◌≡◌, Option, Some, None, refl}
 use Rattle.std.specs.Option.{option_and_then, option_map}
 use Rattle.reg_machine.proofs.TableLemmas.{none≢some, some-is}

@@ -1,4 +1,4 @@
--- Outputs one after the other.
+-- Sequences of outputs.
 use Rattle.std.proofs.Common.{◌≡◌, ◌<◌, ◌&&◌, ℕ, zero, suc, Bool, false, true, is_some, List, [], ◌∷◌, ◌++◌, length, map, get_or, refl, sym, ap, ◌∙◌, arith}
 use Rattle.std.proofs.lemmas.Bool.{and_parts, true≢false, false≢true}
 use Rattle.reg_machine.proofs.TableLemmas.{some-is}
@@ -31,7 +31,7 @@ named-push labels [] (Noted n) h = refl
 named-push labels (Named name ∷ xs) x h = named-push labels xs x h
 named-push labels (Noted n ∷ xs) x h = absurd (false≢true h)
 
--- whether one more may stand after outputs of which the notes stand first
+-- whether one more output may follow outputs in valid order
 pub follows : (labels : List FaceLabel) (xs : List FaceOutput) (x : FaceOutput) → notes_stand_first labels xs ≡ true
     → notes_stand_first labels (xs ++ x ∷ []) ≡ may_follow labels (ends_named xs) x
 follows labels [] (Named name) h = refl
@@ -44,7 +44,7 @@ follows labels (Noted n ∷ y ∷ xs) x h =
     let k = and_parts (is_some (verif_at labels n)) (notes_stand_first labels (y ∷ xs)) h in
     ap (λ b. b && notes_stand_first labels (y ∷ xs ++ x ∷ [])) k.0 ∙ follows labels (y ∷ xs) x k.1
 
--- one text begins with one output
+-- a text begins with the line of at most one output
 front-one : (text b1 b2 : List ℕ) (x y : FaceOutput) → IsFront output_line IsRightOutput text x b1 → IsFront output_line IsRightOutput text y b2 → x ≡ y
 front-one text b1 b2 x y f g =
     let s = output-spelling.complete x f.1 in
@@ -66,7 +66,7 @@ not-follows labels xs x text behind named first n f m y more r e =
     let same = front-one text more behind y x (e, r.0) f in
     true≢false (sym r.1 ∙ ap (λ z. notes_stand_first labels (xs ++ z ∷ [])) same ∙ follows labels xs x first ∙ ap (λ b. may_follow labels b x) (sym n) ∙ m)
 
--- ---- codes in order
+-- ---- duplicate codes
 
 pub code-at : {X : Type 0} (f : X → List ℕ) (xs : List X) (k : ℕ) (x d : X) → k < length xs → x ≡ get_or xs k d → f x ≡ get_or (map f xs) k []
 code-at f [] k x d lt e = absurd (omega arith)

@@ -1,4 +1,5 @@
--- The stages of reading a code file: each fault is the first one, and at the end the text is the form of what was read.
+-- The steps of the reader: each fault is the first one, and at the end the text is the form of the
+-- result.
 use Rattle.std.proofs.Common.{◌≡◌, ◌<◌, ◌≤◌, ◌+◌, ◌==◌, ◌&&◌, ℕ, zero, suc, true, not, is_some, is_none, List, [], ◌∷◌, ◌++◌, length, take, drop, get_or, fold}
 use Rattle.std.proofs.Common.{codes, Some, None, refl, sym, ap, ◌∙◌, subst, arith, append_assoc, length-append}
 use Rattle.std.specs.List.{AllByRecursion}
@@ -27,7 +28,7 @@ use Rattle.code_file.proofs.FrontLemmas.{cut-line, lines-append}
 use Rattle.code_file.proofs.CutLemmas.{lacks, cut-at, cut-parts}
 use Rattle.code_file.proofs.CameLemmas.{came-none, came-next, came-slots, came-inputs, came-face, came-long, fault-line, lines-long, entry-long}
 
--- ---- a line that is one word
+-- ---- lines of one word
 
 pub word-line : (text line behind word : List ℕ) → cut 10 text ≡ Some (line, behind) → line ≡ word → text ≡ word ++ 10 ∷ behind
 word-line text line behind word e w = (cut-parts 10 text (line, behind) e).whole ∙ ap (λ l. l ++ 10 ∷ behind) w
@@ -71,7 +72,7 @@ slots-fault bytes rest m e other k =
 
 -- ---- the face
 
--- how many there may be
+-- the number of inputs fits 32 bits, since the text has a line for each
 pub few-inputs : (bytes rest behind : List ℕ) (slots : ℕ) (xs : List Coded) → bytes ≡ face_text slots [] [] [] rest → rest ≡ lines input_line xs ++ behind
     → length xs ≤ length bytes
 few-inputs bytes rest behind slots xs e h =
@@ -118,7 +119,7 @@ code-at [] k d lt = absurd (omega arith)
 code-at (y ∷ xs) zero d lt = refl
 code-at (y ∷ xs) (suc k) d lt = code-at xs k d (omega arith)
 
--- after inputs another input's line stands, whose code came before
+-- after these inputs comes the line of an input with a duplicate code
 again-ends : (slots : ℕ) (front : List Coded) (x : Coded) (text tail : List ℕ) → IsRightInput x → has x.code (codes_of front) ≡ true
     → text ≡ input_line x ++ tail → Ends (face_so_far slots front [] []) text
 again-ends slots front x text tail r h e version behind q i t = false≢true t
@@ -158,7 +159,7 @@ length-take-of zero xs h = take-zero xs
 length-take-of (suc k) [] h = absurd (omega arith)
 length-take-of (suc k) (x ∷ xs) h = omega (arith, length-take-of k xs (omega arith))
 
--- an input whose code stands before it
+-- an input with a duplicate code is the first fault
 pub again-fault : (bytes rest behind : List ℕ) (slots k m : ℕ) (xs : List Coded) → IsShort slots → bytes ≡ face_text slots [] [] [] rest
     → rest ≡ lines input_line xs ++ behind → AllByRecursion IsRightInput xs → IsAgain (codes_of xs) k → m ≡ k + 3 → IsCodeFault bytes (BadLine m)
 again-fault bytes rest behind slots k m [] short e h r a q = absurd (omega (arith, a.within))
@@ -174,7 +175,7 @@ pub nothing : {X : Type 0} (xs : List X) → (length xs == 0) ≡ true → xs �
 nothing [] h = refl
 nothing (x ∷ xs) h = absurd (omega (arith, eqb-true (length (x ∷ xs)) 0 h))
 
--- after a face nothing but `code` may come
+-- after a face only `code` may come
 pub face-ends : (slots : ℕ) (inputs : List Coded) (labels : List FaceLabel) (outputs : List FaceOutput) (rest middle behind : List ℕ)
     → IsNoFront input_line IsRightInput rest → IsRun label_line IsRightLabel rest labels middle → AreOutputs labels middle outputs behind
     → EndsFace (face_so_far slots inputs labels outputs) behind
@@ -204,7 +205,7 @@ pub face-begun : (bytes rest behind : List ℕ) (slots : ℕ) (inputs : List Cod
     → rest ≡ lines input_line inputs ++ behind → bytes ≡ face_text slots inputs [] [] behind
 face-begun bytes rest behind slots inputs e h = e ∙ ap (λ t. codes "mcode 1\n" ++ (slots_line slots ++ t)) h
 
--- something else than `code` stands after a face
+-- another line than `code` after a face is the first fault
 pub start-fault : (bytes rest : List ℕ) (slots m : ℕ) (inputs : List Coded) (labels : List FaceLabel) (outputs : List FaceOutput)
     → IsRightFace slots inputs labels outputs → bytes ≡ face_text slots inputs labels outputs rest → EndsFace (face_so_far slots inputs labels outputs) rest
     → ((more : List ℕ) → rest ≡ codes "code\n" ++ more → ⊥) → m ≡ length inputs + (length labels + (length outputs + 3)) → IsCodeFault bytes (BadLine m)
@@ -246,7 +247,7 @@ pub some-came : (bytes rest : List ℕ) (d : Draft) (n : ℕ) → d.part ≡ 3 �
 some-came bytes rest d zero p c = absurd (omega (arith, p, ap (λ x. x.part) (sym c.is ∙ ap (fold stated blank) (none-there c.entries c.count))))
 some-came bytes rest d (suc n) p c = omega arith
 
--- a line that is neither an instruction nor `end`
+-- a line that is neither an instruction nor `end` is the first fault
 pub other-fault : (bytes rest : List ℕ) (slots n m : ℕ) (face : Face) (code : Listing) → Came bytes (code_so_far slots face code.instrs) n rest
     → IsCodeSoFar slots face code → IsNoFront instr_line IsInstr rest → ((more : List ℕ) → rest ≡ codes "end\n" ++ more → is_none (code_fault code) ≡ true → ⊥)
     → m ≡ suc n → IsCodeFault bytes (BadLine m)
@@ -257,7 +258,7 @@ other-fault bytes rest slots n m face code c k ni ne q =
 pub shorter : (text line behind : List ℕ) → cut 10 text ≡ Some (line, behind) → length behind < length text
 shorter text line behind e = omega (arith, ap length (cut-parts 10 text (line, behind) e).whole, length-append line (10 ∷ behind))
 
--- how many instructions there may be
+-- a line isn't empty, which bounds the number of instructions
 instr-long : (i : Instr) → 0 < length (instr_line i)
 instr-long i = entry-long (an_instr i)
 
@@ -279,7 +280,7 @@ few-instrs bytes rest slots face instrs e =
       lines-long instr_line instrs instr-long,
     )
 
--- how many labels and outputs there may be
+-- the numbers of labels and outputs fit 32 bits
 pub few-labels : (bytes rest : List ℕ) (slots : ℕ) (inputs : List Coded) (labels : List FaceLabel) (outputs : List FaceOutput)
     → IsRightFace slots inputs labels outputs → bytes ≡ face_text slots inputs labels outputs rest
     → length inputs + (length labels + (length outputs + 2)) ≤ length bytes

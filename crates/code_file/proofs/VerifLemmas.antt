@@ -1,4 +1,4 @@
--- Verifications and their words, and bytes and their digits.
+-- Verifications and their words; bytes and their hexadecimal digits.
 use Rattle.std.proofs.Common.{◌≡◌, ◌≢◌, ◌<◌, ◌≤◌, ◌+◌, ◌-◌, ◌*◌, ◌/◌, ◌%◌, ◌&&◌, ℕ, Bool, false, true, not, cond, nat_le, List, [], ◌∷◌, ◌++◌, length, drop}
 use Rattle.std.proofs.Common.{get_or, Option, Some, None, codes, refl, sym, ap, ◌∙◌, subst, arith, leb, ltb, append_assoc, append-nil}
 use Rattle.std.specs.Str.{bytes_eq}
@@ -96,7 +96,7 @@ byte-value byte small =
     ap (option_and_then (λ x. option_map (λ y. x * 16 + y) (hex_value (hex_digit (byte % 16))))) (digit-value (byte / 16) hi)
     ∙ ap (option_map (λ y. byte / 16 * 16 + y)) (digit-value (byte % 16) lo) ∙ ap Some (omega arith)
 
--- bytes that digits spell are written by those digits
+-- bytes parsed from digits are printed as those digits
 pub bytes-sound : (hex bytes : List ℕ) → bytes_of hex ≡ Some bytes → (hex_of bytes ≡ hex) × AllByRecursion (λ b. b < 256) bytes
 bytes-sound [] bytes h = subst (λ l. (hex_of l ≡ []) × AllByRecursion (λ b. b < 256) l) (some-is [] bytes h) (refl, tt)
 bytes-sound (a ∷ []) bytes h = absurd (none≢some bytes h)
@@ -115,7 +115,7 @@ bytes-complete (b ∷ bytes) h =
 
 -- ---- a loop over digits
 
--- what was read and what is left are the whole
+-- bytes parsed so far, and the digits that are left, are the whole
 abbrev pub BytesFrom : List ℕ → List ℕ → ℕ → Type 0
 BytesFrom hex so_far at = bytes_of hex ≡ option_map (λ more. so_far ++ more) (bytes_of (drop at hex))
 
@@ -185,7 +185,7 @@ verif-made text bs w x e f is number error some =
     subst (λ l. (verif_of text ≡ Some l) × IsRightVerif l) (sym is)
     (ap (option_and_then verif_with) e ∙ ap (option_map (label_with w)) f, ((number.0, number.1, error, some), (bytes-sound w.hex bs f).1))
 
--- what is no verification is no label after `verif`
+-- a label after `verif` that isn't a verification's is no label
 pub verif-none : (line kind text : List ℕ) → label_words line ≡ Some (kind, text) → bytes_eq kind (codes "driver") ≡ false
     → not (bytes_eq kind (codes "verif")) ≡ false → IsRead verif_of IsRightVerif text None → IsRead label_of IsRightLabel line None
 verif-none line kind text e d v other x h r =

@@ -1,4 +1,4 @@
--- Code that was loaded with its face.
+-- Code with its face.
 use Rattle.std.specs.Prelude.{ℕ, ◌==◌, ◌&&◌, Bool, List, length}
 use Rattle.observables.specs.declared.inputs.Coded.{Coded}
 use Rattle.observables.specs.declared.face.FaceLabel.{FaceLabel}

@@ -1,4 +1,4 @@
--- Faces whose words a code file can spell.
+-- Faces that a code file can represent.
 use Rattle.std.specs.Prelude.{◌≡◌, ◌≢◌, ◌⊎◌, ℕ, ◌<◌, ◌≤◌, List, [], ◌∷◌, length, codes, decimal, slice_index_or}
 use Rattle.std.specs.List.{AllByRecursion}
 use Rattle.m_text.specs.Words.{IsWord, AreDigits}
@@ -25,15 +25,15 @@ IsFreeWord t = IsWord t × ((k : Key) → t ≢ key_spelling k)
 abbrev pub IsPlainName : List ℕ → Type 0
 IsPlainName t = IsFreeWord t × AllByRecursion IsNoSmallLetter t
 
--- a name of a cell: a name, or one with the number of a table's cell, as `T[1]`
+-- the name of a cell: a plain name, or one with an index below 1024, as `T[1]`
 abbrev pub IsCellName : List ℕ → Type 0
 IsCellName t = IsPlainName t ⊎ ((name : List ℕ) × (k : ℕ) × IsPlainName name × (k < 1024) × (t ≡ joined (name ∷ codes "[" ∷ decimal k ∷ codes "]" ∷ [])))
 
--- no two of these are equal
+-- all elements are different
 abbrev pub AreApart : List (List ℕ) → Type 0
 AreApart names = (i j : ℕ) → i < length names → j < length names → slice_index_or names i [] ≡ slice_index_or names j [] → i ≡ j
 
--- a verification with a number of one to nine digits, an error with a name, and a text
+-- a number of one to nine digits, an error with a plain name, and a text that isn't empty
 abbrev pub IsPrintableVerif : Label → Type 0
 IsPrintableVerif label = AreDigits label.verif × (length label.verif ≤ 9) × IsPlainName label.error × (label.text ≢ [])
 
@@ -45,8 +45,9 @@ abbrev pub IsPrintableOutput : FaceOutput → Type 0
 IsPrintableOutput (Named name) = IsCellName name
 IsPrintableOutput (Noted number) = Unit {0}
 
--- A face is printable where the codes of its inputs are distinct words that aren't reserved, its verifications have numbers of one to nine digits,
--- names of errors and texts, and its outputs have names of cells.
+-- A face is printable if the codes of its inputs are distinct free words, its verifications have
+-- numbers of one to nine digits, plain names of errors and texts, and its outputs have names of
+-- cells.
 pub record IsPrintable (face : Face) : Type 0 where
   pub inputs : AllByRecursion IsFreeWord (codes_of face.inputs)
   pub apart : AreApart (codes_of face.inputs)

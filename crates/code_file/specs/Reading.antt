@@ -1,4 +1,5 @@
--- What a text is as a code file: the code and face of which it is the form, or else its first fault.
+-- The meaning of bytes as a code file: loaded code of which they are the form, or else their first
+-- fault.
 use Rattle.std.specs.Prelude.{◌≡◌, ◌≢◌, ℕ, suc, ◌<◌, ◌==◌, ◌&&◌, not, Bool, IsTrue, is_none, is_some, List, [], ◌∷◌, ◌++◌, length, fold, codes, Some, None}
 use Rattle.std.specs.List.{AllByRecursion}
 use Rattle.m_fixed.specs.declared.amount.Value.{Value}
@@ -26,7 +27,7 @@ use Rattle.code_file.specs.Loading.{text_with}
 
 -- ---- one line
 
--- what a line says
+-- the content of one line
 pub data Entry : Type 0 where
   version : Entry
   slot_count : ℕ → Entry
@@ -37,7 +38,7 @@ pub data Entry : Type 0 where
   an_instr : Instr → Entry
   code_end : Entry
 
--- the line that says it, with the line feed that ends it
+-- the line of an entry, with its line feed
 abbrev pub entry_line : Entry → List ℕ
 entry_line version = codes "mcode 1\n"
 entry_line (slot_count n) = slots_line n
@@ -52,12 +53,12 @@ entry_line code_end = codes "end\n"
 abbrev pub IsShort : ℕ → Type 0
 IsShort n = n < 4_294_967_296
 
--- a label whose text consists of bytes, or whose line fits 32 bits
+-- a label whose text is of bytes, or whose line number fits 32 bits
 abbrev pub IsFittingLabel : FaceLabel → Type 0
 IsFittingLabel (Verif label) = AllByRecursion (λ b. b < 256) label.text
 IsFittingLabel (DriverLine line) = IsShort line
 
--- an output whose number, if it has one, fits 32 bits
+-- an output whose number, if it is a note, fits 32 bits
 abbrev pub IsFittingOutput : FaceOutput → Type 0
 IsFittingOutput (Named name) = Unit {0}
 IsFittingOutput (Noted number) = IsShort number
@@ -68,8 +69,8 @@ IsLiteral Undef = Unit {0}
 IsLiteral (Num z) = IsAmount z
 IsLiteral Over = Unit {0}
 
--- A register is below 16, arguments past the operator's arity are the first, other numbers fit 32 bits, and a literal is an
--- amount or none.
+-- Registers are below 16, arguments past the operator's arity repeat the first, other numbers fit
+-- 32 bits, and a literal that is a number is an amount.
 abbrev pub IsInstr : Instr → Type 0
 IsInstr (Take r n) = (r < REGISTERS) × IsShort n
 IsInstr (Lit r v) = (r < REGISTERS) × IsLiteral v
@@ -79,7 +80,8 @@ IsInstr (Load r k) = (r < REGISTERS) × IsShort k
 IsInstr (Check g c over_only number) = (g < REGISTERS) × (c < REGISTERS) × IsShort number
 IsInstr (Output k r) = IsShort k × (r < REGISTERS)
 
--- its words and numbers have the forms that a code file wants, wherever its line stands
+-- The words and numbers of an entry have the forms of the format. Whether the entry may come at its
+-- place is `due`.
 abbrev pub IsEntry : Entry → Type 0
 IsEntry version = Unit {0}
 IsEntry (slot_count n) = IsShort n
@@ -92,7 +94,8 @@ IsEntry code_end = Unit {0}
 
 -- ---- the lines so far
 
--- What the lines so far say. `part` counts those of the lines `mcode 1`, `slots`, `code` and `end` that came.
+-- The state after some lines. `part` is how many of the lines `mcode 1`, `slots`, `code` and `end`
+-- there were.
 pub record Draft : Type 0 where
   pub part : ℕ
   pub slots : ℕ
@@ -101,17 +104,17 @@ pub record Draft : Type 0 where
   pub outputs : List FaceOutput
   pub instrs : List Instr
 
--- before the first line
+-- the state before the first line
 abbrev pub blank : Draft
 blank = record { part = 0; slots = 0; inputs = []; labels = []; outputs = []; instrs = [] }
 
--- the code so far
+-- the code of the lines so far
 abbrev pub code_in : Draft → Listing
 code_in d = code_of (length d.inputs) d.slots (length d.labels) (length d.outputs) d.instrs
 
--- Whether a line may come next: `mcode 1`, `slots`, then inputs of which no code came before, labels, outputs of which notes
--- stand first and name verifications, `code`, then instructions with which nothing is wrong, and `end` where each output was
--- given.
+-- Whether an entry may come next. The order is: `mcode 1`; `slots`; inputs with distinct codes;
+-- labels; outputs, the notes first, each of a label of a verification; `code`; valid instructions;
+-- and `end`, if each output has a value.
 abbrev pub due : Entry → Draft → Bool
 due version d = d.part == 0
 due (slot_count n) d = d.part == 1
@@ -122,7 +125,7 @@ due code_start d = d.part == 2
 due (an_instr i) d = (d.part == 3) && is_some (reading (with_instr (code_in d) i))
 due code_end d = (d.part == 3) && is_none (code_fault (code_in d))
 
--- what the lines say with one more
+-- the state after one more entry
 abbrev pub stated : Draft → Entry → Draft
 stated d version = record d { part = 1 }
 stated d (slot_count n) = record d { part = 2; slots = n }
@@ -133,35 +136,37 @@ stated d code_start = record d { part = 3 }
 stated d (an_instr i) = record d { instrs = d.instrs ++ i ∷ [] }
 stated d code_end = record d { part = 4 }
 
--- each of these may come next, in turn
+-- each entry is well-formed and may come after those before it
 abbrev pub AreDue : Draft → List Entry → Type 0
 AreDue d [] = Unit {0}
 AreDue d (entry ∷ entries) = IsEntry entry × IsTrue (due entry d) × AreDue (stated d entry) entries
 
--- what they say together
+-- the state after these entries
 abbrev pub draft_of : List Entry → Draft
 draft_of entries = fold stated blank entries
 
 -- ---- the first fault
 
--- no line that may come next stands at the start
+-- the bytes don't begin with the line of an entry that may come next
 abbrev pub Ends : Draft → List ℕ → Type 0
 Ends d rest = (entry : Entry) (behind : List ℕ) → rest ≡ entry_line entry ++ behind → IsEntry entry → IsTrue (due entry d) → ⊥
 
--- The lines from the first on that may come, each after those before it: after them something else stands, or nothing though
--- the code isn't ended.
+-- `entries` are all valid entries from the start. After them `rest` begins with something else, or
+-- is empty although there was no `end`.
 pub record Stops (bytes : List ℕ) (entries : List Entry) (rest : List ℕ) : Type 0 where
   pub text : bytes ≡ lines entry_line entries ++ rest
   pub due : AreDue blank entries
   pub ends : Ends (draft_of entries) rest
   pub open_end : (draft_of entries).part ≡ 4 → rest ≢ []
 
--- an instruction stands at the start whose numbers may stand there, and which reads a register or a slot that no earlier one wrote
+-- The bytes begin with a well-formed instruction that reads a register or a slot which no earlier
+-- one has written.
 abbrev pub ReadsUnwritten : Draft → List ℕ → Type 0
 ReadsUnwritten d rest = (i : Instr) × (behind : List ℕ) × (rest ≡ instr_line i ++ behind) × IsInstr i × (d.part ≡ 3) × (wrong_behind (code_in d) i ≡ Some Order)
 
--- The first fault of a text. With so many lines before it, it is at the next line, also where there is none: the first line isn't
--- `mcode 1`, or a later one reads before it is written, or is another that can't come there. Running out of memory is none.
+-- The first fault, which is at the line after the valid entries, even if the bytes end there: the
+-- first line isn't `mcode 1`, an instruction reads what was never written, or another line isn't
+-- allowed. Running out of memory is no fault of the bytes.
 abbrev pub IsCodeFault : List ℕ → CodeFault → Type 0
 IsCodeFault bytes BadHeader = Stops bytes [] bytes
 IsCodeFault bytes (BadLine n) = (entries : List Entry) × (rest : List ℕ) × Stops bytes entries rest × (entries ≢ []) × (n ≡ suc (length entries))
@@ -172,15 +177,17 @@ IsCodeFault bytes Memory = ⊥
 
 -- ---- the form
 
--- The numbers of code and its face fit a code file: those of slots, driver lines, labels and instructions 32 bits, registers 16, and texts consist of
--- bytes. Each loaded code has it, since the types of the program keep that.
+-- The numbers of loaded code are in range: slots, driver lines, labels and operands fit 32 bits,
+-- registers are below 16, and texts are of bytes. This holds of every `Loaded`, because of its
+-- types.
 pub record Fits (loaded : Loaded) : Type 0 where
   pub slots : IsShort loaded.code.counts.slots
   pub labels : AllByRecursion IsFittingLabel loaded.face.labels
   pub outputs : AllByRecursion IsFittingOutput loaded.face.outputs
   pub instrs : AllByRecursion IsInstr loaded.code.instrs
 
--- A text is the form of code with a face: the face is printable, numbers fit, nothing is wrong with the code, and it is their text.
+-- Bytes are the form of loaded code: the face is printable, the numbers are in range, the code is
+-- valid, and the bytes are their text.
 pub record IsFormOf (bytes : List ℕ) (loaded : Loaded) : Type 0 where
   pub printable : IsPrintable loaded.face
   pub fits : Fits loaded

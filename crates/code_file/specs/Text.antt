@@ -22,18 +22,18 @@ use Rattle.reg_machine.specs.declared.instr.Instr.TheVariants.{Take, Lit, Do, St
 use Rattle.reg_machine.specs.Flow.{Listing}
 use Rattle.m_text.specs.Pieces.{new_line, joined}
 
--- the lines of things, in order
+-- the lines of a list's elements, in order
 abbrev pub lines : {X : Type 0} → (X → List ℕ) → List X → List ℕ
 lines line [] = []
 lines line (x ∷ xs) = line x ++ lines line xs
 
 -- ---- the face
 
--- how many slots there are: `slots 3`
+-- the slot count: `slots 3`
 abbrev pub slots_line : ℕ → List ℕ
 slots_line n = joined (codes "slots " ∷ decimal n ∷ new_line ∷ [])
 
--- the word of a type, after the code
+-- the word of a type, after a space; empty for `Any`
 abbrev pub kind_words : InputType → List ℕ
 kind_words Any = []
 kind_words Whole = codes " whole"
@@ -47,7 +47,7 @@ input_line input = joined (codes "input " ∷ input.code ∷ kind_words input.ki
 abbrev pub hex_digit : ℕ → ℕ
 hex_digit d = if nat_lt d 10 then 48 + d else 87 + d
 
--- bytes as two digits each: of `n:` it is `6e3a`
+-- two digits per byte: `n:` is `6e3a`
 abbrev pub hex_of : List ℕ → List ℕ
 hex_of [] = []
 hex_of (b ∷ bs) = hex_digit (b / 16) ∷ hex_digit (b % 16) ∷ hex_of bs
@@ -58,16 +58,16 @@ kind_word Anomalie = codes "anomalie"
 kind_word Discordance = codes "discordance"
 kind_word Informative = codes "informative"
 
--- what stands before the text of a verification's label: `label verif 2000 A20 anomalie `
+-- the part of a verification's label before its text: `label verif 2000 A20 anomalie `
 abbrev pub verif_front : Label → List ℕ
 verif_front label = joined (codes "label verif " ∷ label.verif ∷ codes " " ∷ label.error ∷ codes " " ∷ kind_word label.kind ∷ codes " " ∷ [])
 
--- a label: `label verif 2000 A20 anomalie 6e3a`, or of a line of the driver `label driver 2`
+-- a label: `label verif 2000 A20 anomalie 6e3a`, or for a line of the driver `label driver 2`
 abbrev pub label_line : FaceLabel → List ℕ
 label_line (Verif label) = verif_front label ++ (hex_of label.text ++ new_line)
 label_line (DriverLine line) = joined (codes "label driver " ∷ decimal line ∷ new_line ∷ [])
 
--- an output: `output T[1]`, or of a note of label 3 `note 3`
+-- an output: `output T[1]`, or for a note of label 3 `note 3`
 abbrev pub output_line : FaceOutput → List ℕ
 output_line (Named name) = joined (codes "output " ∷ name ∷ new_line ∷ [])
 output_line (Noted number) = joined (codes "note " ∷ decimal number ∷ new_line ∷ [])
@@ -103,11 +103,11 @@ op_word TruthOf = codes "truth"
 op_word Choose = codes "choose"
 op_word At = codes "at"
 
--- a word and two numbers: `in 0 3`
+-- a word and two operands: `in 0 3`
 abbrev pub two_numbers : List ℕ → ℕ → ℕ → List ℕ
 two_numbers word a b = joined (word ∷ codes " " ∷ decimal a ∷ codes " " ∷ decimal b ∷ new_line ∷ [])
 
--- a word and three numbers: `ck 0 1 2`
+-- a word and three operands: `ck 0 1 2`
 abbrev pub three_numbers : List ℕ → ℕ → ℕ → ℕ → List ℕ
 three_numbers word a b c = joined (word ∷ codes " " ∷ decimal a ∷ codes " " ∷ decimal b ∷ codes " " ∷ decimal c ∷ new_line ∷ [])
 
@@ -126,7 +126,7 @@ do_line n op r a b c =
     then joined (codes "do " ∷ decimal r ∷ codes " " ∷ op_word op ∷ codes " " ∷ decimal a ∷ codes " " ∷ decimal b ∷ new_line ∷ [])
     else joined (codes "do " ∷ decimal r ∷ codes " " ∷ op_word op ∷ codes " " ∷ decimal a ∷ codes " " ∷ decimal b ∷ codes " " ∷ decimal c ∷ new_line ∷ [])
 
--- the word of a check: the second looks for over only
+-- the word of a check; `co` stops a run only on over
 abbrev pub check_word : Bool → List ℕ
 check_word false = codes "ck"
 check_word true = codes "co"
@@ -143,7 +143,7 @@ instr_line (Output k r) = two_numbers (codes "out") k r
 
 -- ---- the file
 
--- The text of code with a face that has these inputs, labels and outputs.
+-- The text of code whose face has these inputs, labels and outputs.
 abbrev pub code_text : Listing → List Coded → List FaceLabel → List FaceOutput → List ℕ
 code_text code inputs labels outputs =
     codes "mcode 1\n" ++ (slots_line code.counts.slots ++ (lines input_line inputs ++ (lines label_line labels

@@ -1,4 +1,4 @@
--- What the contracts of inner functions speak of. Those of public calls need none of it.
+-- Definitions for the contracts of inner functions. Public contracts use none of them.
 pub mod Came
 pub mod Faces
 pub mod Read

@@ -1,4 +1,4 @@
-//! The lines of a face.
+//! Writes the lines of a face.
 ghost use Rattle.std.specs.Prelude.{◌≡◌, ◌∷◌, ◌++◌, ◌/◌, ◌%◌, [], codes, decimal};
 ghost use Rattle.m_ports.specs.Giving.{Gives};
 ghost use Rattle.m_text.specs.Pieces.{joined, new_line};
@@ -10,7 +10,7 @@ use m_places::Label;
 use m_ports::{Failed, Sink, give_pieces};
 use observables::{Coded, FaceLabel, FaceOutput};
 
-/// Gives a word, a number and the end of a line.
+/// Writes a word, a number and a line feed.
 pub fn give_number<K: Sink>(word: &[u8], number: u32, out: &mut K) -> Result<(), Failed>
     ensures { Gives K.written K.faults out.old out.new result (joined (word.now ∷ decimal number ∷ new_line ∷ [])) }
 {
@@ -19,14 +19,14 @@ pub fn give_number<K: Sink>(word: &[u8], number: u32, out: &mut K) -> Result<(),
     give_pieces(out, &[word, digits, b"\n"])
 }
 
-/// Gives the line of the count of slots.
+/// Writes the line of the slot count.
 pub fn give_slots<K: Sink>(slots: u32, out: &mut K) -> Result<(), Failed>
     ensures { Gives K.written K.faults out.old out.new result (slots_line slots) }
 {
     give_number(b"slots ", slots, out)
 }
 
-/// Gives the lines of inputs.
+/// Writes the lines of inputs.
 pub fn give_inputs<K: Sink>(inputs: &[Coded], out: &mut K) -> Result<(), Failed>
     ensures { Gives K.written K.faults out.old out.new result (lines input_line inputs.now) }
 {
@@ -49,7 +49,7 @@ fn give_coded<'a, K: Sink>(code: &'a [u8], kind: &'a [u8], out: &mut K) -> Resul
     give_pieces(out, &[b"input ", code, kind, b"\n"])
 }
 
-/// Gives the lines of labels.
+/// Writes the lines of labels.
 pub fn give_labels<K: Sink>(labels: &[FaceLabel], out: &mut K) -> Result<(), Failed>
     ensures { Gives K.written K.faults out.old out.new result (lines label_line labels.now) }
 {
@@ -98,7 +98,7 @@ fn give_words<'a, K: Sink>(
     )
 }
 
-// Gives a text in hexadecimal digits and the end of the line.
+// Writes a text as hexadecimal digits and a line feed.
 fn give_text<K: Sink>(text: &[u8], out: &mut K) -> Result<(), Failed>
     ensures { Gives K.written K.faults out.old out.new result (hex_of text.now ++ new_line) }
 {
@@ -122,7 +122,7 @@ fn give_byte<K: Sink>(byte: u8, out: &mut K) -> Result<(), Failed>
     give_pieces(out, &[&digits])
 }
 
-/// Gives the lines of outputs.
+/// Writes the lines of outputs.
 pub fn give_outputs<K: Sink>(outputs: &[FaceOutput], out: &mut K) -> Result<(), Failed>
     ensures { Gives K.written K.faults out.old out.new result (lines output_line outputs.now) }
 {

@@ -1,4 +1,4 @@
-//! What the lines of a face spell.
+//! Parses the lines of a face.
 ghost use Rattle.std.specs.Prelude.{◌≡◌, ◌<◌, ◌∷◌, [], ◌*◌, ◌+◌, IfOk, IfSome, MatchOption, Some, None, length, drop};
 ghost use Rattle.code_file.specs.inner.Spelled.{cut};
 ghost use Rattle.code_file.specs.inner.Faces.{IsRead, IsRightInput, IsRightVerif, IsRightLabel, IsRightOutput, coded, slots_of, input_of};
@@ -11,7 +11,7 @@ use m_places::{ErrorKind, Label, Name, SharedName};
 use observables::{Coded, FaceLabel, FaceOutput, InputType};
 use std::alloc::{AllocError, Global};
 
-/// The count of slots that a line spells.
+/// The slot count of a `slots` line.
 pub fn slots_of(line: &[u8]) -> Option<u32>
     ensures { result ≡ slots_of line.now }
 {
@@ -23,7 +23,7 @@ pub fn slots_of(line: &[u8]) -> Option<u32>
     }
 }
 
-// The type that a word after a code says.
+// The type for the word after an input's code.
 fn kind_named(word: &[u8]) -> Option<InputType>
     ensures { result ≡ kind_named word.now }
 {
@@ -36,7 +36,7 @@ fn kind_named(word: &[u8]) -> Option<InputType>
     }
 }
 
-// The code and the type of the input that a line spells.
+// The code and type of an `input` line.
 fn input_words(line: &[u8]) -> Option<(&[u8], InputType)>
     ensures { MatchOption result (input_of line.now ≡ None) (λ p. input_of line.now ≡ Some (coded p.0.now p.1)) }
 {
@@ -53,7 +53,7 @@ fn input_words(line: &[u8]) -> Option<(&[u8], InputType)>
     }
 }
 
-/// The input that a line spells.
+/// Parses an `input` line.
 pub fn read_input(alloc: Global, line: &[u8]) -> Result<Option<Coded>, AllocError>
     ensures { IfOk result (IsRead input_of IsRightInput line.now) }
 {
@@ -69,7 +69,7 @@ pub fn read_input(alloc: Global, line: &[u8]) -> Result<Option<Coded>, AllocErro
     }
 }
 
-// A hexadecimal digit.
+// The value of a hexadecimal digit; only `0` to `9` and `a` to `f` are accepted.
 fn hex_value(digit: u8) -> Option<u8>
     ensures value { result ≡ hex_value digit }
     ensures small { IfSome result (λ value. value < 16) }
@@ -83,7 +83,7 @@ fn hex_value(digit: u8) -> Option<u8>
     }
 }
 
-// A byte of two digits.
+// The byte of two hexadecimal digits, the high one first.
 fn hex_byte(a: u8, b: u8) -> Option<u8>
     ensures { result ≡ hex_byte a b }
 {
@@ -92,7 +92,7 @@ fn hex_byte(a: u8, b: u8) -> Option<u8>
     Some(high * 16 + low)
 }
 
-// Bytes of two digits each.
+// The bytes of a hexadecimal text, two digits each.
 fn bytes_of(alloc: Global, hex: &[u8]) -> Result<Option<Vec<u8>>, AllocError>
     ensures { IfOk result (λ o. MatchOption o (bytes_of hex.now ≡ None) (λ bytes. bytes_of hex.now ≡ Some bytes.items)) }
 {
@@ -112,7 +112,7 @@ fn bytes_of(alloc: Global, hex: &[u8]) -> Result<Option<Vec<u8>>, AllocError>
     }
 }
 
-// An error's kind by its word.
+// The kind of error for its word.
 fn error_kind(word: &[u8]) -> Option<ErrorKind>
     ensures { result ≡ error_kind word.now }
 {
@@ -127,7 +127,7 @@ fn error_kind(word: &[u8]) -> Option<ErrorKind>
     }
 }
 
-// The number of a verification, its error's name and kind, and the digits of its error's text.
+// The verification's number, its error's name and kind, and the error's text in hexadecimal.
 fn verif_words(text: &[u8]) -> Option<(&[u8], &[u8], ErrorKind, &[u8])>
     ensures { MatchOption result (verif_words text.now ≡ None)
         (λ p. verif_words text.now ≡ Some (record { number = p.0.now; error = p.1.now; kind = p.2; hex = p.3.now })) }
@@ -139,7 +139,7 @@ fn verif_words(text: &[u8]) -> Option<(&[u8], &[u8], ErrorKind, &[u8])>
     Some((number, error, kind, hex))
 }
 
-// The label of these words and this text.
+// A verification's label with copies of these names and this text.
 fn label_with(
     alloc: Global,
     number: &[u8],
@@ -160,7 +160,7 @@ fn label_with(
     })
 }
 
-// The label of a verification that a text spells.
+// Parses the part of a label's line after `label verif `.
 fn read_verif(alloc: Global, text: &[u8]) -> Result<Option<Label>, AllocError>
     ensures { IfOk result (IsRead verif_of IsRightVerif text.now) }
 {
@@ -186,7 +186,7 @@ fn read_verif(alloc: Global, text: &[u8]) -> Result<Option<Label>, AllocError>
     }
 }
 
-// What stands after `label`: a word, and what stands after that.
+// Splits the part of a line after `label ` into its first word and the rest.
 fn label_words(line: &[u8]) -> Option<(&[u8], &[u8])>
     ensures { MatchOption result (label_words line.now ≡ None) (λ p. label_words line.now ≡ Some (p.0.now, p.1.now)) }
 {
@@ -198,7 +198,7 @@ fn label_words(line: &[u8]) -> Option<(&[u8], &[u8])>
     }
 }
 
-/// The label that a line spells.
+/// Parses a `label` line.
 pub fn read_label(alloc: Global, line: &[u8]) -> Result<Option<FaceLabel>, AllocError>
     ensures { IfOk result (IsRead label_of IsRightLabel line.now) }
 {
@@ -221,7 +221,7 @@ pub fn read_label(alloc: Global, line: &[u8]) -> Result<Option<FaceLabel>, Alloc
     }
 }
 
-/// The output that a line spells.
+/// Parses an `output` or `note` line.
 pub fn read_output(alloc: Global, line: &[u8]) -> Result<Option<FaceOutput>, AllocError>
     ensures { IfOk result (IsRead output_of IsRightOutput line.now) }
 {

@@ -1,21 +1,21 @@
-//! Why a text is no code file.
+//! Errors of reading a code file.
 ghost use Rattle.std.specs.Prelude.{◌≡◌};
 ghost use Rattle.code_file.specs.declared.fault.CodeFault.TheVariants.{Memory};
 
 use std::alloc::{AllocError, AllocFailed};
 
-/// Why a text is no code file. Lines are counted from 1.
+/// Why bytes aren't a code file. Lines are counted from 1.
 #[derive(Clone, Copy, Debug, PartialEq, Eq)]
 pub enum CodeFault {
     /// The first line isn't `mcode 1`, or there is none.
     BadHeader,
-    /// This line can't stand there: it is of another form than what is due, or has a number that can't stand there, or names
-    /// an input's code again, or is `end` where an output was never given. Where the text ends early it is the line after its
-    /// last.
+    /// This line is malformed or isn't allowed here: its form isn't the next one of the format, a
+    /// number is out of range, an input's code was used before, or it is `end` while an output has
+    /// no value. If the file ends early, the number is that of the line after the last one.
     BadLine(u32),
-    /// This line reads a register or a slot that no earlier line wrote.
+    /// This line reads a register or a slot that no earlier line has written.
     BadOrder(u32),
-    /// There was no memory.
+    /// Out of memory.
     Memory,
 }
 

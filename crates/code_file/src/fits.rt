@@ -1,5 +1,6 @@
-//! The numbers of code and its face fit a code file. Their types keep that, and contracts know of it where a number is read: so these functions
-//! read all of them. They answer nothing, and take no memory.
+//! Shows that the numbers of loaded code are in the ranges of the format. The types guarantee it,
+//! but a contract learns it of a number only where that number is read; so these functions read
+//! every number. They return nothing and take no memory.
 ghost use Rattle.std.specs.Prelude.{◌≡◌, ◌<◌, None};
 ghost use Rattle.std.specs.List.{AllByRecursion};
 ghost use Rattle.m_fixed.specs.Amounts.{IsAmount};
@@ -12,7 +13,7 @@ use m_fixed::{Amount, Value};
 use observables::{FaceLabel, FaceOutput};
 use reg_machine::{Code, Instr};
 
-/// All numbers of loaded code fit a code file, and nothing is wrong with the code.
+/// All numbers of loaded code are in range, and the code is valid.
 pub fn fits(loaded: &Loaded)
     ensures fits { Fits loaded.now }
     ensures right { code_fault loaded.now.code ≡ None }
@@ -23,7 +24,7 @@ pub fn fits(loaded: &Loaded)
     code_fits(&loaded.code);
 }
 
-// A number of 32 bits.
+// A `u32` is below 2^32.
 fn is_short(n: u32)
     ensures { IsShort n }
 {
@@ -78,7 +79,7 @@ fn output_fits(output: &FaceOutput)
     }
 }
 
-// Registers, and arguments past an operator's arity, are right where nothing is wrong with the code.
+// Validity of the code implies the ranges of registers and of arguments past an operator's arity.
 fn code_fits(code: &Code)
     ensures right { code_fault code.now ≡ None }
     ensures instrs { AllByRecursion IsInstr code.now.instrs }

@@ -1,4 +1,4 @@
-//! The lines of instructions.
+//! Writes the lines of instructions.
 ghost use Rattle.std.specs.Prelude.{◌≡◌, ◌≤◌, ◌∷◌, [], codes, decimal};
 ghost use Rattle.m_ports.specs.Giving.{Gives};
 ghost use Rattle.m_text.specs.Pieces.{joined, new_line};
@@ -12,7 +12,7 @@ use m_fixed::{Amount, Op, Value, arity};
 use m_ports::{Failed, Sink, give_pieces};
 use reg_machine::{Code, Instr};
 
-/// Gives the lines of a code's instructions.
+/// Writes the lines of the instructions of `code`.
 pub fn give_instrs<K: Sink>(code: &Code, out: &mut K) -> Result<(), Failed>
     ensures { Gives K.written K.faults out.old out.new result (lines instr_line code.now.instrs) }
 {

@@ -1,6 +1,11 @@
-//! Code files: code with its face as a text, one spelling for each.
+//! Code files: the text form of register code with its face. Each has exactly one spelling.
 //!
-//! This crate knows the text, and neither files on a disk nor commands, rules or households.
+//! Uses `reg_machine` for code and `observables` for faces. Knows nothing of files on a disk,
+//! commands, rules or households.
+//!
+//! The writer reads all numbers before it writes (`fits`), so that the proof shows that the text
+//! can be read again. The first fault is defined without a parser (`Stops`): a non-empty rest after
+//! `end` is a bad line, and a file without the line feed after `end` ended early.
 #![tactic(auto)]
 
 mod cut;

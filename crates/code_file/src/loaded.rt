@@ -5,7 +5,7 @@ ghost use Rattle.code_file.specs.Loading.{counts_agree};
 use observables::Face;
 use reg_machine::Code;
 
-/// Code, and what it shows of itself: a face with as many inputs, labels and outputs as the code has.
+/// Register code and its face, which has as many inputs, labels and outputs as the code.
 #[derive(Drop)]
 pub struct Loaded {
     pub code: Code,

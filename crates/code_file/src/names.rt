@@ -1,4 +1,4 @@
-//! Whether words may stand in a code file.
+//! Tests for the words of code files.
 ghost use Rattle.std.specs.Prelude.{◌≡◌, ◌↔◌, ◌<◌, ◌≤◌, IsTrue, length};
 ghost use Rattle.std.specs.List.{list_all};
 ghost use Rattle.m_text.specs.Words.{AreDigits};
@@ -10,7 +10,7 @@ use crate::numbers::number;
 use m_lexer::key_of;
 use m_text::{is_word, whole_number};
 
-/// Whether these are one to nine digits.
+/// Whether a text is one to nine digits.
 pub fn are_few_digits(text: &[u8]) -> bool
     ensures { IsTrue result ↔ (AreDigits text.now × (length text.now ≤ 9)) }
 {
@@ -24,7 +24,7 @@ fn has_no_small(text: &[u8]) -> bool
     text.iter().all(|byte| *byte < 97 || 122 < *byte)
 }
 
-/// Whether this is a word that isn't reserved.
+/// Whether a text is a word of M that isn't reserved.
 pub fn is_free_word(text: &[u8]) -> bool
     ensures { IsTrue result ↔ IsFreeWord text.now }
 {
@@ -34,14 +34,14 @@ pub fn is_free_word(text: &[u8]) -> bool
     key_of(text).is_none()
 }
 
-/// Whether this is a name: a free word without a letter from a to z.
+/// Whether a text is a plain name: a free word without a letter from a to z.
 pub fn is_plain_name(text: &[u8]) -> bool
     ensures { IsTrue result ↔ IsPlainName text.now }
 {
     is_free_word(text) && has_no_small(text)
 }
 
-// Whether this stands after `[` in the name of a table's cell, as `12]`.
+// Whether a text can follow `[` in the name of a table's cell, as `12]` does.
 fn is_index(text: &[u8]) -> bool
     ensures { result ≡ is_index text.now }
 {
@@ -51,7 +51,7 @@ fn is_index(text: &[u8]) -> bool
     }
 }
 
-/// Whether this is the name of a cell.
+/// Whether a text is a cell's name: a plain name, or one with an index, as `T[1]`.
 pub fn is_cell_name(text: &[u8]) -> bool
     ensures { IsTrue result ↔ IsCellName text.now }
 {

@@ -7,10 +7,10 @@ ghost use Rattle.code_file.specs.inner.Spelled.{number, number_after, register, 
 use m_fixed::{Amount, Value};
 use m_text::is_digit;
 
-/// More millionths than any amount has.
+/// One more than the greatest amount, in millionths.
 const TOO_MANY: u64 = 10_000_000_000_000_000_001;
 
-/// The number that digits without needless zeros spell, where it is below a bound.
+/// The number of a decimal text without leading zeros, if it is below `below`.
 pub fn number(text: &[u8], below: u64) -> Option<u64>
     requires some { 0 < below }
     requires few { below ≤ 10000000000000000001 }
@@ -29,7 +29,7 @@ pub fn number(text: &[u8], below: u64) -> Option<u64>
     }
 }
 
-// The number that digits spell, where it is below a bound.
+// The number of a decimal text, if it is below `below`. Leading zeros are accepted.
 fn digits(text: &[u8], below: u64) -> Option<u64>
     requires some { 0 < below }
     requires few { below ≤ 10000000000000000001 }
@@ -50,7 +50,7 @@ fn digits(text: &[u8], below: u64) -> Option<u64>
     Some(number)
 }
 
-/// The number of a register.
+/// A register's number, below 16.
 pub fn register(text: &[u8]) -> Option<u8>
     ensures value { result ≡ register text.now }
 {
@@ -60,7 +60,7 @@ pub fn register(text: &[u8]) -> Option<u8>
     }
 }
 
-/// A number of 32 bits.
+/// A number below 2^32.
 pub fn short(text: &[u8]) -> Option<u32>
     ensures value { result ≡ short text.now }
 {
@@ -70,7 +70,7 @@ pub fn short(text: &[u8]) -> Option<u32>
     }
 }
 
-// Whole millionths, with `-` before a negative number.
+// An amount in whole millionths, with `-` before a negative one.
 fn millionths(text: &[u8]) -> Option<Amount>
     ensures { result ≡ millionths text.now }
 {
@@ -104,7 +104,7 @@ fn above_zero(size: u64) -> Option<Amount>
     Amount::new(size as i128)
 }
 
-/// A literal: `undef`, `over`, or whole millionths.
+/// A literal: `undef`, `over`, or an amount in whole millionths.
 pub fn literal(text: &[u8]) -> Option<Value>
     ensures { result ≡ literal text.now }
 {

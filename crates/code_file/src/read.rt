@@ -22,11 +22,12 @@ use observables::{Coded, Face};
 use reg_machine::{CodeBuilder, Wrong};
 use std::alloc::Global;
 
-/// The code and the face of a code file, or its first fault. It goes over the bytes once, and takes room for what it gives and
-/// none for a number that is written.
+/// Parses a code file into code and face, or reports its first fault. It goes over the bytes once.
+/// The memory it takes depends on the lines of the file, not on the numbers in them.
 ///
-/// Of the lines `mcode 1`, `slots 0`, `output A`, `code`, `lit 0 undef`, `out 0 0` and `end` it is the code with one output,
-/// which is undefined. Without `lit 0 undef` it is `BadOrder(5)`, and without `end` it is `BadLine(7)`.
+/// The lines `mcode 1`, `slots 0`, `output A`, `code`, `lit 0 undef`, `out 0 0` and `end` are code
+/// with one output, which is undefined. Without `lit 0 undef` the result is `BadOrder(5)`, and
+/// without `end` it is `BadLine(7)`.
 pub fn read_code(alloc: Global, bytes: &[u8]) -> Result<Loaded, CodeFault>
     requires { length bytes.now ≤ CODE_FILE_BYTES }
     ensures { Outcome Memory result (IsFormOf bytes.now) (IsCodeFault bytes.now) }
@@ -42,7 +43,7 @@ pub fn read_code(alloc: Global, bytes: &[u8]) -> Result<Loaded, CodeFault>
     }
 }
 
-// The count of slots whose line stands first, and what stands after it.
+// The slot count of the first line, and the bytes after that line.
 fn next_slots(text: &[u8]) -> Option<(u32, &[u8])>
     ensures { MatchOption result (IsNoFront slots_line IsShort text.now) (λ p. IsFront slots_line IsShort text.now p.0 p.1.now) }
 {
@@ -55,7 +56,7 @@ fn next_slots(text: &[u8]) -> Option<(u32, &[u8])>
     }
 }
 
-// Reads on after the first line.
+// Continues after the first line.
 fn read_slots(alloc: Global, bytes: &[u8], rest: &[u8]) -> Result<Loaded, CodeFault>
     requires few { length bytes.now ≤ CODE_FILE_BYTES }
     requires text { bytes.now ≡ codes "mcode 1\n" ++ rest.now }
@@ -67,7 +68,7 @@ fn read_slots(alloc: Global, bytes: &[u8], rest: &[u8]) -> Result<Loaded, CodeFa
     }
 }
 
-// Reads on after the count of slots.
+// Continues after the slot count.
 fn read_codes(alloc: Global, bytes: &[u8], slots: u32, rest: &[u8]) -> Result<Loaded, CodeFault>
     requires few { length bytes.now ≤ CODE_FILE_BYTES }
     requires text { bytes.now ≡ face_text slots [] [] [] rest.now }
@@ -80,7 +81,7 @@ fn read_codes(alloc: Global, bytes: &[u8], slots: u32, rest: &[u8]) -> Result<Lo
     }
 }
 
-// Reads on after the inputs.
+// Continues after the inputs.
 fn read_face(
     alloc: Global,
     bytes: &[u8],
@@ -105,7 +106,7 @@ fn read_face(
     read_start(alloc, bytes, slots, face, behind)
 }
 
-// Reads on after the outputs.
+// Continues after the outputs.
 fn read_start(
     alloc: Global,
     bytes: &[u8],
@@ -135,7 +136,7 @@ fn read_start(
     }
 }
 
-// What is wrong with an instruction, as a fault of its line.
+// Maps an invalid instruction to the fault of its line.
 fn fault_of(wrong: Wrong, line: u32) -> CodeFault
     ensures { result ≡ fault_of wrong line }
 {
@@ -145,7 +146,7 @@ fn fault_of(wrong: Wrong, line: u32) -> CodeFault
     }
 }
 
-// Reads on after `code`, of which so many lines came.
+// Continues after the line `code`; `line` lines were read.
 fn read_instrs(
     bytes: &[u8],
     slots: u32,
@@ -188,7 +189,7 @@ fn read_instrs(
     }
 }
 
-// The code and the face at the line `end`, before which so many lines came.
+// The loaded code at the line `end`, before which `line` lines were read.
 fn finish(
     bytes: &[u8],
     slots: u32,

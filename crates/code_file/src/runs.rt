@@ -1,4 +1,4 @@
-//! The lines of a face, as many as stand there.
+//! Parses runs of lines of one kind in a face.
 ghost use Rattle.std.specs.Prelude.{◌≡◌, ◌<◌, IfOk, MatchOption, length, is_some};
 ghost use Rattle.m_names.specs.Names.{AreDistinct};
 ghost use Rattle.observables.specs.Inputs.{codes_of};
@@ -12,7 +12,7 @@ use m_names::{Key, Names, NamesDigest};
 use observables::{Coded, FaceLabel, FaceOutput};
 use std::alloc::{AllocError, Global};
 
-// The input whose line stands first, and what stands after it.
+// The input of the first line, and the bytes after that line.
 fn next_input(alloc: Global, text: &[u8]) -> Result<Option<(Coded, &[u8])>, AllocError>
     ensures { IfOk result (λ o. MatchOption o (IsNoFront input_line IsRightInput text.now) (λ p. IsFront input_line IsRightInput text.now p.0 p.1.now)) }
 {
@@ -25,7 +25,7 @@ fn next_input(alloc: Global, text: &[u8]) -> Result<Option<(Coded, &[u8])>, Allo
     }
 }
 
-/// The inputs whose lines stand first, and what stands after them.
+/// The inputs of the longest run of `input` lines at the start, and the bytes after them.
 pub fn read_inputs(alloc: Global, text: &[u8]) -> Result<(Vec<Coded>, &[u8]), AllocError>
     ensures { IfOk result (λ r. IsRun input_line IsRightInput text.now r.0.items r.1.now) }
 {
@@ -42,7 +42,7 @@ pub fn read_inputs(alloc: Global, text: &[u8]) -> Result<(Vec<Coded>, &[u8]), Al
     }
 }
 
-// The label whose line stands first, and what stands after it.
+// The label of the first line, and the bytes after that line.
 fn next_label(alloc: Global, text: &[u8]) -> Result<Option<(FaceLabel, &[u8])>, AllocError>
     ensures { IfOk result (λ o. MatchOption o (IsNoFront label_line IsRightLabel text.now) (λ p. IsFront label_line IsRightLabel text.now p.0 p.1.now)) }
 {
@@ -55,7 +55,7 @@ fn next_label(alloc: Global, text: &[u8]) -> Result<Option<(FaceLabel, &[u8])>, 
     }
 }
 
-/// The labels whose lines stand first, and what stands after them.
+/// The labels of the longest run of `label` lines at the start, and the bytes after them.
 pub fn read_labels(alloc: Global, text: &[u8]) -> Result<(Vec<FaceLabel>, &[u8]), AllocError>
     ensures { IfOk result (λ r. IsRun label_line IsRightLabel text.now r.0.items r.1.now) }
 {
@@ -72,7 +72,7 @@ pub fn read_labels(alloc: Global, text: &[u8]) -> Result<(Vec<FaceLabel>, &[u8])
     }
 }
 
-// The output whose line stands first, and what stands after it.
+// The output of the first line, and the bytes after that line.
 fn next_output(alloc: Global, text: &[u8]) -> Result<Option<(FaceOutput, &[u8])>, AllocError>
     ensures { IfOk result (λ o. MatchOption o (IsNoFront output_line IsRightOutput text.now) (λ p. IsFront output_line IsRightOutput text.now p.0 p.1.now)) }
 {
@@ -85,7 +85,7 @@ fn next_output(alloc: Global, text: &[u8]) -> Result<Option<(FaceOutput, &[u8])>
     }
 }
 
-// Whether a label tells a verification.
+// Whether the label with this number is that of a verification.
 fn is_verif(labels: &[FaceLabel], number: u32) -> bool
     ensures { result ≡ is_some (verif_at labels.now number) }
 {
@@ -96,7 +96,8 @@ fn is_verif(labels: &[FaceLabel], number: u32) -> bool
     }
 }
 
-// Whether an output may stand after others, where one of them is a name or none is.
+// Whether an output may follow others. `named` is whether one of them has a name: after a name
+// there is no note.
 fn may_follow(labels: &[FaceLabel], named: bool, output: &FaceOutput) -> bool
     ensures { result ≡ may_follow labels.now named output.now }
 {
@@ -106,7 +107,7 @@ fn may_follow(labels: &[FaceLabel], named: bool, output: &FaceOutput) -> bool
     }
 }
 
-// Whether an output is a name.
+// Whether an output has a name.
 fn is_name(output: &FaceOutput) -> bool
     ensures { result ≡ is_name output.now }
 {
@@ -116,7 +117,8 @@ fn is_name(output: &FaceOutput) -> bool
     }
 }
 
-/// The outputs whose lines stand first and may stand there, and what stands after them.
+/// The outputs of the longest valid run of `output` and `note` lines at the start, and the bytes
+/// after them.
 pub fn read_outputs<'a>(
     alloc: Global,
     labels: &[FaceLabel],
@@ -142,7 +144,7 @@ pub fn read_outputs<'a>(
     }
 }
 
-// The key of the codes of inputs.
+// A hash key made from all codes, so that codes can't be chosen to collide.
 fn key_of(inputs: &[Coded]) -> Key {
     let mut digest = NamesDigest::new();
     for k in 0..inputs.len() {
@@ -151,7 +153,7 @@ fn key_of(inputs: &[Coded]) -> Key {
     digest.key()
 }
 
-/// The number of the first input whose code stands before it, if there is one.
+/// The index of the first input whose code an earlier input has.
 pub fn first_again(alloc: Global, inputs: &[Coded]) -> Result<Option<u32>, AllocError>
     requires { length inputs.now < 4294967296 }
     ensures { IfOk result (λ o. MatchOption o (AreDistinct (codes_of inputs.now)) (λ k. IsAgain (codes_of inputs.now) k)) }

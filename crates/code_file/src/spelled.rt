@@ -1,4 +1,4 @@
-//! The instruction that a line spells.
+//! Parses lines of instructions.
 ghost use Rattle.std.specs.Prelude.{◌≡◌, Some, None};
 ghost use Rattle.std.specs.Option.{option_and_then};
 ghost use Rattle.m_fixed.specs.Operators.{arity_of};
@@ -12,7 +12,7 @@ use crate::words::op_word;
 use m_fixed::{Op, arity};
 use reg_machine::Instr;
 
-// The operators, the frequent ones first.
+// The operators, in about the order of how frequent they are.
 const OPERATORS: [Op; 26] = [
     Op::Add,
     Op::Sub,
@@ -42,7 +42,7 @@ const OPERATORS: [Op; 26] = [
     Op::At,
 ];
 
-// The operator that has this word.
+// The operator with this word.
 fn operator(word: &[u8]) -> Option<Op>
     ensures { result ≡ op_among operators word.now }
 {
@@ -54,7 +54,8 @@ fn operator(word: &[u8]) -> Option<Op>
     None
 }
 
-// The arguments of an operator: those past its arity are the first.
+// The operator instruction with these arguments. The machine has three argument registers; those
+// past the operator's arity repeat the first.
 fn arguments(op: Op, r: u8, text: &[u8]) -> Option<Instr>
     ensures { result ≡ arguments op (arity_of op) r text.now }
 {
@@ -76,7 +77,8 @@ fn arguments(op: Op, r: u8, text: &[u8]) -> Option<Instr>
     Some(Instr::Do(op, r, a, b, c))
 }
 
-// What stands after `do`: a register, an operator and its arguments.
+// The instruction whose line has `first` and `second` after `do`: a register, then an operator and
+// its arguments.
 fn operation(first: &[u8], second: &[u8]) -> Option<Instr>
     ensures { result ≡ operation (first.now, second.now) }
 {
@@ -136,7 +138,7 @@ fn check(over_only: bool, first: &[u8], second: &[u8]) -> Option<Instr>
     Some(Instr::Check(g, c, over_only, label))
 }
 
-// An instruction with two things after its word, or a check.
+// The instruction with this word, other than `do`: it has two operands, a check three.
 fn plain(word: &[u8], first: &[u8], second: &[u8]) -> Option<Instr>
     ensures { result ≡ plain word.now first.now second.now }
 {
@@ -159,7 +161,7 @@ fn plain(word: &[u8], first: &[u8], second: &[u8]) -> Option<Instr>
     }
 }
 
-/// The instruction that a line spells, if it spells one.
+/// The instruction of a line without its line feed, or `None`.
 pub fn instr_of(line: &[u8]) -> Option<Instr>
     ensures { result ≡ instr_of line.now }
 {

@@ -58,7 +58,7 @@ pub fn kind_word(kind: ErrorKind) -> &'static [u8]
     }
 }
 
-/// The word of an input's type, with the space before it.
+/// The word of an input's type, after a space; empty for `Any`.
 pub fn kind_words(kind: InputType) -> &'static [u8]
     ensures { result.now ≡ kind_words kind }
 {
@@ -69,7 +69,7 @@ pub fn kind_words(kind: InputType) -> &'static [u8]
     }
 }
 
-/// A hexadecimal digit.
+/// The hexadecimal digit of a number below 16.
 pub fn hex_digit(digit: u8) -> u8
     requires { digit < 16 }
     ensures { result ≡ hex_digit digit }

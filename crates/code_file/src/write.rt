@@ -1,4 +1,4 @@
-//! A code file, written.
+//! Writes code files.
 ghost use Rattle.std.specs.Prelude.{◌++◌, codes};
 ghost use Rattle.m_ports.specs.Giving.{Gives};
 ghost use Rattle.code_file.specs.Loading.{text_with};
@@ -13,10 +13,10 @@ use crate::loaded::Loaded;
 use m_ports::{Failed, Sink, give_pieces};
 use reg_machine::Code;
 
-/// Writes the text of code with its face. On a failure a prefix of the text was appended. It takes no memory.
+/// Writes loaded code as text. On a failure a prefix of the text was appended. It takes no memory.
 ///
-/// Where the face is printable the text is the form of the code, so `read_code` gives this code with this face of it. Whether the
-/// write failed or not, this is so of the whole text.
+/// If the face is printable the text is the form of the code, so `read_code` gives back the same
+/// code and face. `form` is about the whole text, even if a write failed.
 pub fn write_code<K: Sink>(loaded: &Loaded, out: &mut K) -> Result<(), Failed>
     ensures text { Gives K.written K.faults out.old out.new result (text_with loaded.now.code loaded.now.face) }
     ensures form { IsPrintable loaded.now.face → IsFormOf (text_with loaded.now.code loaded.now.face) loaded.now }

@@ -7,7 +7,7 @@ use Rattle.m_names.proofs.Distinct.{take-added}
 use Rattle.observables.specs.declared.inputs.Coded.{Coded}
 use Rattle.observables.specs.Inputs.{codes_of}
 
--- a code more
+-- one more code
 pub codes_next : (inputs : List Coded) (i : ℕ) (input d : Coded) (known new : List (List ℕ)) (code : List ℕ) (fresh : Bool) → AreDistinct (codes_of inputs)
     → i < length inputs
     → input ≡ get_or inputs i d → code ≡ input.code → known ≡ take i (codes_of inputs) → fresh ≡ not (has code known)

@@ -1,4 +1,5 @@
--- The inputs of a table's columns and rows: they are known, and none stands twice in a row. The amounts are of their types.
+-- The inputs of a table's columns and rows: they are known, and none occurs twice in a row. The
+-- amounts are of their types.
 use Rattle.std.proofs.Common.{◌≡◌, ◌≢◌, ℕ, ℤ, ◌<◌, List, [], ◌∷◌, ◌++◌, length, Option, Some, None, Result, Ok, Err, Bool, true, false, cond, eqb, leb, refl}
 use Rattle.std.proofs.Common.{sym, subst, ap, ◌∙◌, append_assoc}
 use mathlib.Core.Bool.{◌&&◌}
@@ -21,12 +22,12 @@ use Rattle.household.specs.Household.{AreDifferent, AreInputs, AreOfTypes, input
 use Rattle.household.specs.Table.{parsed_amount, are_fitting, cells_read, column_of, fitting_pairs, is_label, labelled, new_column, pairs_read, table_row}
 use Rattle.household.proofs.InputLemmas.{AllByRecursion-push, AreDifferent-push, code_known, if_ok, inputs_of-push, other_than_error, read_before, turns_keep}
 
--- numbers below n, none of which stands twice
+-- distinct numbers below n
 pub record AreColumns (n : ℕ) (columns : List ℕ) : Type 0 where
   pub known : AllByRecursion (λ input. input < n) columns
   pub once : AreDifferent columns
 
--- without one in the midst, and without the last ones
+-- a property of all elements, after removal of one and of the last ones
 All-without : {X : Type 0} (P : X → Type 0) (xs ys : List X) (x : X) → AllByRecursion P (xs ++ x ∷ ys) → AllByRecursion P (xs ++ ys)
 All-without P [] ys x h = h.1
 All-without P (y ∷ xs) ys x h = (h.0, All-without P xs ys x h.1)
@@ -162,7 +163,7 @@ row_of_types inputs line columns fields row h =
     let r = row_pairs inputs line columns fields row h in
     all_of_types inputs row.household.pairs (cells_amounts line [] columns r.0 row.household.pairs tt r.1) r.2
 
--- what each row of a table has, all do
+-- a property of each row that is read holds of all rows
 rows_each : (inputs : List Coded) (columns : List ℕ) (P : Row → Type 0)
     → ((line : ℕ) (fields : List (List ℕ)) (row : Row) → labelled inputs line columns fields ≡ Ok row → P row)
     → (records : List (List (List ℕ))) (rows : List Row) → in_turn (table_row inputs columns) [] records ≡ Ok rows → AllByRecursion P rows

@@ -1,4 +1,4 @@
--- Going over records without reading them.
+-- Going over records without parsing them.
 use Rattle.std.proofs.Common.{◌≡◌, ℕ, ◌+◌, ◌-◌, ◌*◌, ◌<◌, ◌≤◌, zero, suc, List, [], ◌∷◌, ◌++◌, length, length-append, length-drop, get_or, drop, refl, sym, ap}
 use Rattle.std.proofs.Common.{subst, ◌∙◌, arith}
 use Rattle.std.proofs.lemmas.List.{drop-drop, drop_all}
@@ -29,7 +29,7 @@ over_line bytes at end q far within line = by (end - at) refl line
           (over.0, over.1 ∙ ap (λ l. over.0 ∷ records_from_state st.StartRecord [] [] l) there),
         )
 
--- a line without bytes is no record
+-- an empty line is no record
 pub over_empty : (bytes : List ℕ) (at end : ℕ) → at < length bytes → end ≡ at → IsLine (end - at) (drop at bytes) → left_at bytes (suc at) ≡ left_at bytes at
 over_empty bytes at end below same line =
     let none : end - at ≡ 0 = omega (arith, same) in
@@ -37,7 +37,7 @@ over_empty bytes at end below same line =
     let ends = subst IsLineEnd here (subst (λ n. IsLine n (drop at bytes)) none line) in
     sym (ap (records_from_state st.StartRecord [] []) here ∙ skips_end (get_or bytes at 0) (drop (suc at) bytes) ends)
 
--- nothing is left at the end of the bytes
+-- no record is left at the end of the bytes
 pub at_end : (bytes : List ℕ) (at : ℕ) → length bytes ≤ at → left_at bytes at ≡ []
 at_end bytes at past = ap (records_from_state st.StartRecord [] []) (drop_all at bytes past)
 
@@ -48,13 +48,13 @@ end_is_cut bytes at e = record { within = omega (arith, e); ends = subst IsLineE
 pub read_from : (bytes : List ℕ) (cut : ℕ) → IsCut bytes cut → records_of (drop cut bytes) ≡ left_at bytes cut
 read_from bytes cut is = sym (records_are_left (drop cut bytes)) ∙ ap (records_from_state st.StartRecord [] []) (no_mark_there (drop cut bytes) is.ends)
 
--- where the first record begins, all are left
+-- at the start of the first record all records are left
 pub all_left : (bytes : List ℕ) (start : ℕ) → drop start bytes ≡ strip_bom bytes → left_at bytes start ≡ records_of bytes
 all_left bytes start e = ap (records_from_state st.StartRecord [] []) e ∙ records_are_left bytes
 
 -- ---- many records
 
--- what a list has from a place on, where it has an element there
+-- a list from a position on, where that position has an element
 drop_begun : {A : Type 0} (i : ℕ) (left new : List A) (x : A) → drop i left ≡ x ∷ new → (new ≡ drop (suc i) left) × (suc i ≤ length left)
 drop_begun zero left new x e = (
   let cut : drop 1 left ≡ new = ap (λ l. drop 1 l) e in sym cut,
@@ -64,26 +64,26 @@ drop_begun zero left new x e = (
 drop_begun (suc i) [] new x e = absurd (cc)
 drop_begun (suc i) (y ∷ left) new x e = let more = drop_begun i left new x e in (more.0, omega (arith, more.1))
 
--- one more record was gone over
+-- one more record
 pub over_next : (i next : ℕ) (left here new : List (List (List ℕ))) → next ≡ suc i → here ≡ drop i left → ((read : List (List ℕ)) × (here ≡ read ∷ new))
     → (new ≡ drop next left) × (next ≤ length left)
 over_next i next left here new n h e = subst (λ k. (new ≡ drop k left) × (k ≤ length left)) (sym n) (drop_begun i left new e.0 (sym h ∙ e.1))
 
--- there was none
+-- no more records
 pub over_none : (i count : ℕ) (left here : List (List (List ℕ))) → here ≡ drop i left → here ≡ [] → i < count → length left < count
 over_none i count left here h none below =
     let dropped = length-drop i left in
     let long : length (drop i left) ≡ 0 = ap length (sym h ∙ none) in
     omega (arith, dropped, long, below)
 
--- after some records fewer are left
+-- after at least one record fewer are left
 pub fewer : (count : ℕ) (old new : List (List (List ℕ))) → 0 < count → (new ≡ drop count old) × (count ≤ length old) → length new < length old
 fewer count old new some e =
     let dropped = length-drop count old in
     let long : length new ≡ length (drop count old) = ap length e.0 in
     omega (arith, dropped, long, some, e.1)
 
--- what holds at each place of a list, with one more
+-- a property of each position of a list, extended by one element
 each_push : {A : Type 0} (P : ℕ → A → Type 0) (xs : List A) (x : A) → ((n : ℕ) (d : A) → n < length xs → P n (get_or xs n d)) → P (length xs) x
     → (n : ℕ) (d : A) → n < length (xs ++ x ∷ []) → P n (get_or (xs ++ x ∷ []) n d)
 each_push P [] x each last zero d h = last
@@ -91,7 +91,7 @@ each_push P [] x each last (suc n) d h = absurd (omega (arith, h))
 each_push P (y ∷ xs) x each last zero d h = each 0 d (omega arith)
 each_push P (y ∷ xs) x each last (suc n) d h = each_push (λ m. P (suc m)) xs x (λ m e k. each (suc m) e (omega (arith, k))) last n d (omega (arith, h))
 
--- the cuts so far, and the last one of them
+-- the cuts so far, the last of which is `cut`
 pub record CutsTo (bytes : List ℕ) (records : List (List (List ℕ))) (cuts : List ℕ) (cut : ℕ) : Type 0 where
   pub each : (n d : ℕ) → n < length cuts → IsCutAfter bytes records (n * BETWEEN) (get_or cuts n d)
   pub here : (n : ℕ) → length cuts ≡ suc n → IsCutAfter bytes records (n * BETWEEN) cut

@@ -1,4 +1,4 @@
--- What households and rows of tables give the inputs are values that programs are asked for.
+-- The values that households and rows of tables give the inputs are ones that the inputs may have.
 use Rattle.std.proofs.Common.{◌≡◌, ℕ, ℤ, ◌+◌, List, [], ◌∷◌, length, suc, Ok, Bool, true, false, cond, eqb, refl, subst, ap, ◌∙◌, arith}
 use Rattle.std.specs.Prelude.{drop, map}
 use Rattle.std.specs.List.{AllByRecursion, range_with_len}
@@ -15,7 +15,7 @@ use Rattle.household.specs.Table.{column_of, is_table_header, rows_read, table_o
 use Rattle.household.proofs.InputLemmas.{household_types, if_ok, read_before}
 use Rattle.household.proofs.ColumnLemmas.{table_types}
 
--- ---- what pairs of their inputs' types give
+-- ---- values of pairs of the inputs' types
 
 given : (all : List Coded) (pairs : List (ℕ × ℤ)) (input : ℕ) → AreOfTypes all pairs → IsValueOf (input_type all input) (value_at pairs input)
 given all [] input h = tt
@@ -26,7 +26,7 @@ given all (pair ∷ pairs) input h = by (eqb pair.0 input) refl (given all pairs
     by true e rest = subst (λ (n : ℕ). IsValueOf (input_type all n) (Num pair.1)) (eqb-true pair.0 input e) h.0
     by false e rest = rest
 
--- the inputs from one of them on
+-- the inputs from a number on
 given_from : (all inputs : List Coded) (from : ℕ) (pairs : List (ℕ × ℤ)) → ((k : ℕ) → input_type all (from + k) ≡ input_type inputs k) → AreOfTypes all pairs
     → AreValuesOf inputs (map (value_at pairs) (range_with_len from (length inputs)))
 given_from all [] from pairs same h = tt
@@ -36,11 +36,11 @@ given_from all (input ∷ inputs) from pairs same h =
       given_from all inputs (from + 1) pairs (λ k. ap (input_type all) (omega arith) ∙ same (suc k)) h,
     )
 
--- Pairs whose amounts are of their inputs' types give values that programs with these inputs are asked for.
+-- Pairs with amounts of their inputs' types give values that the inputs may have.
 pub pairs_give : (inputs : List Coded) (pairs : List (ℕ × ℤ)) → AreOfTypes inputs pairs → AreValuesOf inputs (values_of pairs (length inputs))
 pairs_give inputs pairs h = given_from inputs inputs 0 pairs (λ k. ap (input_type inputs) (omega arith)) h
 
--- ---- a household's, and a table's
+-- ---- a household and a table
 
 pub read_types : (inputs : List Coded) (bytes : List ℕ) (pairs : List (ℕ × ℤ)) → household_of inputs bytes ≡ Ok pairs → AreOfTypes inputs pairs
 read_types inputs bytes pairs h = by (records_of bytes) h

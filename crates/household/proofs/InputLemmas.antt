@@ -1,4 +1,4 @@
--- The inputs of pairs: they are known, and none stands twice. The amounts are of their types.
+-- The inputs of pairs are known, and none occurs twice. The amounts are of their types.
 use Rattle.std.proofs.Common.{◌≡◌, ◌≢◌, ℕ, ℤ, ◌<◌, List, [], ◌∷◌, ◌++◌, length, Option, Some, None, Result, Ok, Err, Bool, true, false, cond, eqb, leb, refl}
 use Rattle.std.proofs.Common.{sym, subst, ap, ◌∙◌}
 use Rattle.std.proofs.lemmas.Bool.{eqb-false, or_parts}
@@ -31,7 +31,7 @@ AreDifferent-push (m ∷ ms) n e h =
 pub inputs_of-push : (pairs : List (ℕ × ℤ)) (pair : ℕ × ℤ) → inputs_of (pairs ++ pair ∷ []) ≡ inputs_of pairs ++ pair.0 ∷ []
 inputs_of-push pairs pair = map_push (λ p. p.0) pairs pair
 
--- one more pair, of a known input that isn't there
+-- one more pair, of a known input that didn't occur
 AreInputs-push : (n : ℕ) (pairs : List (ℕ × ℤ)) (pair : ℕ × ℤ) → AreInputs n pairs → pair.0 < n → is_input_among pair.0 (inputs_of pairs) ≡ false
     → AreInputs n (pairs ++ pair ∷ [])
 AreInputs-push n pairs pair h l e = record {
@@ -40,7 +40,7 @@ AreInputs-push n pairs pair h l e = record {
   once = subst AreDifferent (sym (inputs_of-push pairs pair)) (AreDifferent-push (inputs_of pairs) pair.0 e h.once);
 }
 
--- a choice that isn't an error is the other
+-- a conditional that is no error is its other branch
 pub other_than_error : {T E : Type 0} (b : Bool) (e : E) (r : Result T E) (t : T) → cond b (Err e) r ≡ Ok t → (b ≡ false) × (r ≡ Ok t)
 other_than_error true e r t h = cc
 other_than_error false e r t h = (refl, h)
@@ -49,16 +49,16 @@ pub read_before : {B C F : Type 0} (next : B → Result C F) (r : Result B F) (c
 read_before next (Ok b) c h = (b, refl, h)
 read_before next (Err e) c h = cc h
 
--- a choice that isn't the error is what is read
+-- the same for an error as the first branch
 pub if_ok : {T E : Type 0} (b : Bool) (r : Result T E) (e : E) (t : T) → cond b r (Err e) ≡ Ok t → (b ≡ true) × (r ≡ Ok t)
 if_ok true r e t h = (refl, h)
 if_ok false r e t h = cc h
 
--- the number of a code is below the count of the inputs
+-- the number of a code is below the number of inputs
 pub code_known : (inputs : List Coded) (code : List ℕ) (number : ℕ) → index_of code (codes_of inputs) ≡ Some number → number < length inputs
 code_known inputs code number h = subst (λ n. number < n) (length-map inputs (λ (input : Coded). input.code)) (index_of-some code (codes_of inputs) number h).1
 
--- the input of a pair is known, and it has an amount
+-- the input of a pair is known, and its value is an amount
 stated_known : (n line : ℕ) (o : Option ℕ) (r : Result ℤ AmountFault) (pair : ℕ × ℤ) → parsed_pair line o r ≡ Ok pair → ((i : ℕ) → o ≡ Some i → i < n)
     → pair.0 < n
 stated_known n line None r pair h k = cc h
@@ -73,7 +73,7 @@ stated_amount line o stated pair h = by o (amount_read stated) refl h
     by (Some input) (Err why) e g = cc g
     by (Some input) (Ok z) e g = let same : z ≡ pair.1 = cc in subst IsAmount same (read_amount stated z e)
 
--- what two fields that are read say: a pair, and its amount is of its input's type
+-- the parts of two fields that are read as a pair of its input's type
 pub two_parts : (inputs : List Coded) (line : ℕ) (code amount : List ℕ) (pair : ℕ × ℤ) → pair_of inputs line (code ∷ amount ∷ []) ≡ Ok pair
     → (parsed_pair line (index_of code (codes_of inputs)) (amount_read (text_value amount)) ≡ Ok pair) × (is_fitting inputs pair ≡ true)
 two_parts inputs line code amount pair h =
@@ -99,7 +99,7 @@ pair_of_type inputs line (code ∷ amount ∷ []) pair h =
     (stated_amount line (index_of code (codes_of inputs)) (text_value amount) pair parts.0, parts.1)
 pair_of_type inputs line (code ∷ amount ∷ more ∷ rest) pair h = cc h
 
--- what a row that is read says
+-- the parts of a row that is read
 pub row_parts : (inputs : List Coded) (before : List (ℕ × ℤ)) (fields : List (List ℕ)) (pair : ℕ × ℤ) → row_of inputs before fields ≡ Ok pair
     → (leb ROWS (length before) ≡ false) × (pair_of inputs (line_behind (length before)) fields ≡ Ok pair) × (is_input_among pair.0 (inputs_of before) ≡ false)
 row_parts inputs before fields pair h =
@@ -110,7 +110,7 @@ row_parts inputs before fields pair h =
     let same : b.0 ≡ pair = cc d.1 in
     (a.0, b.1 ∙ ap Ok same, subst (λ (p : ℕ × ℤ). is_input_among p.0 (inputs_of before) ≡ false) same d.0)
 
--- what each value that is read keeps, all do
+-- a property that each read keeps holds of all values
 pub turns_keep : {A B F : Type 0} (read : List B → A → Result B F) (Q : List B → Type 0)
     → ((before : List B) (thing : A) (value : B) → Q before → read before thing ≡ Ok value → Q (before ++ value ∷ []))
     → (before : List B) (things : List A) (values : List B) → Q before → in_turn read before things ≡ Ok values → Q values
@@ -119,7 +119,7 @@ turns_keep read Q keeps before (thing ∷ things) values q h =
     let r = read_before (λ value. in_turn read (before ++ value ∷ []) things) (read before thing) values h in
     turns_keep read Q keeps (before ++ r.0 ∷ []) things values (keeps before thing r.0 q r.1) r.2
 
--- the pairs of a household are of its inputs, and of their types
+-- the pairs of a household have known inputs, and amounts of their types
 pub household_inputs : (inputs : List Coded) (rows : List (List (List ℕ))) (pairs : List (ℕ × ℤ)) → in_turn (row_of inputs) [] rows ≡ Ok pairs
     → AreInputs (length inputs) pairs
 household_inputs inputs rows pairs h =

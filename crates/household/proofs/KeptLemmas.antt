@@ -1,4 +1,4 @@
--- Inputs whose codes and types are kept apart.
+-- Inputs as separate lists of codes and types.
 use Rattle.std.proofs.Common.{◌≡◌, ℕ, ◌<◌, ◌≤◌, zero, suc, List, [], ◌∷◌, length, get_or, Some, None, refl, sym, ap, ◌∙◌, arith}
 use Rattle.std.specs.Prelude.{map, slice_get}
 use Rattle.std.proofs.lemmas.Option.{slice_get-get_or, slice_get_past}
@@ -32,7 +32,7 @@ none_kept (code ∷ codes) [] number none = refl
 none_kept (code ∷ codes) (k ∷ kinds) zero none = absurd (cc none)
 none_kept (code ∷ codes) (k ∷ kinds) (suc number) none = none_kept codes kinds number none
 
--- the type of a number that an input has, and of one that none has, as code reads them
+-- the type for a number with or without an input, as the code looks it up
 pub type_read : (codes : List (List ℕ)) (kinds read : List InputType) (number : ℕ) (kind : InputType) → length kinds ≡ length codes → read ≡ kinds
     → number < length read
     → kind ≡ get_or read number kind → input_type (inputs_kept codes kinds) number ≡ kind
@@ -43,7 +43,7 @@ pub none_read : (codes : List (List ℕ)) (kinds read : List InputType) (number 
     → input_type (inputs_kept codes kinds) number ≡ Any
 none_read codes kinds read number same past = none_kept codes kinds number (ap (λ l. slice_get l number) (sym same) ∙ slice_get_past read number past)
 
--- the inputs themselves
+-- the inputs are recovered from their codes and types
 pub kept_whole : (inputs : List Coded) → inputs_kept (codes_of inputs) (map (λ (input : Coded). input.kind) inputs) ≡ inputs
 kept_whole [] = refl
 kept_whole (input ∷ inputs) = ap (λ (is : List Coded). input ∷ is) (kept_whole inputs)

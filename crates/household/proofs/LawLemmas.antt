@@ -21,7 +21,7 @@ use Rattle.household.specs.Table.{column_of, is_table_header, rows_read, table_o
 use Rattle.household.specs.Refusals.{LacksHeader, IsRefusedHousehold, IsRefusedTable, no_header, at_row, no_table_header, at_column, at_table_row}
 use Rattle.household.proofs.InputLemmas.{household_inputs, if_ok, read_before, row_parts, turns_keep, two_parts}
 
--- each thing says its value
+-- each element is read as its value
 pub turns_each : {A B F : Type 0} (read : List B → A → Result B F) (P : A → B → Type 0)
     → ((before : List B) (thing : A) (value : B) → read before thing ≡ Ok value → P thing value)
     → (before : List B) (things : List A) (values : List B) → in_turn read before things ≡ Ok values → (more : List B) × (values ≡ before ++ more)
@@ -32,7 +32,7 @@ turns_each read P says before (thing ∷ things) values h =
     let m = turns_each read P says (before ++ r.0 ∷ []) things values r.2 in
     (r.0 ∷ m.0, m.1 ∙ append_assoc before (r.0 ∷ []) m.0, (says before thing r.0 r.1, m.2))
 
--- things whose values are each of their own thing, after whatever is before them
+-- elements with their own values are read in order after any others
 pub turns_whole : {A B F : Type 0} (read : List B → A → Result B F) (P : A → B → Type 0) (Q : List B → Type 0)
     → ((before : List B) (thing : A) (value : B) (more : List B) → P thing value → Q (before ++ value ∷ more) → read before thing ≡ Ok value)
     → (before : List B) (things : List A) (values : List B) → AllZip P things values → Q (before ++ values) → in_turn read before things ≡ Ok (before ++ values)
@@ -44,7 +44,7 @@ turns_whole read P Q says before (thing ∷ things) (value ∷ values) z q =
     ∙ turns_whole read P Q says (before ++ value ∷ []) things values z.1 (subst Q (sym (append_assoc before (value ∷ []) values)) q)
     ∙ ap Ok (append_assoc before (value ∷ []) values)
 
--- the first that has a fault
+-- the first faulty element
 stopped : {B C F : Type 0} (next : B → Result C F) (r : Result B F) (fault : F) {P : Type 0} → if_read next r ≡ Err fault → (r ≡ Err fault → P)
     → ((b : B) → r ≡ Ok b → next b ≡ Err fault → P) → P
 stopped next (Ok b) fault h bad good = good b refl h
@@ -68,7 +68,7 @@ turns_stop {A} {B} {F} read before (thing ∷ things) fault h =
       bad = f.bad;
     })
 
--- a row by itself
+-- a row alone
 stated_parts : (line : ℕ) (o : Option ℕ) (r : Result ℤ AmountFault) (pair : ℕ × ℤ) → parsed_pair line o r ≡ Ok pair → (o ≡ Some pair.0) × (r ≡ Ok pair.1)
 stated_parts line None r pair h = cc h
 stated_parts line (Some i) (Err why) pair h = cc h
@@ -88,20 +88,20 @@ row_pair inputs line fields pair is =
     ap (pair_of inputs line) is.two ∙ (λ i. if_read (fitting_pair inputs line) (parsed_pair line (is.known i) (is.spelled i)))
     ∙ cond-true (is_fitting inputs pair) (Ok pair) (Err (NotOfType line)) is.fits
 
--- a choice between what is read and a fault
+-- a conditional between a result and a fault
 if_err : {T E : Type 0} (b : Bool) (r : Result T E) (e fault : E) {P : Type 0} → cond b r (Err e) ≡ Err fault → (b ≡ true → r ≡ Err fault → P)
     → (b ≡ false → e ≡ fault → P) → P
 if_err true r e fault h held failed = held refl h
 if_err false r e fault h held failed = let same : e ≡ fault = cc h in failed refl same
 
--- there is room where one more is not too many
+-- below the limit there is room for one more
 pub room : (n m : ℕ) → leb n m ≡ false → m < n
 room n m e = grind (arith, nat_tests)
 
 pub no_room : (n m : ℕ) → m < n → leb n m ≡ false
 no_room n m l = grind (arith, nat_tests)
 
--- where a value is read only after fewer than so many, there are no more than so many
+-- if each value is read only below a limit, their number is within it
 pub turns_few : {A B F : Type 0} (read : List B → A → Result B F) (most : ℕ) → ((before : List B) (thing : A) (value : B) → read before thing ≡ Ok value
     → leb most (length before) ≡ false)
     → (things : List A) (values : List B) → in_turn read [] things ≡ Ok values → length values ≤ most
@@ -109,11 +109,11 @@ turns_few read most free things values h =
     turns_keep read (λ before. length before ≤ most) (λ before thing value q e. let less = room most (length before) (free before thing value e) in omega
     (arith, less, length_push before value)) [] things values (omega arith) h
 
--- where there are no more than so many in all, there is room after the first of them
+-- if the total is within the limit, there is room after each prefix
 pub fewer : {X : Type 0} (most : ℕ) (xs ys : List X) (x : X) → length (xs ++ x ∷ ys) ≤ most → leb most (length xs) ≡ false
 fewer most xs ys x few = no_room most (length xs) (let long = length-append xs (x ∷ ys) in omega (arith, long, few))
 
--- what is read is a household
+-- bytes that are read as pairs are a household
 household_sound : (inputs : List Coded) (bytes : List ℕ) (records : List (List (List ℕ))) (pairs : List (ℕ × ℤ)) → records_of bytes ≡ records
     → household_read inputs records ≡ Ok pairs → IsHousehold inputs bytes pairs
 household_sound inputs bytes [] pairs e h = cc h
@@ -134,7 +134,7 @@ household_sound inputs bytes (first ∷ rows) pairs e h =
 pub read_household_is : (inputs : List Coded) (bytes : List ℕ) (pairs : List (ℕ × ℤ)) → household_of inputs bytes ≡ Ok pairs → IsHousehold inputs bytes pairs
 read_household_is inputs bytes pairs h = household_sound inputs bytes (records_of bytes) pairs refl h
 
--- a number that stands again is not different
+-- a number that occurs again isn't distinct
 pub inside : {X : Type 0} (P : X → Type 0) (xs ys : List X) (x : X) → AllByRecursion P (xs ++ x ∷ ys) → P x
 inside P [] ys x h = h.0
 inside P (y ∷ xs) ys x h = inside P xs ys x h.1
@@ -147,7 +147,7 @@ twice (m ∷ ms) ns n e h =
       | inr later ↦ twice ms ns n later h.1
     ]
 
--- a row that says a pair by itself says it in its turn
+-- a row that is a pair alone is read as that pair in order
 row_whole : (inputs : List Coded) (before : List (ℕ × ℤ)) (fields : List (List ℕ)) (pair : ℕ × ℤ) (more : List (ℕ × ℤ)) → IsRow inputs fields pair
     → AreDifferent (inputs_of (before ++ pair ∷ more)) × (length (before ++ pair ∷ more) ≤ ROWS) → row_of inputs before fields ≡ Ok pair
 row_whole inputs before fields pair more is all =
@@ -163,7 +163,7 @@ household_is_read inputs bytes pairs is =
     ∙ rw header (turns_whole (row_of inputs) (IsRow inputs) (λ ps. AreDifferent (inputs_of ps) × (length ps ≤ ROWS)) (row_whole inputs) [] is.rows pairs
     is.in_order (is.once, is.few))
 
--- why a household is refused
+-- why a household is rejected
 household_refused : (inputs : List Coded) (bytes : List ℕ) (records : List (List (List ℕ))) (fault : HouseholdFault) → records_of bytes ≡ records
     → household_read inputs records ≡ Err fault → IsRefusedHousehold inputs bytes fault
 household_refused inputs bytes [] fault e h =
@@ -178,7 +178,7 @@ pub household_fault_is : (inputs : List Coded) (bytes : List ℕ) (fault : House
     → IsRefusedHousehold inputs bytes fault
 household_fault_is inputs bytes fault h = household_refused inputs bytes (records_of bytes) fault refl h
 
--- why a table is refused
+-- why a table is rejected
 table_refused : (inputs : List Coded) (bytes : List ℕ) (records : List (List (List ℕ))) (fault : HouseholdFault) → records_of bytes ≡ records
     → table_read inputs records ≡ Err fault → IsRefusedTable inputs bytes fault
 table_refused inputs bytes [] fault e h =

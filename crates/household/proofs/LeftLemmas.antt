@@ -1,4 +1,4 @@
--- What a reader has left, from read to read.
+-- What a reader has left, from one read to the next.
 use Rattle.std.proofs.Common.{◌≡◌, ℕ, ◌+◌, ◌<◌, ◌≤◌, zero, suc, List, [], ◌∷◌, ◌++◌, length, Option, Some, None, Bool, true, false, get_or, drop, refl, sym, ap}
 use Rattle.std.proofs.Common.{subst, ◌∙◌, arith, cond}
 use Rattle.std.proofs.lemmas.Bool.{cond-true, cond-false}
@@ -31,7 +31,7 @@ next_and_behind s fields field (c ∷ rest) =
     ≡ records_next behind (cond b (Some (fields_after act fields field, s2, rest))
     (next_record default_config s2 (fields_after act fields field) (field_after act c field) rest))) [ true ↦ refl | false ↦ more ]
 
--- what a choice leaves is no longer than both of what it is made of
+-- a conditional leaves no more than its longer branch
 takes_by : (b : Bool) (q p : Read) (o : Option Read) (n : ℕ) → length q.2 ≤ n → (o ≡ Some p → length p.2 ≤ n) → cond b (Some q) o ≡ Some p → length p.2 ≤ n
 takes_by true q p o n l h e = let same : q ≡ p = cc in omega (arith, ap (λ (r : Read). length r.2) same)
 takes_by false q p o n l h e = h e
@@ -69,7 +69,7 @@ at_end : (b : Bool) (q p : Read) → cond b (Some q) None ≡ Some p → q ≡ p
 at_end true q p e = cc
 at_end false q p e = cc
 
--- with turns enough the crate's records are these
+-- with enough fuel the crate's records are these
 enough : (n : ℕ) (s : State) (bytes : List ℕ) → length bytes < n → records_from default_config n s bytes ≡ behind s bytes
 unfolding next_record records_from
 enough zero s bytes l = absurd (omega arith)
@@ -82,7 +82,7 @@ enough (suc n) s (c ∷ rest) l =
     same_next n (next_record default_config s [] [] (c ∷ rest)) (λ p e. let shorter = next_takes s [] [] c rest p e in enough n p.1 p.2 (omega arith))
     ∙ sym (next_and_behind s [] [] (c ∷ rest))
 
--- all records are those after the byte order mark
+-- the records are those after the byte order mark
 pub records_are_left : (bytes : List ℕ) → behind st.StartRecord (strip_bom bytes) ≡ records_of bytes
 records_are_left bytes = sym (enough (length (strip_bom bytes) + 1) st.StartRecord (strip_bom bytes) (omega arith))
 
@@ -103,7 +103,7 @@ no_mark (x ∷ []) h = refl
 no_mark (x ∷ y ∷ []) h = refl
 no_mark (x ∷ y ∷ z ∷ rest) h = sym (cond-false (is_bom x y z) rest (x ∷ y ∷ z ∷ rest) (h (omega arith)))
 
--- ---- a byte more
+-- ---- one more byte
 
 pub byte_joins : (s s2 : State) (a : CsvAction) (fields fields2 : List (List ℕ)) (field field2 : List ℕ) (c : ℕ) (rest : List ℕ)
     → s2 ≡ (step default_config s c).0 → a ≡ (step default_config s c).1 → fields2 ≡ fields_after a fields field → field2 ≡ field_after a c field
@@ -132,7 +132,7 @@ pub last_ends : (s : State) (fields : List (List ℕ)) (field : List ℕ) → en
     → records_from_state s fields field [] ≡ (fields ++ field ∷ []) ∷ []
 last_ends s fields field e = cond-true (ends_at_end s) ((fields ++ field ∷ []) ∷ []) [] e
 
--- the field at a place, and nothing where there is none
+-- the field at a position, or an empty one
 pub field_there : (fields : List (List ℕ)) (place : ℕ) (field : List ℕ) → field_at fields place ≡ Some field → field ≡ get_or fields place []
 unfolding field_at
 field_there [] place field e = cc

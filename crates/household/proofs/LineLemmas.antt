@@ -1,4 +1,4 @@
--- The records of bytes without quotation marks end where their lines do.
+-- Records of bytes without quotation marks end where their lines do.
 use Rattle.std.proofs.Common.{◌≡◌, ◌⊎◌, ℕ, ◌+◌, ◌-◌, ◌<◌, ◌≤◌, ◌==◌, zero, suc, List, [], ◌∷◌, ◌++◌, length, get_or, drop, take, take_all, length-drop, Bool}
 use Rattle.std.proofs.Common.{true, false, cond, refl, sym, ap, subst, ◌∙◌, arith, inl, inr}
 use Rattle.std.specs.Prelude.{◌&&◌, ◌||◌, Option, Some, None, is_some}
@@ -42,20 +42,20 @@ drop_byte (suc n) (x ∷ xs) h = drop_byte n xs (omega (arith, h))
 
 -- ---- quotation marks
 
--- no byte is one
+-- no byte is a quotation mark
 pub quote_nowhere : (bytes : List ℕ) → ((k : ℕ) → k < length bytes → is_byte 34 (get_or bytes k 0) ≡ true → ⊥) → list_any (λ byte. byte == 34) bytes ≡ false
 quote_nowhere [] none = refl
 quote_nowhere (c ∷ rest) none =
     let first : (c == 34) ≡ false = not_true (c == 34) (none 0 (omega arith)) in
     ap (λ b. b || list_any (λ byte. byte == 34) rest) first ∙ quote_nowhere rest (λ k l. none (suc k) (omega (arith, l)))
 
--- this byte is one
+-- this byte is a quotation mark
 pub quote_somewhere : (bytes : List ℕ) (k : ℕ) → k < length bytes → is_byte 34 (get_or bytes k 0) ≡ true → list_any (λ byte. byte == 34) bytes ≡ true
 quote_somewhere [] k l e = absurd (omega (arith, l))
 quote_somewhere (c ∷ rest) zero l e = ap (λ b. b || list_any (λ byte. byte == 34) rest) e
 quote_somewhere (c ∷ rest) (suc k) l e = or_right (c == 34) (list_any (λ byte. byte == 34) rest) (quote_somewhere rest k (omega (arith, l)) e)
 
--- whether one was found
+-- the result of the search
 pub parsed_quote : (bytes : List ℕ) (place : Option ℕ) → IsFirstByte (is_byte 34) bytes place → is_some place ≡ list_any (λ byte. byte == 34) bytes
 parsed_quote bytes None none = sym (quote_nowhere bytes (λ k l e. none k (omega arith) l e))
 parsed_quote bytes (Some k) found = sym (quote_somewhere bytes k found.0.high found.1)
@@ -81,7 +81,7 @@ pub line_none : (bytes : List ℕ) → ((j : ℕ) → j < length bytes → is_by
 line_none [] none = tt
 line_none (c ∷ rest) none = (not_true (is_byte2 13 10 c) (none 0 (omega arith)), line_none rest (λ j m. none (suc j) (omega (arith, m))))
 
--- the bytes from a place on, as a slice of them
+-- the bytes from a position on, as a slice
 pub rest_is : (bytes : List ℕ) (from : ℕ) → take (length bytes - from) (drop from bytes) ≡ drop from bytes
 rest_is bytes from = take_all (length bytes - from) (drop from bytes) (let long = length-drop from bytes in omega (arith, long))
 
@@ -108,7 +108,7 @@ line_ends zero bytes l = l
 line_ends (suc n) [] l = absurd l
 line_ends (suc n) (c ∷ rest) l = line_ends n rest l.1
 
--- ---- what the machine does
+-- ---- the crate's machine
 
 -- the two bytes that end a line
 end_byte : (c : ℕ) → ends_with term.CRLF c ≡ true → (c ≡ 13) ⊎ (c ≡ 10)
@@ -117,7 +117,7 @@ end_byte c e = elim (cases_Bool (c == 13)) [
   | inr other ↦ inr (eqb-true c 10 (rw other at e))
 ]
 
--- a byte that does the same in two states
+-- a byte with the same effect in two states
 same_step : (s t : State) (fields : List (List ℕ)) (field : List ℕ) (c : ℕ) (rest : List ℕ) → step default_config s c ≡ step default_config t c
     → records_from_state s fields field (c ∷ rest) ≡ records_from_state t fields field (c ∷ rest)
 same_step s t fields field c rest e =
@@ -141,7 +141,7 @@ skips_end c rest e = elim (end_byte c e) [
   | inr same ↦ subst (λ (z : ℕ). records_from_state st.StartRecord [] [] (z ∷ rest) ≡ records_from_state st.StartRecord [] [] rest) (sym same) refl
 ]
 
--- bytes that a line end begins begin with no byte order mark
+-- bytes that begin with a line end don't begin with a byte order mark
 pub no_mark_there : (bytes : List ℕ) → IsLineEnd bytes → strip_bom bytes ≡ bytes
 unfolding strip_bom
 no_mark_there [] l = refl
@@ -152,7 +152,7 @@ no_mark_there (a ∷ b ∷ c ∷ rest) l = elim (end_byte a l) [
   | inr same ↦ subst (λ (z : ℕ). strip_bom (z ∷ b ∷ c ∷ rest) ≡ z ∷ b ∷ c ∷ rest) (sym same) refl
 ]
 
--- a state in a line that was begun, in no quotation marks
+-- a state within a line, outside quotation marks
 record InLine (s : State) : Type 0 where
   steps : (c : ℕ) → (c == 34) ≡ false → step default_config s c ≡ in_field default_config c
   ends : ends_at_end s ≡ true
@@ -178,7 +178,7 @@ ends_here s line fields field c rest e = elim (end_byte c e) [
       byte_ends s st.StartRecord act.EndRecord fields (fields ++ field ∷ []) field 10 rest (sym (ap (λ p. p.0) to)) (sym (ap (λ p. p.1) to)) refl refl)
 ]
 
--- what is left after the record that was begun
+-- the records after the one that was begun
 line_over : (s : State) → InLine s → (fields : List (List ℕ)) (field : List ℕ) (n : ℕ) (bytes : List ℕ) → HasNoQuote bytes → IsLine n bytes
     → (read : List (List ℕ)) × (records_from_state s fields field bytes ≡ read ∷ records_from_state st.StartRecord [] [] (drop n bytes))
 line_over s line fields field zero [] q l = (fields ++ field ∷ [], last_ends s fields field line.ends)
@@ -220,7 +220,7 @@ record_over n (c ∷ rest) q l =
 
 -- ---- records in parts
 
--- a state in which no quotation mark is open: in a line that was begun, or where a record begins
+-- a state outside quotation marks: within a line, or at the start of a record
 abbrev IsWithinCount : State → List (List ℕ) → List ℕ → Type 0
 IsWithinCount s fields field = InLine s ⊎ ((s ≡ st.StartRecord) × (fields ≡ []) × (field ≡ []))
 
@@ -245,7 +245,7 @@ stands_end s fields field c rest back (inr start) e more =
     ∙ skips_end c (rest ++ back) e ∙ more ∙ ap (λ l. l ++ records_from_state st.StartRecord [] [] back) (sym (skips_end c rest e))
     ∙ (λ i. records_from_state (sym start.0 i) (sym start.1 i) (sym start.2 i) (c ∷ rest) ++ records_from_state st.StartRecord [] [] back)
 
--- where the first part ends
+-- the end of the first part
 stands_last : (s : State) (fields : List (List ℕ)) (field back : List ℕ) → IsWithinCount s fields field → IsLineEnd back
     → records_from_state s fields field back ≡ records_from_state s fields field [] ++ records_from_state st.StartRecord [] [] back
 stands_last s fields field [] (inl line) l = last_ends s fields field line.ends ∙ ap (λ rs. rs ++ []) (sym (last_ends s fields field line.ends))
@@ -287,7 +287,7 @@ parts_join s fields field (c ∷ rest) back here q l =
       ]
     ]
 
--- a line end is no byte of a byte order mark
+-- a line end isn't part of a byte order mark
 no_second : (a b c : ℕ) → ends_with term.CRLF b ≡ true → is_bom a b c ≡ false
 no_second a b c e = elim (cases_Bool (a == 239)) [
   | inl begun ↦ rw begun (elim (end_byte b e) [

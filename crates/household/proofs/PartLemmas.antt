@@ -1,4 +1,4 @@
--- The rows of all parts are those of a table, and the first fault among them is the table's.
+-- The rows of all parts are those of the table, and so is the first fault.
 use Rattle.std.proofs.Common.{◌≡◌, ◌≢◌, ℕ, zero, suc, ◌+◌, ◌*◌, ◌/◌, ◌<◌, ◌≤◌, arith, get_or, take, drop, List, [], ◌∷◌, ◌++◌, length, length-append, Result}
 use Rattle.std.proofs.Common.{Ok, Err, Vec, leb, Bool, true, false, refl, sym, ap, ◌∙◌, subst, append_assoc}
 use Rattle.std.specs.declared.alloc.Global.{Global}
@@ -31,9 +31,9 @@ Record = List (List ℕ)
 abbrev pub Given : Type 0
 Given = Result (Vec Row Global) HouseholdFault
 
--- ---- things read in turn, in two parts
+-- ---- reading a list in two parts
 
--- the first things have a fault
+-- the first part has a fault
 front_fails : {A B F : Type 0} (read : List B → A → Result B F) (size : ℕ) (before : List B) (things : List A) (fault : F)
     → in_turn read before (take size things) ≡ Err fault → in_turn read before things ≡ Err fault
 front_fails read zero before things fault e = absurd (cc)
@@ -46,7 +46,7 @@ front_fails {A} {B} {F} read (suc size) before (x ∷ xs) fault e = by (read bef
     by (Ok value) more h = more value h
     by (Err other) more h = h
 
--- the first things say these, and the others go on after them
+-- the first part is read as these values, and the second continues after them
 front_meaning : {A B F : Type 0} (read : List B → A → Result B F) (size : ℕ) (before stated : List B) (things : List A)
     → in_turn read before (take size things) ≡ Ok stated
     → in_turn read before things ≡ in_turn read stated (drop size things)
@@ -62,7 +62,7 @@ front_meaning {A} {B} {F} read (suc size) before stated (x ∷ xs) e = by (read 
     by (Ok value) more h = more value h
     by (Err other) more h = absurd (cc)
 
--- as many things say as many values
+-- there are as many values as elements
 as_many : {A B F : Type 0} (read : List B → A → Result B F) (before stated : List B) (things : List A) → in_turn read before things ≡ Ok stated
     → length stated ≡ length before + length things
 as_many read before stated [] e = (let same : before ≡ stated = cc in let long = ap length same in omega (arith, long))
@@ -75,7 +75,7 @@ as_many {A} {B} {F} read before stated (x ∷ xs) e = by (read before x) (λ val
 
 -- ---- rows after rows
 
--- what a row says after some rows goes with their number
+-- the meaning of a row depends only on the number of rows before it
 same_row : (inputs : List Coded) (columns : List ℕ) (number more : ℕ) (rows before : List Row) (fields : Record) → more ≡ number + length rows
     → table_row_behind inputs columns number (rows ++ before) fields ≡ table_row_behind inputs columns more before fields
 same_row inputs columns number more rows before fields m =
@@ -83,7 +83,7 @@ same_row inputs columns number more rows before fields m =
     let same : number + length (rows ++ before) ≡ more + length before = omega (arith, m, long) in
     ap (λ k. row_behind inputs columns k fields) same
 
--- the rows of a table are those after none
+-- the rows of a table, after no rows
 from_first : (inputs : List Coded) (columns : List ℕ) (before : List Row) (records : List Record)
     → in_turn (table_row_behind inputs columns 0) before records ≡ in_turn (table_row inputs columns) before records
 from_first inputs columns before [] = refl
@@ -99,7 +99,7 @@ from_first inputs columns before (fields ∷ records) =
     by (Ok value) go = go value
     by (Err fault) go = refl
 
--- rows that are read after others are those that are read by themselves, at their numbers
+-- rows after others are the same as rows alone, at their numbers
 behind_rows : (inputs : List Coded) (columns : List ℕ) (number more : ℕ) (rows before : List Row) (records : List Record) → more ≡ number + length rows
     → in_turn (table_row_behind inputs columns number) (rows ++ before) records ≡ behind rows (in_turn (table_row_behind inputs columns more) before records)
 behind_rows inputs columns number more rows before [] m = refl
@@ -116,7 +116,7 @@ behind_rows inputs columns number more rows before (fields ∷ records) m =
     by (Ok value) go = ap (λ l. in_turn (table_row_behind inputs columns number) l records) (append_assoc rows before (value ∷ [])) ∙ go value
     by (Err fault) go = refl
 
--- a part that is short is the last
+-- a part that isn't full is the last
 nothing_behind : (inputs : List Coded) (columns : List ℕ) (number other size : ℕ) (rows : List Row) (records : List Record) → length records ≤ size
     → in_turn (table_row_behind inputs columns number) rows (drop size records) ≡ behind rows
     (in_turn (table_row_behind inputs columns other) [] (drop size records))
@@ -125,7 +125,7 @@ nothing_behind inputs columns number other size rows records short =
     ap (in_turn (table_row_behind inputs columns number) rows) none ∙ ap Ok (sym (append-nil rows))
     ∙ ap (λ l. behind rows (in_turn (table_row_behind inputs columns other) [] l)) (sym none)
 
--- the rows of a part and then those after it
+-- the rows of a part, then those of the rest
 part_and_behind : (inputs : List Coded) (columns : List ℕ) (number size : ℕ) (rows : List Row) (records : List Record)
     → in_turn (table_row_behind inputs columns number) [] (take size records) ≡ Ok rows
     → in_turn (table_row_behind inputs columns number) [] records ≡ behind rows
@@ -146,16 +146,16 @@ part_and_behind inputs columns number size rows records e =
 
 -- ---- all parts
 
--- what the records say after so many cuts
+-- the rows of the records after this many cuts
 abbrev pub left_from : List Coded → List ℕ → List Record → ℕ → Result (List Row) HouseholdFault
 left_from inputs columns records at = in_turn (table_row_behind inputs columns (at * BETWEEN)) [] (drop (at * BETWEEN) records)
 
--- what is given after so many cuts says that, where the cuts that are left reach to the end
+-- the results after this many cuts are those rows, if the remaining cuts reach the end
 abbrev pub SaysLeft : List Coded → List ℕ → List Record → ℕ → List ℕ → Result (List Row) HouseholdFault → Type 0
 SaysLeft inputs columns records at cuts all = length records ≤ (at + length cuts) * BETWEEN
     → Outcome Memory all (λ rows. left_from inputs columns records at ≡ Ok rows) (λ fault. left_from inputs columns records at ≡ Err fault)
 
--- a part and then those after it
+-- one part, then the rest
 goes : (inputs : List Coded) (columns : List ℕ) (records : List Record) (many at : ℕ) (cuts : List ℕ) (part : Vec Row Global)
     (rest : Result (List Row) HouseholdFault)
     → in_turn (table_row_behind inputs columns (at * BETWEEN)) [] (take (many * BETWEEN) (drop (at * BETWEEN) records)) ≡ Ok part.items
@@ -177,7 +177,7 @@ goes inputs columns records many at cuts part rest gave is = λ far.
     by (Ok more) whole h = whole ∙ ap (behind part.items) h
     by (Err fault) whole h = λ n. whole ∙ ap (behind part.items) (h n)
 
--- what the workers give, joined, is what the records say
+-- the results of the workers, joined, are the rows of the records
 pub parsed_rows : (inputs : List Coded) (columns : List ℕ) (records : List Record) (many : ℕ) (cuts : List ℕ) (parts : List Given)
     → ((n : ℕ) (d : Given) → n < length parts → SaysPart inputs columns (drop (n * many * BETWEEN) records) (n * many * BETWEEN) (many * BETWEEN)
     (get_or parts n d))
@@ -194,7 +194,7 @@ parsed_rows inputs columns records many cuts parts each inside reach far =
     (of_parts gives many cuts parts each inside reach) (omega (arith, far)) in
     subst (λ reported. Outcome Memory (joined parts) (λ rows. reported ≡ Ok rows) (λ fault. reported ≡ Err fault)) (from_first inputs columns [] records) stated
 
--- cuts in a part of them
+-- the cuts of one part
 pub cuts_in_part : (bytes : List ℕ) (records : List Record) (cuts : List ℕ) (size at : ℕ) (part : List ℕ)
     → ((n d : ℕ) → n < length cuts → IsCutAfter bytes records (n * BETWEEN) (get_or cuts n d))
     → IsPart cuts size at part → AreCutsFrom bytes records at part
@@ -205,7 +205,7 @@ cuts_in_part bytes records cuts size at part each is = λ n d h.
     ap (λ (l : List ℕ). get_or l n d) is.value ∙ get_or-take size (drop at cuts) n d (omega (arith, h, taken, same_part)) ∙ get_or-drop at cuts n d in
     subst (IsCutAfter bytes records ((at + n) * BETWEEN)) (sym same) (each (at + n) d (let within = is.within in omega (arith, within, h)))
 
--- an error that this fault is
+-- an error with this fault
 pub reported : {T E : Type 0} (memory : E) (good : T → Type 0) (bad : E → Type 0) (result : Result T E) (fault : E) → IsErrAnd result (λ x. x ≡ fault)
     → (fault ≢ memory → bad fault)
     → Outcome memory result good bad
@@ -219,11 +219,11 @@ pub next_is : (found : Bool) (old new : Records) (fields : Record) → IsNext ol
 next_is true old new fields is e = is
 next_is false old new fields is e = absurd (cc)
 
--- so many cuts have room for one more row
+-- one more row is below the end of this many cuts
 below_end : (many rows : ℕ) → rows / BETWEEN < many → rows < many * BETWEEN
 below_end many rows h = omega (arith, h)
 
--- the row that is next is one of its part, and stands at this line
+-- the next row belongs to the part, at this record number
 pub has_room : (start many first second line : ℕ) (rows : Vec Row Global) → first ≡ vec_len rows → second ≡ vec_len rows → first / BETWEEN < many
     → (start * BETWEEN + second < ROWS) × (line ≡ line_behind (start * BETWEEN + second))
     → (length rows.items < many * BETWEEN) × (start * BETWEEN + length rows.items < ROWS) × (line ≡ line_behind (start * BETWEEN + length rows.items))
@@ -233,7 +233,7 @@ has_room start many first second line rows f s some at =
     let below = below_end many first some in
     (omega (arith, below, counted), subst (λ k. start * BETWEEN + k < ROWS) same at.0, subst (λ k. line ≡ line_behind (start * BETWEEN + k)) same at.1)
 
--- the row that is next is one of its part, and is one too many
+-- the next row belongs to the part, and exceeds the limit
 pub is_full : (start many first second : ℕ) (rows : Vec Row Global) → first ≡ vec_len rows → second ≡ vec_len rows → first / BETWEEN < many
     → ROWS ≤ start * BETWEEN + second
     → (length rows.items < many * BETWEEN) × (ROWS ≤ start * BETWEEN + length rows.items)
@@ -253,7 +253,7 @@ too_many inputs columns more (suc n) rows left rest fields e some far =
     (cond-true (leb ROWS (more + length rows)) (Err TooManyRows) (labelled inputs (line_behind (more + length rows)) columns fields)
     (le-leb ROWS (more + length rows) far))
 
--- what the record that is next says, where it is not one too many
+-- the next row, below the limit
 here_meaning : (inputs : List Coded) (columns : List ℕ) (more line : ℕ) (rows : List Row) (fields : Record) → more + length rows < ROWS
     → line ≡ line_behind (more + length rows)
     → table_row_behind inputs columns more rows fields ≡ labelled inputs line columns fields
@@ -283,7 +283,7 @@ row_meaning inputs columns more line n next rows new left rest fields row e m fe
     (here_meaning inputs columns more line rows fields few l ∙ h)
     ∙ ap (λ b. in_turn (table_row_behind inputs columns more) b (take next rest)) (sym w)
 
--- what is said of the rows of a list is said of the list
+-- a property of the rows of a list is one of the list
 pub by_rows : (reported : Result (List Row) HouseholdFault) (given : Given)
     → Outcome Memory (all_items given) (λ rows. reported ≡ Ok rows) (λ fault. reported ≡ Err fault)
     → Outcome Memory given (λ rows. reported ≡ Ok rows.items) (λ fault. reported ≡ Err fault)

@@ -1,4 +1,4 @@
--- What a reader of the crate `csv` over bytes in memory does.
+-- The behaviour of a `csv` reader over bytes in memory.
 use Rattle.std.proofs.Common.{Bor, ◌≡◌, ℕ, List, [], ◌∷◌, ◌++◌, ◌==◌, Option, Some, None, Bool, true, false, cond, drop, take, refl, sym, ap, subst, ◌∙◌, inl}
 use Rattle.std.proofs.Common.{inr}
 use Rattle.std.specs.Prelude.{option_map, not, ◌&&◌, Result, Ok, Err, OnOk, IfOk, IfErr, IsErr, MatchResult}
@@ -27,26 +27,26 @@ Memory = Reader (Bor (List ℕ))
 abbrev pub reported : Bor (List ℕ) → Option (List ℕ)
 reported bytes = Some bytes.now
 
--- ---- what the bytes of a reader are
+-- ---- the bytes of a reader
 
 either : (b : Bool) (xs ys : List ℕ) → (zs : List ℕ) × (cond b (Some xs) (Some ys) ≡ Some zs)
 either true xs ys = (xs, refl)
 either false xs ys = (ys, refl)
 
--- a reader that hasn't failed knows its bytes
+-- a reader that hasn't failed has known bytes
 source_known : (reader : Memory) → has_failed reader ≡ false → (xs : List ℕ) × (source_of reported reader ≡ Some xs)
 source_known reader going =
     let known = either (not reader.bom_checked && (reader.at == 0) && (reader.filled == 0)) (strip_bom reader.rdr.now)
     (drop reader.at (take reader.filled reader.buffer) ++ reader.rdr.now) in
     (known.0, cond-false (has_failed reader) None (unread_of reported reader) going ∙ known.1)
 
--- after the first read no byte order mark is looked for
+-- after the first read no byte order mark is dropped
 source_after : (reader : Memory) → reader.bom_checked ≡ true → source_of reported reader ≡ pending_of (reported reader.rdr) reader
 source_after reader checked =
     ap (λ b. cond (has_failed reader) None (cond (not b && (reader.at == 0) && (reader.filled == 0)) (option_map strip_bom (reported reader.rdr))
     (buffered_of (reported reader.rdr) reader))) checked
 
--- ---- what a read leaves
+-- ---- the effect of a read
 
 read_one : (s s2 : State) (xs : List ℕ) (new : Option (List ℕ)) (fields : List (List ℕ)) → ReadsNext default_config s (Some xs) new true fields s2
     → left_from s (Some xs) ≡ fields ∷ left_from s2 new
@@ -66,7 +66,7 @@ read_none s s2 xs (Some ys) fields h = next_and_behind s [] [] xs ∙ by (next_r
     by None is = refl
     by (Some p) is = absurd (cc is.0)
 
--- what was read of a reader, from known bytes
+-- the result of a read from known bytes
 known_read : (old new : Memory) (found : Bool) (fields : List (List ℕ)) (xs : List ℕ) → IsPlain old → source_of reported old ≡ Some xs
     → ReadRecord reported old new found fields
     → ReadsNext default_config old.state (Some xs) (pending_of (reported new.rdr) new) found fields new.state
@@ -86,12 +86,12 @@ next_is_read old new false fields plain going read =
     ap (left_from old.reader.state) known.1
     ∙ read_none old.reader.state new.reader.state known.0 _ fields (known_read old.reader new.reader false fields known.0 plain known.1 read)
 
--- a reader that has failed gives no record
+-- a reader that has failed returns no record
 pub failed_is : (old new : Records) (found : Bool) (fields : List (List ℕ)) → has_failed old.reader ≡ true → found ≡ false → IsNext old found fields new
 failed_is old new true fields failed none = absurd (cc none)
 failed_is old new false fields failed none = ap (left_from old.reader.state) (cond-true (has_failed old.reader) None (unread_of reported old.reader) failed)
 
--- ---- how a reader goes on
+-- ---- the reader after a read
 
 pub plain_after : (old new : Memory) (found : Bool) (fields : List (List ℕ)) → IsPlain old → ReadRecord reported old new found fields → took_first new ≡ true
     → is_flexible new ≡ is_flexible old → IsPlain new
@@ -103,7 +103,7 @@ plain_after old new found fields plain read took flexible = record {
   ready = inl took;
 }
 
--- each error of a plain reader stops it
+-- each error leaves the reader failed
 pub stops : (old new : Memory) (why : ErrorKind) → IsPlain old → ExplainsRead reported old new false why → stops_reader why ≡ true
 stops old new (kind.Io e) plain h = refl
 stops old new kind.OutOfMemory plain h = refl
@@ -114,7 +114,7 @@ stops old new (kind.Deserialize pos err) plain h = absurd h
 
 -- ---- one call
 
--- how a reader goes on after a read of it
+-- the reader after a read
 pub on_after : (old new : Memory) (fields : List (List ℕ)) (read : Result Bool Error) → ReadsOn old → (has_failed old ≡ true → read ≡ Ok false)
     → OnOk read (has_failed new ≡ has_failed old) → IfErr read (λ e. has_failed new ≡ stops_reader (error_kind e))
     → IfErr read (λ e. Ready old → ExplainsRead reported old new false (error_kind e))
@@ -129,7 +129,7 @@ on_after old new fields (Err e) (inr plain) stopped goes fails why took flexible
 found_none : (read : Result Bool Error) (found : Bool) → read ≡ Ok false → read ≡ Ok found → found ≡ false
 found_none read found none e = let same : Ok false ≡ Ok found = sym none ∙ e in cc
 
--- what a read that didn't fail gave
+-- the result of a read without an error
 pub next_stated : (old new : Records) (fields : List (List ℕ)) (read : Result Bool Error) (found : Bool) → ReadsOn old.reader
     → (has_failed old.reader ≡ true → read ≡ Ok false)
     → IfOk read (λ found. reader_trim old.reader ≡ trim.None → Ready old.reader → ReadRecord reported old.reader new.reader found fields) → read ≡ Ok found
@@ -147,7 +147,7 @@ next_prop : (old new : Records) (found : Bool) (fields : List (List ℕ)) → Is
 next_prop old new true fields = hlevel props
 next_prop old new false fields = hlevel props
 
--- the same of a reader of which it is only known that it reads on
+-- the same for a reader that may have failed before
 pub next_reported : (old new : Records) (fields : List (List ℕ)) (read : Result Bool Error) (result : Result Bool AllocError)
     → (has_failed old.reader ≡ true → read ≡ Ok false)
     → IfOk read (λ found. reader_trim old.reader ≡ trim.None → Ready old.reader → ReadRecord reported old.reader new.reader found fields)

@@ -1,4 +1,4 @@
--- A table reads to the rows that its records are.
+-- A table is read as the rows of its records.
 use Rattle.std.proofs.Common.{◌≡◌, ℕ, ℤ, ◌≤◌, List, [], ◌∷◌, ◌++◌, drop, length, Option, Some, None, Result, Ok, Err, true, false, eqb, leb, refl, sym, subst}
 use Rattle.std.proofs.Common.{ap, ◌∙◌, append_assoc, arith}
 use mathlib.Core.Bool.{◌&&◌}
@@ -116,7 +116,7 @@ row_whole inputs line columns fields row is =
 
 -- ---- rows
 
--- a row that says what it says by itself says it in its turn
+-- a row that is valid alone is read as itself in order
 row_in_turn : (inputs : List Coded) (columns : List ℕ) (before : List Row) (fields : List (List ℕ)) (row : Row) (more : List Row)
     → IsTableRow inputs columns fields row → length (before ++ row ∷ more) ≤ ROWS
     → table_row inputs columns before fields ≡ Ok row
@@ -124,7 +124,7 @@ row_in_turn inputs columns before fields row more is few =
     cond-false (leb ROWS (length before)) (Err TooManyRows) (labelled inputs (line_behind (length before)) columns fields) (fewer ROWS before more row few)
     ∙ row_whole inputs (line_behind (length before)) columns fields row is
 
--- what a row says in its turn, it says where there is room for one more
+-- a row that is read in order is valid alone, and within the limit
 row_parts : (inputs : List Coded) (columns : List ℕ) (before : List Row) (fields : List (List ℕ)) (row : Row) → table_row inputs columns before fields ≡ Ok row
     → (leb ROWS (length before) ≡ false) × (labelled inputs (line_behind (length before)) columns fields ≡ Ok row)
 row_parts inputs columns before fields row h = other_than_error (leb ROWS (length before)) TooManyRows

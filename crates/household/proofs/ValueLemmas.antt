@@ -1,4 +1,4 @@
--- The values that pairs give.
+-- The values of pairs.
 use Rattle.std.proofs.Common.{◌≡◌, ℕ, ℤ, ◌+◌, ◌-◌, ◌<◌, ◌≤◌, drop, subst, zero, suc, eqb, List, [], ◌∷◌, length, get_or, set, replicate, zero-add, sym, ap, ◌∙◌}
 use Rattle.std.proofs.Common.{inl, inr, arith, ◌⊎◌}
 use Rattle.std.specs.List.{AllByRecursion, range_with_len}
@@ -13,13 +13,13 @@ use Rattle.household.specs.Household.{inputs_of, value_at, values_of}
 pub length-values_of : (pairs : List (ℕ × ℤ)) (n : ℕ) → length (values_of pairs n) ≡ n
 length-values_of pairs n = length-map (range_with_len 0 n) (value_at pairs) ∙ length-range_with_len 0 n
 
--- each value by its number
+-- each value by number
 get_or-values_of : (pairs : List (ℕ × ℤ)) (n k : ℕ) (d : Value) → k < n → get_or (values_of pairs n) k d ≡ value_at pairs k
 get_or-values_of pairs n k d l =
     get_or-map (value_at pairs) (range_with_len 0 n) k 0 d (omega (arith, length-range_with_len 0 n))
     ∙ ap (value_at pairs) (get_or-range_with_len 0 n k 0 l ∙ zero-add k)
 
--- no pairs give nothing
+-- no pairs give no amounts
 pub values_of-none : (n : ℕ) → replicate n Undef ≡ values_of [] n
 values_of-none n = same_lists (replicate n Undef) (values_of [] n) (length-replicate n Undef ∙ sym (length-values_of [] n)) (λ k d l.
     let within : k < n = omega (arith, length-replicate n Undef) in
@@ -36,7 +36,7 @@ value_set pairs pair n k d within l (inr other) =
     ∙ get_or-values_of pairs n k d l
     ∙ sym (cond-false (eqb pair.0 k) (Num pair.1) (value_at pairs k) (ne_eqb pair.0 k (λ e. other (sym e))))
 
--- a pair before pairs gives its input its amount
+-- one more pair, put first, gives its input its amount
 pub values_of-more : (pairs : List (ℕ × ℤ)) (pair : ℕ × ℤ) (n : ℕ) → pair.0 < n → set (values_of pairs n) pair.0 (Num pair.1) ≡ values_of (pair ∷ pairs) n
 values_of-more pairs pair n within =
     let same_length : length (set (values_of pairs n) pair.0 (Num pair.1)) ≡ n = length-set (values_of pairs n) pair.0 (Num pair.1)
@@ -45,14 +45,14 @@ values_of-more pairs pair n within =
     let l' : k < n = omega arith in
     value_set pairs pair n k d within l' (cases_eq k pair.0) ∙ sym (get_or-values_of (pair ∷ pairs) n k d l'))
 
--- the number of each pair is in range
+-- the input of each pair is in range
 pub input_in_range : (n : ℕ) (pairs : List (ℕ × ℤ)) (k : ℕ) (d : ℕ × ℤ) → AllByRecursion (λ input. input < n) (inputs_of pairs) → k < length pairs
     → (get_or pairs k d).0 < n
 input_in_range n [] k d h l = absurd (omega arith)
 input_in_range n (pair ∷ pairs) zero d h l = h.0
 input_in_range n (pair ∷ pairs) (suc k) d h l = input_in_range n pairs k d h.1 (omega arith)
 
--- the next pair, from the back on, gives its input its amount
+-- the next pair, from the last to the first, gives its input its amount
 pub values_of-next : (pairs : List (ℕ × ℤ)) (values : List Value) (left : ℕ) (pair : ℕ × ℤ) (n : ℕ) → AllByRecursion (λ input. input < n) (inputs_of pairs)
     → 0 < left → left ≤ length pairs
     → pair ≡ get_or pairs (left - 1) pair → values ≡ values_of (drop left pairs) n

@@ -1,4 +1,4 @@
--- What a household's file says, and what it gives each input.
+-- The meaning of a household's file, and the values that it gives the inputs.
 use Rattle.std.specs.Prelude.{◌≡◌, ◌≢◌, ℕ, ◌+◌, ◌<◌, ◌≤◌, ◌==◌, Bool, true, false, nat_le, ◌&&◌, List, [], ◌∷◌, map, length, zero, suc, Option, Some, None}
 use Rattle.std.specs.Prelude.{Result, Ok, Err, ℤ, codes, IsTrue, if◌then◌else◌}
 use Rattle.std.specs.Str.{bytes_eq}
@@ -23,86 +23,86 @@ use Rattle.household.specs.Records.{records_of}
 abbrev pub inputs_of : List (ℕ × ℤ) → List ℕ
 inputs_of pairs = map (λ pair. pair.0) pairs
 
--- whether a number stands among numbers
+-- whether a number is in a list
 abbrev pub is_input_among : ℕ → List ℕ → Bool
 is_input_among number numbers = list_any (λ other. other == number) numbers
 
--- the number of the record after the header and so many rows, where the header's is 1
+-- the number of the record after the header, which is record 1, and this many rows
 abbrev pub line_behind : ℕ → ℕ
 line_behind rows = rows + 2
 
--- what a known or unknown code and what is read of an amount say, in the record with this number
+-- the pair of a code's input and a parsed amount, or a fault of the record with this number
 abbrev pub parsed_pair : ℕ → Option ℕ → Result ℤ AmountFault → Result (ℕ × ℤ) HouseholdFault
 parsed_pair line None amount = Err (UnknownCode line)
 parsed_pair line (Some input) (Err why) = Err (BadAmount line)
 parsed_pair line (Some input) (Ok millionths) = Ok (input, millionths)
 
--- the type of the input with this number; a number that no input has takes each amount
+-- the type of the input with this number; a number without an input accepts every amount
 abbrev pub input_type : List Coded → ℕ → InputType
 input_type [] number = Any
 input_type (input ∷ inputs) zero = input.kind
 input_type (input ∷ inputs) (suc number) = input_type inputs number
 
--- Whether the amount of a pair is of its input's type: where the input 0 has the type `Whole`, the pair of 0 and 3000000 is
--- fitting, and that of 0 and 2500000 isn't.
+-- Whether the amount of a pair is of its input's type. If input 0 has the type `Whole`, the pair
+-- (0, 3000000) fits, and (0, 2500000) doesn't.
 abbrev pub is_fitting : List Coded → ℕ × ℤ → Bool
 is_fitting inputs pair = is_of_type (input_type inputs pair.0) pair.1
 
--- a pair whose amount must be of its input's type, in the record with this number
+-- the pair, if its amount is of its input's type, or else a fault of the record with this number
 abbrev pub fitting_pair : List Coded → ℕ → ℕ × ℤ → Result (ℕ × ℤ) HouseholdFault
 fitting_pair inputs line pair = if is_fitting inputs pair then Ok pair else Err (NotOfType line)
 
--- What the fields of the record with this number say: the code of an input and an amount of its type. `inputs` are the
--- inputs by their numbers: where `1AJ` has the number 0 and takes each amount, the fields `1AJ` and `2500.5` say the pair
--- of 0 and 2500500000.
+-- The pair of the fields of the record with this number: the code of an input and an amount of its
+-- type. `inputs` is in the order of numbers: if `1AJ` has the number 0 and accepts every amount,
+-- the fields `1AJ` and `2500.5` denote the pair (0, 2500500000).
 abbrev pub pair_of : List Coded → ℕ → List (List ℕ) → Result (ℕ × ℤ) HouseholdFault
 pair_of inputs line (code ∷ amount ∷ []) = if_read (fitting_pair inputs line)
     (parsed_pair line (index_of code (codes_of inputs)) (amount_read (text_value amount)))
 pair_of inputs line _ = Err (BadRow line)
 
--- a pair whose input may not stand in the pairs before it
+-- the pair, if no earlier pair has its input
 abbrev pub new_pair : ℕ → List (ℕ × ℤ) → ℕ × ℤ → Result (ℕ × ℤ) HouseholdFault
 new_pair line before pair = if is_input_among pair.0 (inputs_of before) then Err (CodeTwice line) else Ok pair
 
--- What a row says after rows that gave these pairs. The first of these faults that it has decides: it
--- is one row too many, it hasn't two fields, its code is unknown, its amount is none, its amount isn't
--- of the input's type, its code stands in a row before it.
+-- The pair of a row after the rows of these pairs, or its first fault of: too many rows, not two
+-- fields, an unknown code, a bad amount, an amount not of the input's type, a code used before.
 abbrev pub row_of : List Coded → List (ℕ × ℤ) → List (List ℕ) → Result (ℕ × ℤ) HouseholdFault
 row_of inputs before fields =
     if nat_le ROWS (length before) then Err TooManyRows
     else if_read (new_pair (line_behind (length before)) before) (pair_of inputs (line_behind (length before)) fields)
 
--- whether these fields are the first record of a household: `code` and `amount`
+-- whether these fields are the header of a household: `code` and `amount`
 abbrev pub is_header : List (List ℕ) → Bool
 is_header (code ∷ amount ∷ []) = bytes_eq code (codes "code") && bytes_eq amount (codes "amount")
 is_header _ = false
 
--- what the records of a household say
+-- the pairs of a household's records, or their first fault
 abbrev pub household_read : List Coded → List (List (List ℕ)) → Result (List (ℕ × ℤ)) HouseholdFault
 household_read inputs [] = Err BadHeader
 household_read inputs (first ∷ rows) = if is_header first then in_turn (row_of inputs) [] rows else Err BadHeader
 
--- What the bytes of a household say: its pairs of an input's number and an amount, in the order of the
--- file, or the fault for which it is refused. Where `1AJ` has the number 0, `code,amount` and `1AJ,2500.5`
--- say the one pair of 0 and 2500500000, and `1AJ,x` in the second line says the bad amount of record 2.
+-- The meaning of the bytes of a household: its pairs of an input's number and an amount, in the
+-- order of the file, or the fault for which it is rejected. If `1AJ` has the number 0,
+-- `code,amount` and `1AJ,2500.5` denote the single pair (0, 2500500000); with `1AJ,x` as the second
+-- line the result is the bad amount of record 2.
 abbrev pub household_of : List Coded → List ℕ → Result (List (ℕ × ℤ)) HouseholdFault
 household_of inputs bytes = household_read inputs (records_of bytes)
 
--- no number stands twice
+-- no number occurs twice
 abbrev pub AreDifferent : List ℕ → Type 0
 AreDifferent [] = Unit {0}
 AreDifferent (number ∷ numbers) = AllByRecursion (λ other. other ≢ number) numbers × AreDifferent numbers
 
--- The inputs of pairs are inputs of so many, and none stands twice.
+-- The inputs of pairs are below a count, and none occurs twice.
 pub record AreInputs (inputs : ℕ) (pairs : List (ℕ × ℤ)) : Type 0 where
   pub known : AllByRecursion (λ input. input < inputs) (inputs_of pairs)
   pub once : AreDifferent (inputs_of pairs)
 
--- The pairs have amounts, and each is of its input's type.
+-- The pairs have amounts, each of its input's type.
 abbrev pub AreOfTypes : List Coded → List (ℕ × ℤ) → Type 0
 AreOfTypes inputs pairs = AllByRecursion (λ pair. IsAmount pair.1 × IsTrue (is_fitting inputs pair)) pairs
 
--- A row of a household by itself: the code of an input and an amount of its type, which say this pair.
+-- A row of a household alone: the code of an input and an amount of its type, which are this pair.
 pub record IsRow (inputs : List Coded) (fields : List (List ℕ)) (pair : ℕ × ℤ) : Type 0 where
   pub code : List ℕ
   pub amount : List ℕ
@@ -111,8 +111,8 @@ pub record IsRow (inputs : List Coded) (fields : List (List ℕ)) (pair : ℕ ×
   pub spelled : amount_read (text_value amount) ≡ Ok pair.1
   pub fits : is_fitting inputs pair ≡ true
 
--- The bytes are a household with these pairs: the records are a header and a row for each pair, in
--- order; no input stands twice, and the rows are not too many.
+-- The bytes are a household with these pairs: the records are a header and one row for each pair,
+-- in order; no input occurs twice, and the number of rows is within the limit.
 pub record IsHousehold (inputs : List Coded) (bytes : List ℕ) (pairs : List (ℕ × ℤ)) : Type 0 where
   pub first : List (List ℕ)
   pub rows : List (List (List ℕ))
@@ -122,12 +122,12 @@ pub record IsHousehold (inputs : List Coded) (bytes : List ℕ) (pairs : List (�
   pub once : AreDifferent (inputs_of pairs)
   pub few : length pairs ≤ ROWS
 
--- what pairs give an input: the amount of the first pair with its number, and nothing without one
+-- the value that pairs give an input: the amount of its first pair, or undefined without one
 abbrev pub value_at : List (ℕ × ℤ) → ℕ → Value
 value_at [] input = Undef
 value_at (pair ∷ pairs) input = if pair.0 == input then Num pair.1 else value_at pairs input
 
--- what pairs give each of so many inputs, in the order of their numbers: the pair of 1 and 5 gives 3
--- inputs Undef, Num 5 and Undef
+-- the values that pairs give a number of inputs, in order: the pair (1, 5) gives three inputs
+-- Undef, Num 5 and Undef
 abbrev pub values_of : List (ℕ × ℤ) → ℕ → List Value
 values_of pairs inputs = map (value_at pairs) (range_with_len 0 inputs)

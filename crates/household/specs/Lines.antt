@@ -8,7 +8,7 @@ use Rattle.csv.specs.declared.parser.Terminator.TheVariants as term
 abbrev pub HasNoQuote : List ℕ → Type 0
 HasNoQuote bytes = list_any (λ byte. byte == 34) bytes ≡ false
 
--- bytes that begin with the end of a line, or are none
+-- bytes that are empty or begin with a line end
 abbrev pub IsLineEnd : List ℕ → Type 0
 IsLineEnd [] = Unit {0}
 IsLineEnd (byte ∷ bytes) = ends_with term.CRLF byte ≡ true

@@ -1,4 +1,4 @@
--- What a table without a fault is, said of its records and its rows.
+-- A valid table, by its records and its rows.
 use Rattle.std.specs.Prelude.{◌≡◌, ℕ, ℤ, ◌≤◌, true, List, [], ◌∷◌, drop, length, Some, Ok}
 use Rattle.std.specs.List.{AllZip}
 use Rattle.m_places.specs.declared.limits.TheConstants.{ROWS}
@@ -11,8 +11,8 @@ use Rattle.household.specs.Records.{records_of}
 use Rattle.household.specs.Household.{AreDifferent}
 use Rattle.household.specs.Table.{are_fitting, is_label, is_table_header}
 
--- What cells say below columns of these inputs, of which there are as many: an empty one nothing, and each other the pair of its column's
--- input and its amount, in order.
+-- The pairs of cells in as many columns of these inputs: none for an empty cell, and for each other
+-- the pair of its column's input and its amount, in order.
 abbrev pub AreCells : List ℕ → List (List ℕ) → List (ℕ × ℤ) → Type 0
 AreCells [] [] [] = Unit {0}
 AreCells (input ∷ columns) ([] ∷ cells) pairs = AreCells columns cells pairs
@@ -20,7 +20,8 @@ AreCells (input ∷ columns) ((byte ∷ bytes) ∷ cells) (pair ∷ pairs) = (pa
     × AreCells columns cells pairs
 AreCells _ _ _ = ⊥
 
--- A row of a table by itself, below columns of these inputs: a label, and a cell for each column, whose amounts are of their inputs' types.
+-- A row of a table alone, in columns of these inputs: a label, and a cell for each column, with
+-- amounts of their inputs' types.
 pub record IsTableRow (inputs : List Coded) (columns : List ℕ) (fields : List (List ℕ)) (row : Row) : Type 0 where
   pub cells : List (List ℕ)
   pub split : fields ≡ row.label ∷ cells
@@ -28,8 +29,9 @@ pub record IsTableRow (inputs : List Coded) (columns : List ℕ) (fields : List 
   pub says : AreCells columns cells row.household.pairs
   pub fits : are_fitting inputs row.household.pairs ≡ true
 
--- The bytes are a table with these rows: the records are one that begins with `name` and has the code of an input for each column, none
--- twice, and then one for each row, in order; and the rows are not too many.
+-- The bytes are a table with these rows: the header is `name` and a distinct code of an input for
+-- each column; one record for each row follows, in order; and the number of rows is within the
+-- limit.
 pub record IsTable (inputs : List Coded) (bytes : List ℕ) (rows : List Row) : Type 0 where
   pub first : List (List ℕ)
   pub others : List (List (List ℕ))

@@ -6,8 +6,8 @@ use crate::Household;
 use m_fixed::Value;
 use std::alloc::{AllocError, Global};
 
-/// What a household gives each of so many inputs, by number: its amount, or nothing where the
-/// household has no pair for it. Its only error is running out of memory.
+/// The value that a household gives each of `inputs` inputs, by number: its amount, or `Undef` if
+/// the household has no pair for it. Its only error is running out of memory.
 pub fn values(alloc: Global, household: &Household, inputs: u32) -> Result<Vec<Value>, AllocError>
     requires { AllByRecursion (λ input. input < inputs) (inputs_of household.now.pairs) }
     ensures { IfOk result (λ v. v.items ≡ values_of household.now.pairs inputs) }
@@ -17,10 +17,9 @@ pub fn values(alloc: Global, household: &Household, inputs: u32) -> Result<Vec<V
     Ok(values)
 }
 
-/// The same, put into a given list, which has a place for each input: what stood in it is gone. Takes no
-/// memory.
+/// The same, written over a list with an element for each input. Takes no memory.
 ///
-/// A household with the pair of 1 and 5 makes of a list of three values `Undef`, `Num 5` and `Undef`.
+/// A household with the pair (1, 5) turns a list of three values into `Undef`, `Num 5` and `Undef`.
 pub fn values_into(household: &Household, values: &mut [Value])
     requires { AllByRecursion (λ input. input < length values.old) (inputs_of household.now.pairs) }
     ensures { values.new ≡ values_of household.now.pairs (length values.old) }
@@ -29,7 +28,8 @@ pub fn values_into(household: &Household, values: &mut [Value])
     put_amounts(household, values);
 }
 
-// Puts the amounts of a household where nothing stands yet. The first pair of an input decides.
+// Writes the amounts of a household into undefined values. For an input with several pairs the
+// first one is used.
 fn put_amounts(household: &Household, values: &mut [Value])
     requires inputs { AllByRecursion (λ input. input < length values.old) (inputs_of household.now.pairs) }
     requires empty { values.old ≡ values_of [] (length values.old) }

@@ -11,8 +11,8 @@ use observables::{Coded, InputType, is_of_type};
 use std::alloc::{AllocError, Global};
 use std::marker::Model;
 
-/// The inputs, found by their codes: each with its number, its place among all inputs from 0, and with the type of its amounts.
-/// Contracts see them as the list of the inputs.
+/// The inputs, indexed by code: each has a number, its position among all inputs from 0, and a
+/// type. Contracts see the list of inputs.
 #[derive(Drop)]
 pub struct Codes {
     names: Names,
@@ -33,7 +33,8 @@ impl Model for Codes {
 }
 
 impl Codes {
-    /// The inputs, in the order of their numbers, and how many they are. Its only error is running out of memory.
+    /// Indexes `count` inputs, given in the order of their numbers. Its only error is running out
+    /// of memory.
     pub fn new(alloc: Global, inputs: &[Coded], count: u32) -> Result<Codes, AllocError>
         requires distinct { AreDistinct (codes_of inputs.now) }
         requires count { count ≡ length inputs.now }
@@ -48,7 +49,7 @@ impl Codes {
         })
     }
 
-    /// How many inputs there are. Takes no memory.
+    /// The number of inputs. Takes no memory.
     pub fn len(&self) -> u32
         ensures { result ≡ length self.now }
     {
@@ -63,8 +64,8 @@ impl Codes {
         self.names.number(code)
     }
 
-    /// Whether an amount is of the type of the input with this number: 2.5 is not, where that is `Whole`. A number that no
-    /// input has takes each amount. Takes no memory.
+    /// Whether an amount is of the type of the input with this number: 2.5 isn't if that is
+    /// `Whole`. A number without an input accepts every amount. Takes no memory.
     pub fn fits(&self, input: u32, amount: Amount) -> bool
         ensures { result ≡ is_of_type (input_type self.now input) amount }
     {
@@ -87,7 +88,7 @@ impl Codes {
     }
 }
 
-// The codes, found by themselves.
+// The index of the codes.
 fn names_of(alloc: Global, inputs: &[Coded]) -> Result<Names, AllocError>
     requires { AreDistinct (codes_of inputs.now) }
     ensures { IfOk result (λ names. names ≡ codes_of inputs.now) }
@@ -99,7 +100,7 @@ fn names_of(alloc: Global, inputs: &[Coded]) -> Result<Names, AllocError>
     Ok(names)
 }
 
-// The types, by the numbers of their inputs.
+// The types, by input number.
 fn kinds_of(alloc: Global, inputs: &[Coded]) -> Result<Vec<InputType>, AllocError>
     ensures { IfOk result (λ kinds. kinds.items ≡ map (λ input. input.kind) inputs.now) }
 {
@@ -110,7 +111,7 @@ fn kinds_of(alloc: Global, inputs: &[Coded]) -> Result<Vec<InputType>, AllocErro
     Ok(kinds)
 }
 
-// A key that is made of all codes, so that nobody can choose them to collide.
+// A hash key made from all codes, so that codes can't be chosen to collide.
 fn key_of(inputs: &[Coded]) -> Key {
     let mut digest = NamesDigest::new();
     for input in inputs {

@@ -1,4 +1,5 @@
-//! Where the records of a table without quotation marks end, found without reading them: each ends where its line does.
+//! Finds where records end in a table without quotation marks, without parsing it: a record ends
+//! where its line does.
 ghost use Rattle.std.specs.Prelude.{◌≡◌, ◌==◌, ◌-◌, ◌≤◌, IfOk, drop, length};
 ghost use Rattle.std.specs.List.{list_any};
 ghost use Rattle.csv.specs.Reading.{is_bom, strip_bom};
@@ -10,17 +11,17 @@ ghost use Rattle.household.specs.inner.Cuts.{AreCuts, GoesOver, GoesOverAll, IsC
 use memchr::{memchr, memchr2};
 use std::alloc::{AllocError, Global};
 
-/// How many records there are from one cut to the next.
+/// The number of records from one cut to the next.
 pub(crate) const BETWEEN: usize = 256;
 
-/// Whether a quotation mark stands among bytes.
+/// Whether bytes contain a quotation mark.
 pub(crate) fn has_quote(bytes: &[u8]) -> bool
     ensures { result ≡ list_any (λ byte. byte == 34) bytes.now }
 {
     memchr(b'"', bytes).is_some()
 }
 
-/// The place where the first record ends, or the end of the bytes if there is none.
+/// The position where the first record ends, or the length of the bytes if there is no record.
 pub(crate) fn first_cut(bytes: &[u8]) -> usize
     requires { HasNoQuote bytes.now }
     ensures cut { IsCut bytes.now result }
@@ -32,7 +33,8 @@ pub(crate) fn first_cut(bytes: &[u8]) -> usize
     }
 }
 
-/// Cuts between the records that are left after this one: it, and one after each 256 records. Its only error is running out of memory.
+/// Cuts between the records after the first: `first`, then one after each 256 records. Its only
+/// error is running out of memory.
 pub(crate) fn cuts_of(alloc: Global, bytes: &[u8], first: usize) -> Result<Vec<usize>, AllocError>
     requires quote { HasNoQuote bytes.now }
     requires cut { IsCut bytes.now first }
@@ -48,7 +50,7 @@ pub(crate) fn cuts_of(alloc: Global, bytes: &[u8], first: usize) -> Result<Vec<u
     Ok(cuts)
 }
 
-// The place where the last of so many records ends, if there are so many.
+// The position where the last of `count` records ends, if there are that many.
 fn records_end(bytes: &[u8], from: usize, count: usize) -> Option<usize>
     requires quote { HasNoQuote bytes.now }
     requires cut { IsCut bytes.now from }
@@ -64,7 +66,7 @@ fn records_end(bytes: &[u8], from: usize, count: usize) -> Option<usize>
     Some(at)
 }
 
-// The place where the next record ends, if there is one: lines without bytes are none.
+// The position where the next record ends, if there is one. Empty lines are no records.
 fn record_end(bytes: &[u8], from: usize) -> Option<usize>
     requires quote { HasNoQuote bytes.now }
     requires within { from ≤ length bytes.now }
@@ -81,7 +83,7 @@ fn record_end(bytes: &[u8], from: usize) -> Option<usize>
     None
 }
 
-// The place of the first line end from this place on, or the end of the bytes.
+// The position of the first line end from `from` on, or the length of the bytes.
 fn line_end(bytes: &[u8], from: usize) -> usize
     requires { from ≤ length bytes.now }
     ensures forward { from ≤ result }
@@ -102,7 +104,7 @@ fn is_mark(bytes: &[u8]) -> bool
     bytes[0] == 239 && bytes[1] == 187 && bytes[2] == 191
 }
 
-// Where the first record begins: after a byte order mark, if there is one.
+// Where the first record begins: after the byte order mark, if there is one.
 fn start_of(bytes: &[u8]) -> usize
     ensures within { result ≤ length bytes.now }
     ensures text { drop result bytes.now ≡ strip_bom bytes.now }

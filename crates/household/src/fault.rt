@@ -3,27 +3,29 @@ ghost use Rattle.household.specs.declared.fault.HouseholdFault.TheVariants.{Memo
 
 use std::alloc::{AllocError, AllocFailed};
 
-/// Why a household or a table is refused. A number is that of a record of the file, from 1; blank
-/// lines are no records. The first record with a fault decides.
+/// Why a household or a table is rejected. A number is that of a record of the file, from 1; blank
+/// lines are no records. The first faulty record is reported.
 #[derive(Clone, Copy, Debug, PartialEq, Eq)]
 pub enum HouseholdFault {
-    /// There is no record, or the first isn't `code,amount`; in a table, its first field isn't `name`.
+    /// There is no record, or the first isn't `code,amount`; in a table, its first field isn't
+    /// `name`.
     BadHeader,
-    /// There are more rows than a household or a table may have.
+    /// There are more rows than the limit of a household or a table.
     TooManyRows,
-    /// The record hasn't as many fields as it must have. In a table, its label is empty or has a
-    /// byte below 32.
+    /// The record has a wrong number of fields, or in a table a label that is empty or has a byte
+    /// below 32.
     BadRow(u32),
-    /// A field that must be a code is the code of no input.
+    /// No input has this code.
     UnknownCode(u32),
-    /// A field that must be an amount is none, or a greater one than there is.
+    /// A field isn't an amount, or is out of range.
     BadAmount(u32),
-    /// An amount that isn't of the type of its input. In a table each amount of the record is read before one of them is
-    /// refused for its type.
+    /// The amount isn't of the type of its input. In a table, bad amounts of the same record are
+    /// reported before this.
     NotOfType(u32),
-    /// The code stands in an earlier record of the household, or in an earlier column.
+    /// The code was used in an earlier record of the household, or in an earlier column of the
+    /// table.
     CodeTwice(u32),
-    /// There was no memory.
+    /// Out of memory.
     Memory,
 }
 

@@ -1,4 +1,4 @@
-//! What the readings of households and tables come to, said of their records.
+//! Laws of households and tables: their meaning by their records.
 ghost use Rattle.std.specs.Prelude.{◌≡◌, ◌++◌, ℕ, ℤ, List, Ok, Err};
 ghost use Rattle.std.specs.Prelude.{length};
 ghost use Rattle.std.specs.List.{AllByRecursion};
@@ -13,39 +13,42 @@ ghost use Rattle.household.specs.TableRows.{IsTable};
 ghost use Rattle.household.specs.declared.table.Row.{Row};
 ghost use Rattle.household.specs.declared.fault.HouseholdFault.{HouseholdFault};
 
-/// Bytes say the pairs of a household exactly where their records are a header and a row for each pair, no
-/// input stands twice and the rows are not too many. So bytes say their pairs in one way.
+/// Bytes are a household with these pairs exactly if their records are a header and one row for
+/// each pair, no input occurs twice and the number of rows is within the limit. So the pairs are
+/// unique.
 pub fn one_household()
     ensures sound { (inputs : List Coded) (bytes : List ℕ) (pairs : List (ℕ × ℤ)) → household_of inputs bytes ≡ Ok pairs → IsHousehold inputs bytes pairs }
     ensures whole { (inputs : List Coded) (bytes : List ℕ) (pairs : List (ℕ × ℤ)) → IsHousehold inputs bytes pairs → household_of inputs bytes ≡ Ok pairs }
 {}
 
-/// Where a part of bytes has no quotation mark, and after it a line ends, the records of all are those of the part and then those of the
-/// rest. So several workers may read parts that begin there.
+/// If a prefix of bytes has no quotation mark and a line end comes next, the records of the whole
+/// are those of the prefix, then those of the rest. So several workers can read parts that begin at
+/// line ends.
 pub fn records_in_parts()
     ensures { (front back : List ℕ) → HasNoQuote front → IsLineEnd back → records_of (front ++ back) ≡ records_of front ++ records_of back }
 {}
 
-/// Bytes say the rows of a table exactly where their records are one with the codes of inputs, none twice, and then a label and a cell for
-/// each column for each row, and the rows are not too many. So bytes say their rows in one way.
+/// Bytes are a table with these rows exactly if their records are a header of distinct codes of
+/// inputs, then for each row a label and a cell for each column, and the number of rows is within
+/// the limit. So the rows are unique.
 pub fn one_table()
     ensures sound { (inputs : List Coded) (bytes : List ℕ) (rows : List Row) → table_of inputs bytes ≡ Ok rows → IsTable inputs bytes rows }
     ensures whole { (inputs : List Coded) (bytes : List ℕ) (rows : List Row) → IsTable inputs bytes rows → table_of inputs bytes ≡ Ok rows }
 {}
 
-/// A household is refused for the first of its records that has a fault.
+/// A rejected household has the fault of its first faulty record.
 pub fn first_fault()
     ensures { (inputs : List Coded) (bytes : List ℕ) (fault : HouseholdFault) → household_of inputs bytes ≡ Err fault → IsRefusedHousehold inputs bytes fault }
 {}
 
-/// A table is refused for the first of its records that has a fault, and in the first for the first of its
-/// codes that has one.
+/// A rejected table has the fault of its first faulty record, and if that is the header, of its
+/// first faulty code.
 pub fn first_table_fault()
     ensures { (inputs : List Coded) (bytes : List ℕ) (fault : HouseholdFault) → table_of inputs bytes ≡ Err fault → IsRefusedTable inputs bytes fault }
 {}
 
-/// What a household without a fault gives the inputs is a list of values that programs with these inputs are asked for: each
-/// amount is of its input's type. And so is what each row of a table gives them.
+/// The values that a valid household gives the inputs are ones that the inputs may have: each
+/// amount is of its input's type. The same holds for each row of a valid table.
 pub fn given_values()
     ensures household { (inputs : List Coded) (bytes : List ℕ) (pairs : List (ℕ × ℤ)) → household_of inputs bytes ≡ Ok pairs
         → AreValuesOf inputs (values_of pairs (length inputs)) }

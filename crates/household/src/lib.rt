@@ -1,7 +1,12 @@
 //! Households and tables of households: which input has which amount.
 //!
-//! This crate reads the bytes of a household's or a table's file, as the crate `csv` reads them. It knows the inputs,
-//! their codes and types, and what an amount is, and doesn't know what is computed from them.
+//! Uses the crate `csv` to read records, and inputs with their codes and types (`observables`).
+//! Knows nothing of what is computed from the amounts.
+//!
+//! A table without quotation marks is read in parts by several workers (`parts`); every part begins
+//! at a line end, which is part of its bytes, since at the start of a part `csv` would drop a byte
+//! order mark. Filled cells are counted before they are read, so that a row takes only the memory
+//! that it needs.
 #![tactic(auto)]
 
 mod amounts;

@@ -1,10 +1,11 @@
-//! An input and its amount, in 16 bytes: an amount by itself takes as many.
+//! An input and its amount, in 16 bytes: an amount alone takes as many.
 ghost use Rattle.std.specs.Prelude.{◌≡◌};
 
 use m_fixed::Amount;
 use std::marker::Model;
 
-/// The number of an input and its amount. Contracts see it as the pair of the number and of the amount's whole number of millionths.
+/// The number of an input and its amount. Contracts see a pair of that number and the amount in
+/// whole millionths.
 #[derive(Clone, Copy, Debug, PartialEq, Eq)]
 pub struct Pair {
     size: u64,
@@ -30,7 +31,7 @@ impl Model for Pair {
 }
 
 impl Pair {
-    /// The pair of the input with this number and an amount.
+    /// The pair of an input's number and an amount.
     pub fn new(input: u32, amount: Amount) -> Pair
         ensures { result ≡ (input, amount) }
     {
@@ -42,14 +43,14 @@ impl Pair {
         }
     }
 
-    /// The number of its input.
+    /// The number of the input.
     pub fn input(self) -> u32
         ensures { result ≡ self.0 }
     {
         self.input
     }
 
-    /// Its amount.
+    /// The amount.
     pub fn amount(self) -> Amount
         ensures { result ≡ self.1 }
     {

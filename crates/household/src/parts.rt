@@ -1,4 +1,5 @@
-//! The rows of a table, read by several workers at once: each reads those of some cuts that stand side by side.
+//! Reads the rows of a table with several workers, each of which reads the records of some
+//! consecutive cuts.
 ghost use Rattle.std.specs.Prelude.{◌≡◌, ◌+◌, ◌*◌, ◌<◌, ◌≤◌, [], drop, length, MatchResult, Ok, Err};
 ghost use Rattle.m_places.specs.Refusals.{Says};
 ghost use Rattle.m_places.specs.declared.limits.TheConstants.{ROWS};
@@ -24,8 +25,9 @@ use std::alloc::Global;
 use std::thread::Threads;
 use workers::{join_parts, part_size};
 
-/// The rows after the first record of a table, or the fault of the first that has one, whatever the order in time. `records` has read
-/// the first: where a quotation mark stands in the file, it reads the rest, and else several workers read it.
+/// The rows after the first record of a table, or the fault of the first faulty one, however the
+/// workers are scheduled. `records` has read the first record. It also reads the rest if the file
+/// has a quotation mark; otherwise several workers do.
 pub(crate) fn read_rows<R: Threads + Sync>(
     rt: &R,
     alloc: Global,
@@ -43,7 +45,7 @@ pub(crate) fn read_rows<R: Threads + Sync>(
     read_parts(rt, alloc, bytes, columns, codes)
 }
 
-// The rows of the records that are left, read one after another.
+// Reads the remaining rows in order.
 fn read_left(
     alloc: Global,
     records: &mut Records<'_>,
@@ -61,7 +63,7 @@ fn read_left(
     Ok(rows)
 }
 
-// The rows after the first record of a table without quotation marks, read by several workers.
+// Reads the rows after the first record of a table without quotation marks, with several workers.
 fn read_parts<R: Threads + Sync>(
     rt: &R,
     alloc: Global,
@@ -92,7 +94,8 @@ fn read_parts<R: Threads + Sync>(
     )?
 }
 
-// The rows of the records of so many cuts, of which the first has this number, or the fault of the first record that has one.
+// The rows of the records of some consecutive cuts, the first of which is number `start`, or the
+// fault of the first faulty record.
 fn read_part(
     alloc: Global,
     bytes: &[u8],
@@ -111,7 +114,8 @@ fn read_part(
     rows
 }
 
-// The rows of the next records, as many as stand between so many cuts, of which the first has this number, or their fault.
+// Reads the rows of at most `many` cuts, the first of which is number `start`, or reports the first
+// fault.
 fn read_many(
     alloc: Global,
     records: &mut Records<'_>,
@@ -139,7 +143,7 @@ fn records_at<'a>(alloc: Global, bytes: &'a [u8], cut: usize) -> Records<'a>
     records_of(alloc, &bytes[cut..])
 }
 
-// The line of the record after so many of a part, whose first cut has this number.
+// The number of the record after `rows` rows of a part whose first cut is number `start`.
 fn line_of(start: usize, rows: usize) -> Result<u32, HouseholdFault>
     ensures { MatchResult result (λ line. (start * BETWEEN + rows < ROWS) × (line ≡ line_behind (start * BETWEEN + rows)))
         (λ fault. (ROWS ≤ start * BETWEEN + rows) × (fault ≡ TooManyRows)) }

@@ -17,11 +17,11 @@ use std::alloc::Global;
 /// The amounts of a household.
 #[derive(Drop)]
 pub struct Household {
-    /// The inputs and their amounts, in the order of the file. No input stands twice.
+    /// The inputs and their amounts, in the order of the file. No input occurs twice.
     pub pairs: Seq<Pair>,
 }
 
-/// Reads a household: records set apart by commas, of which the first is `code,amount` and each other
+/// Parses a household: comma-separated records, the first of which is `code,amount`; each other is
 /// the code of an input and an amount, as `1AJ,2500.5`.
 pub fn read_household(
     alloc: Global,
@@ -46,7 +46,7 @@ pub fn read_household(
     })
 }
 
-// Whether a record is the first of a household.
+// Whether a record is the header of a household.
 fn is_header(row: &ByteRecord) -> bool
     ensures { result ≡ is_header (fields_of row.now) }
 {
@@ -55,7 +55,7 @@ fn is_header(row: &ByteRecord) -> bool
         && field_at(row, 1) == b"amount".as_slice()
 }
 
-// The pairs of the rows that are left.
+// The pairs of the remaining rows.
 fn read_rows(
     alloc: Global,
     records: &mut Records<'_>,
@@ -77,7 +77,7 @@ fn read_rows(
     Ok(pairs)
 }
 
-// The pair that the record with this number says.
+// Parses the record with this number.
 fn read_pair(row: &ByteRecord, line: u32, codes: &Codes) -> Result<Pair, HouseholdFault>
     ensures pair { result ≡ pair_of codes.now line (fields_of row.now) }
     ensures known { IfOk result (λ pair. pair.0 < length codes.now) }
@@ -94,7 +94,7 @@ fn read_pair(row: &ByteRecord, line: u32, codes: &Codes) -> Result<Pair, Househo
     }
 }
 
-// The pair of an input and an amount, if that is of the input's type.
+// The pair of an input and an amount, if the amount is of the input's type.
 fn fitting_pair(
     input: u32,
     amount: Amount,

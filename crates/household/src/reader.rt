@@ -1,4 +1,4 @@
-//! How the records of bytes in memory are read.
+//! Configuration of the reader of records.
 ghost use Rattle.household.specs.Plain.{ReadsOn};
 
 use csv::Reader;

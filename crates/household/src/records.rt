@@ -1,5 +1,5 @@
-//! The records of a file whose fields are set apart by commas, one after another, read by the crate `csv`.
-//! The bytes are in memory, so that running out of memory is the only error there is.
+//! Comma-separated records, read one after another by the crate `csv`. The bytes are in memory, so
+//! the only error is running out of memory. `m_cases` reads its records by this module too.
 ghost use Rattle.std.specs.Prelude.{◌≡◌, ◌<◌, ◌≤◌, IfOk, IsErr, MatchResult, Ok, [], get_or};
 ghost use Rattle.csv.specs.Records.{fields_of};
 ghost use Rattle.m_places.specs.declared.limits.TheConstants.{ROWS};
@@ -14,7 +14,7 @@ use csv::{ByteRecord, Error, ReaderBuilder};
 use m_places::limits::ROWS;
 use std::alloc::{AllocError, Global};
 
-/// A reader of the records of bytes: with no header row, records of any length and no trimming. Takes no
+/// A reader of the records of bytes: no header row, records of any length, no trimming. Takes no
 /// memory before the first record is read.
 pub fn records_of(alloc: Global, bytes: &[u8]) -> Records<'_>
     ensures { left_of result ≡ records_of bytes.now }
@@ -26,8 +26,9 @@ pub fn records_of(alloc: Global, bytes: &[u8]) -> Records<'_>
     Records { reader }
 }
 
-/// Reads the next record into `row`, and says whether there was one. Its only error is running out of memory: the crate has
-/// others, of records of unequal lengths, of text and of the reader underneath, and bytes in memory read as bytes have none of them.
+/// Reads the next record into `row`, and returns whether there was one. Its only error is running
+/// out of memory: the other errors of `csv` are about records of unequal lengths, text encoding and
+/// I/O, none of which occur for byte records in memory.
 pub fn next_record(records: &mut Records<'_>, row: &mut ByteRecord) -> Result<bool, AllocError>
     ensures { IfOk result (λ found. IsNext records.old found (fields_of row.new) records.new) }
 {
@@ -35,7 +36,7 @@ pub fn next_record(records: &mut Records<'_>, row: &mut ByteRecord) -> Result<bo
     found_or_full(read)
 }
 
-// What was read, where each error is that memory ran out.
+// Maps every error to running out of memory.
 fn found_or_full(read: Result<bool, Error>) -> Result<bool, AllocError>
     ensures { MatchResult result (λ found. read ≡ Ok found) (λ _. IsErr read) }
 {
@@ -45,7 +46,8 @@ fn found_or_full(read: Result<bool, Error>) -> Result<bool, AllocError>
     }
 }
 
-/// The number of the record after the header and so many rows, if there may be one more. Takes no memory.
+/// The number of the record after the header and `rows` rows, if one more row is within the limit.
+/// Takes no memory.
 pub fn next_line(rows: usize) -> Result<u32, HouseholdFault>
     ensures { MatchResult result (λ line. (rows < ROWS) × (line ≡ line_behind rows)) (λ fault. (ROWS ≤ rows) × (fault ≡ TooManyRows)) }
 {
@@ -55,7 +57,7 @@ pub fn next_line(rows: usize) -> Result<u32, HouseholdFault>
     Ok(rows as u32 + 2)
 }
 
-/// The field of a record at this place, from 0, and nothing after the last. Takes no memory.
+/// The field of a record at this position, from 0; empty past the last. Takes no memory.
 pub fn field_at(row: &ByteRecord, place: usize) -> &[u8]
     ensures { result.now ≡ get_or (fields_of row.now) place [] }
 {

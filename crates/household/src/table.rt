@@ -26,10 +26,10 @@ pub struct Row {
     pub household: Household,
 }
 
-/// Reads a table: records set apart by commas, of which the first is `name` and codes of inputs, and
-/// each other a label and an amount or nothing for each code, as `dupont,2500.5,`.
+/// Parses a table: comma-separated records, the first of which is `name` and codes of inputs; each
+/// other is a label and, for each code, an amount or an empty cell, as `dupont,2500.5,`.
 ///
-/// Several workers read the rows at once, each those of a part.
+/// Several workers read the rows, each those of a part.
 pub fn read_table<R: Threads + Sync>(
     rt: &R,
     alloc: Global,
@@ -53,14 +53,14 @@ pub fn read_table<R: Threads + Sync>(
     Ok(Seq::from_vec(rows))
 }
 
-// Whether a record is the first of a table.
+// Whether a record is the header of a table.
 fn is_header(row: &ByteRecord) -> bool
     ensures { result ≡ is_table_header (fields_of row.now) }
 {
     field_at(row, 0) == b"name".as_slice()
 }
 
-// The inputs of a table's columns, by its first record.
+// The inputs of a table's columns, from its header.
 fn read_columns(alloc: Global, row: &ByteRecord, codes: &Codes) -> Result<Vec<u32>, HouseholdFault>
     ensures { Says Memory result (λ columns. columns.items) (in_turn (column_of codes.now) [] (drop 1 (fields_of row.now))) }
 {
@@ -78,7 +78,7 @@ fn read_columns(alloc: Global, row: &ByteRecord, codes: &Codes) -> Result<Vec<u3
     Ok(columns)
 }
 
-/// The row that the record with this number says.
+/// Parses the record with this number as a row.
 pub(crate) fn read_row(
     alloc: Global,
     row: &ByteRecord,
@@ -101,7 +101,7 @@ pub(crate) fn read_row(
     })
 }
 
-/// Whether a text may be a row's label: it isn't empty, and no byte of it is below 32. Takes no memory.
+/// Whether a text can be a row's label: it isn't empty, and no byte is below 32. Takes no memory.
 pub fn is_label(text: &[u8]) -> bool
     ensures { result ≡ is_label text.now }
 {
@@ -115,7 +115,7 @@ fn is_printable(text: &[u8]) -> bool
     text.iter().all(|byte| *byte >= 32)
 }
 
-// The pairs of a record's cells, each of its input's type.
+// The pairs of a record's cells, each amount of its input's type.
 fn read_pairs(
     alloc: Global,
     row: &ByteRecord,
@@ -133,7 +133,7 @@ fn read_pairs(
     Ok(pairs)
 }
 
-// The pairs of a record's cells.
+// The pairs of a record's cells, of any types.
 fn read_cells(
     alloc: Global,
     row: &ByteRecord,
@@ -153,8 +153,8 @@ fn read_cells(
     Ok(pairs)
 }
 
-/// The pair of a cell that isn't empty, below a column of this input, in the record with this number: its only fault is a bad
-/// amount. Whether the amount is of the input's type `Codes::fits` says. Takes no memory.
+/// The pair of a non-empty cell in the column of this input, in the record with this number. Its
+/// only fault is a bad amount; the type is checked by `Codes::fits`. Takes no memory.
 pub fn read_cell(cell: &[u8], input: u32, line: u32) -> Result<Pair, HouseholdFault>
     ensures { result ≡ parsed_amount line input (amount_read (text_value cell.now)) }
 {
@@ -164,7 +164,8 @@ pub fn read_cell(cell: &[u8], input: u32, line: u32) -> Result<Pair, HouseholdFa
     }
 }
 
-// Room for the pairs of a record's cells, so that a row takes no more memory than they need. Its only error is running out of memory.
+// An empty list with capacity for the pairs of a record's cells, so that a row takes only the
+// memory that it needs. Its only error is running out of memory.
 fn room_for(alloc: Global, row: &ByteRecord) -> Result<Vec<Pair>, AllocError>
     ensures none { IfOk result (λ pairs. pairs.items ≡ []) }
     ensures room { IfOk result (λ pairs. vec_capacity pairs ≤ length (fields_of row.now)) }
@@ -172,7 +173,7 @@ fn room_for(alloc: Global, row: &ByteRecord) -> Result<Vec<Pair>, AllocError>
     Vec::with_capacity(alloc, count_filled(row))
 }
 
-// How many cells of a record aren't empty.
+// The number of cells of a record that aren't empty.
 fn count_filled(row: &ByteRecord) -> usize
     ensures { result ≤ length (fields_of row.now) }
 {

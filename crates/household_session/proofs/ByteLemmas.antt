@@ -1,4 +1,4 @@
--- Lines and pieces as code cuts them from bytes.
+-- Lines and pieces as the code splits them.
 use Rattle.std.proofs.Common.{◌≡◌, ◌≢◌, ℕ, ◌+◌, ◌-◌, ◌<◌, ◌≤◌, zero, suc, min, length, length-take, length-drop, take, drop, get_or, List, [], ◌∷◌, ◌++◌}
 use Rattle.std.proofs.Common.{zero-add, refl, sym, ◌∙◌, ap, subst, inl, inr, arith}
 use Rattle.std.specs.List.{copy_within}
@@ -8,7 +8,7 @@ use Rattle.std.proofs.lemmas.List.Edits.{take-paste}
 use Rattle.m_text.specs.Bytes.{RunsTo, line_feed}
 use Rattle.household_session.specs.Replies.{IsUnended}
 
--- bytes without a line feed, by their places
+-- bytes without a line feed, by position
 pub unended_all : (bytes : List ℕ) → ((k : ℕ) → k < length bytes → get_or bytes k 0 ≢ 10) → IsUnended bytes
 unended_all [] each = tt
 unended_all (byte ∷ bytes) each = (each 0 (omega arith), unended_all bytes (λ k h. each (suc k) (omega arith)))
@@ -21,7 +21,7 @@ unended_take (suc n) (byte ∷ bytes) free = (free.0, unended_take n bytes free.
 part_at : (bytes : List ℕ) (from n k : ℕ) → k < n → get_or (take n (drop from bytes)) k 0 ≡ get_or bytes (from + k) 0
 part_at bytes from n k h = get_or-take n (drop from bytes) k 0 h ∙ get_or-drop from bytes k 0
 
--- the bytes of a run have no line feed
+-- a run of bytes has no line feed
 pub run_unended : (bytes : List ℕ) (from end : ℕ) → RunsTo (λ b. b ≢ line_feed) bytes from end → IsUnended (take (end - from) (drop from bytes))
 run_unended bytes from end runs = unended_all (take (end - from) (drop from bytes)) (λ k h.
     let within : k < end - from = omega (arith, length-take (end - from) (drop from bytes)) in
@@ -32,7 +32,7 @@ run_to_end bytes from end runs all =
     subst (λ (part : List ℕ). IsUnended part) (take_all (end - from) (drop from bytes) (omega (arith, length-drop from bytes)))
     (run_unended bytes from end runs)
 
--- a run that ends before the end stands before a line feed
+-- after a run that ends before the end of the bytes comes a line feed
 pub run_cut : (bytes : List ℕ) (from end : ℕ) → RunsTo (λ b. b ≢ line_feed) bytes from end → end < length bytes
     → drop from bytes ≡ take (end - from) (drop from bytes) ++ line_feed ∷ drop (end + 1) bytes
 run_cut bytes from end runs h =
@@ -47,7 +47,7 @@ unended_at [] k free h = absurd (omega arith)
 unended_at (byte ∷ bytes) zero free h = free.0
 unended_at (byte ∷ bytes) (suc k) free h = unended_at bytes k free.1 (omega arith)
 
--- a run after bytes without a line feed is one from the start
+-- a run after bytes without a line feed extends to the start
 pub run_from_front : (bytes : List ℕ) (held end : ℕ) → held ≤ length bytes → IsUnended (take held bytes) → RunsTo (λ b. b ≢ line_feed) bytes held end
     → RunsTo (λ b. b ≢ line_feed) bytes 0 end
 run_from_front bytes held end within free runs = record {
@@ -66,12 +66,12 @@ take_less (suc n) zero l h = absurd (omega arith)
 take_less (suc n) (suc m) [] h = refl
 take_less (suc n) (suc m) (x ∷ l) h = ap (λ r. x ∷ r) (take_less n m l (omega arith))
 
--- what stands at the start already is kept where it is
+-- bytes that are at the start already are left there
 pub kept_there : (room : List ℕ) (from filled count : ℕ) → from ≡ 0 → count ≤ filled → take count room ≡ take count (drop from (take filled room))
 kept_there room from filled count is h =
     sym (ap (λ (k : ℕ). take count (drop k (take filled room))) is ∙ take_less count filled room h)
 
--- what is kept of the bytes between two places
+-- the bytes that are kept
 pub kept_front : (room new : List ℕ) (from filled count : ℕ) → from ≤ filled → filled ≤ length room → count ≡ min (filled - from) 4097
     → new ≡ copy_within room from (from + count) 0 → take count new ≡ take count (drop from (take filled room))
 kept_front room new from filled count order within is copied =

@@ -1,4 +1,4 @@
--- A session's loop on its way: from one line, one piece and one turn to the next.
+-- The invariant of the loop, from one line, piece and turn to the next.
 use Rattle.std.proofs.Common.{◌≡◌, ℕ, ◌<◌, length, List, [], ◌∷◌, ◌++◌, Option, None, Some, refl, sym, ◌∙◌, ap, subst, append_assoc, append-nil}
 use Rattle.std.specs.Io.KnownBytes.{append_known}
 use Rattle.m_places.specs.declared.limits.TheConstants.{SESSION_LINE_BYTES}
@@ -15,7 +15,7 @@ nothing_more : (known : Option (List ℕ)) → known ≡ append_known known []
 nothing_more None = refl
 nothing_more (Some bytes) = ap Some (sym (append-nil bytes))
 
--- before the first line
+-- no lines yet
 pub goes_none : {K : Type 0} (written : K → Option (List ℕ)) (faults : K → ℕ) (old : K) (start : Telling) (before : List ℕ)
     → Goes written faults old old start start before before
 goes_none written faults old start before = record {
@@ -26,11 +26,11 @@ goes_none written faults old start before = record {
   faultless = refl;
 }
 
--- a line that ends, with what stands after its line feed
+-- a line with its line feed, followed by more
 line_then : (line more rest : List ℕ) → (line ++ line_feed ∷ more) ++ rest ≡ line ++ line_feed ∷ (more ++ rest)
 line_then line more rest = append_assoc line (line_feed ∷ more) rest
 
--- a line more has its reply
+-- one more line was replied to
 pub goes_line : {K : Type 0} (written : K → Option (List ℕ)) (faults : K → ℕ) (old now new : K) (start telling later : Telling)
     (before left line more reply : List ℕ)
     → Goes written faults old now start telling before left → left ≡ line ++ line_feed ∷ more → IsUnended line
@@ -50,7 +50,7 @@ goes_line written faults old now new start telling later before left line more r
   faultless = none ∙ goes.faultless;
 }
 
--- the reply to a line broke off
+-- the reply to a line was interrupted
 pub goes_broken : {K : Type 0} (written : K → Option (List ℕ)) (faults : K → ℕ) (old now new : K) (start telling later : Telling)
     (before left line more reply : List ℕ)
     → Goes written faults old now start telling before left → left ≡ line ++ line_feed ∷ more → IsUnended line
@@ -66,11 +66,11 @@ goes_broken written faults old now new start telling later before left line more
     (AppendsPrefix-before (written old) (written new) (goes.text ++ reply) (ended_of later (more ++ []))
     (AppendsPrefix-after (written old) (written now) (written new) goes.text reply goes.appended prefix))
 
--- a rise of the count of faults is one from the beginning
+-- if the fault count rose after an unchanged prefix, it rose since the start
 pub rose_from : {K : Type 0} (faults : K → ℕ) (old now new : K) → faults now ≡ faults old → Rose (faults now) (faults new) → Rose (faults old) (faults new)
 rose_from faults old now new same rose = subst (λ count. Rose count (faults new)) same rose
 
--- a piece more is taken
+-- one more piece is read
 pub goes_taken : {K : Type 0} (written : K → Option (List ℕ)) (faults : K → ℕ) (old now : K) (start telling : Telling) (before left piece : List ℕ)
     → Goes written faults old now start telling before left → Goes written faults old now start telling (before ++ piece) (left ++ piece)
 goes_taken written faults old now start telling before left piece goes = record {
@@ -83,7 +83,7 @@ goes_taken written faults old now start telling before left piece goes = record 
   faultless = goes.faultless;
 }
 
--- one way and then another
+-- two steps in sequence
 pub goes_then : {K : Type 0} (written : K → Option (List ℕ)) (faults : K → ℕ) (old now new : K) (start telling later : Telling) (before mid left : List ℕ)
     → Goes written faults old now start telling before mid → Goes written faults now new telling later mid left
     → Goes written faults old new start later before left
@@ -109,7 +109,7 @@ goes_cut written faults old now start telling before left fewer alike free freed
   faultless = goes.faultless;
 }
 
--- a text was written, and then a write failed
+-- a text was written, then a write failed
 breaks_after : {K : Type 0} (written : K → Option (List ℕ)) (faults : K → ℕ) (old now new : K) (front text all : List ℕ)
     → written now ≡ append_known (written old) front → faults now ≡ faults old
     → all ≡ front ++ text → BreaksOff written faults now new text → BreaksOff written faults old new all
@@ -119,7 +119,7 @@ breaks_after written faults old now new front text all given none is breaks = re
       (AppendsPrefix-after (written old) (written now) (written new) front text given breaks.prefix);
 }
 
--- one way, and then a break among the lines that a piece ends
+-- a step, then a failure among the lines that a piece completes
 pub breaks_ended : {K : Type 0} (written : K → Option (List ℕ)) (faults : K → ℕ) (old now new : K) (start telling : Telling) (before left piece : List ℕ)
     → Goes written faults old now start telling before left → BreaksOff written faults now new (ended_of telling (left ++ piece))
     → BreaksOff written faults old new (ended_of start (before ++ piece))
@@ -127,13 +127,13 @@ breaks_ended written faults old now new start telling before left piece goes bre
     breaks_after written faults old now new goes.text (ended_of telling (left ++ piece)) (ended_of start (before ++ piece)) goes.appended goes.faultless
     (goes.ended piece) breaks
 
--- what all lines have as replies, those that are left after the others
+-- the replies to all lines: those so far, then those to the lines left
 whole_then : {K : Type 0} (written : K → Option (List ℕ)) (faults : K → ℕ) (old now : K) (start telling : Telling) (before left : List ℕ)
     → (goes : Goes written faults old now start telling before left) → whole_of start before ≡ goes.text ++ whole_of telling left
 whole_then written faults old now start telling before left goes =
     ap (whole_of start) (sym (append-nil before)) ∙ goes.whole [] ∙ ap (λ l. goes.text ++ whole_of telling l) (append-nil left)
 
--- one way, and then a break in the last line
+-- a step, then a failure in the last line
 pub breaks_last : {K : Type 0} (written : K → Option (List ℕ)) (faults : K → ℕ) (old now new : K) (start telling : Telling) (before left : List ℕ)
     → Goes written faults old now start telling before left → BreaksOff written faults now new (whole_of telling left)
     → BreaksOff written faults old new (whole_of start before)
@@ -143,7 +143,7 @@ breaks_last written faults old now new start telling before left goes breaks =
 
 -- ---- at the end
 
--- all that was taken has its replies, where what is left has them
+-- all bytes have their replies, if the bytes left have them
 pub goes_whole : {K : Type 0} (written : K → Option (List ℕ)) (faults : K → ℕ) (old now new : K) (start telling : Telling) (before left : List ℕ)
     → Goes written faults old now start telling before left → written new ≡ append_known (written now) (whole_of telling left)
     → written new ≡ append_known (written old) (whole_of start before)
@@ -151,7 +151,7 @@ goes_whole written faults old now new start telling before left goes given =
     given ∙ ap (λ known. append_known known (whole_of telling left)) goes.appended ∙ append_known-append (written old) goes.text (whole_of telling left)
     ∙ ap (append_known (written old)) (sym (whole_then written faults old now start telling before left goes))
 
--- the lines with their line feed have their replies, where what is left has none
+-- the lines with their line feed have their replies, if the bytes left have no such line
 pub goes_ended : {K : Type 0} (written : K → Option (List ℕ)) (faults : K → ℕ) (old now : K) (start telling : Telling) (before left : List ℕ)
     → telling [] ≡ [] → Goes written faults old now start telling before left → IsUnended left
     → written now ≡ append_known (written old) (ended_of start before)

@@ -1,4 +1,4 @@
--- The replies to lines of an input, by its first line and by the bytes before the next line feed.
+-- Replies to the lines of an input, by its first line and by the bytes before the next line feed.
 use Rattle.std.proofs.Common.{◌≡◌, ℕ, ◌<◌, List, [], ◌∷◌, ◌++◌, length, length-append, append-nil, sym, ap, ◌∙◌, arith, refl}
 use Rattle.m_places.specs.declared.limits.TheConstants.{SESSION_LINE_BYTES}
 use Rattle.m_text.specs.Bytes.{line_feed}
@@ -7,7 +7,7 @@ use Rattle.household_session.proofs.ReplyLemmas.{in_front, in_front_ended, ended
 use Rattle.household_session.proofs.ReplyLemmas.{input_lines-last, input_lines-line}
 use Rattle.household_session.specs.Repliers.{AreLongAlike, Telling, ended_of, whole_of}
 
--- the replies to an input are that to its first line, and those to the rest of it
+-- the replies to an input are that to its first line, followed by those to the rest
 pub whole-line : (telling later : Telling) (first rest reply : List ℕ) → IsUnended first
     → ((lines : List (List ℕ)) → telling (first ∷ lines) ≡ reply ++ later lines)
     → whole_of telling (first ++ line_feed ∷ rest) ≡ reply ++ whole_of later rest
@@ -18,14 +18,14 @@ pub ended-line : (telling later : Telling) (first rest reply : List ℕ) → IsU
     → ended_of telling (first ++ line_feed ∷ rest) ≡ reply ++ ended_of later rest
 ended-line telling later first rest reply free step = ap telling (ended_lines-line first rest free) ∙ step (ended_lines rest)
 
--- a last line that lacks its line feed is replied to as another
+-- a last line without a line feed is replied to like any other
 pub whole-last : (telling later : Telling) (bytes reply : List ℕ) → later [] ≡ [] → IsUnended bytes → 0 < length bytes
     → ((lines : List (List ℕ)) → telling (bytes ∷ lines) ≡ reply ++ later lines)
     → whole_of telling bytes ≡ reply
 whole-last telling later bytes reply nothing free some step = ap telling (input_lines-last bytes free some) ∙ step [] ∙ ap (λ text. reply ++ text) nothing
     ∙ append-nil reply
 
--- and has no line feed
+-- and isn't among the lines that have one
 pub ended-none : (telling : Telling) (bytes : List ℕ) → telling [] ≡ [] → IsUnended bytes → ended_of telling bytes ≡ []
 ended-none telling bytes nothing free = ap telling (ended_lines-last bytes free) ∙ nothing
 

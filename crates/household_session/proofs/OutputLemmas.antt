@@ -1,4 +1,4 @@
--- The lines of outputs, from one of them on, and the label of a stop.
+-- The lines of outputs, from a position on, and the label of a stop.
 use Rattle.std.proofs.Common.{◌≡◌, ℕ, ◌+◌, ◌<◌, ◌≤◌, length, get_or, drop, Bool, true, false, cond, List, [], ◌∷◌, ◌++◌, Option, Some, None, refl, sym, ◌∙◌, ap}
 use Rattle.std.proofs.Common.{subst}
 use Rattle.std.specs.Prelude.{map, ◌||◌}
@@ -21,7 +21,7 @@ use Rattle.flat_code.specs.Runs.{value_at, is_one, stop_of, check_stop, first_st
 use Rattle.flat_code.proofs.RunLemmas.{one_of_all}
 use Rattle.tax_print.specs.Lines.{output_line, output_lines, outputs_lines}
 
--- the lines that are left begin with those of the output that stands there
+-- the remaining lines begin with those of the output at this position
 pub outputs_at : (face : Face) (vs : List Value) (outputs : List ℕ) (k : ℕ) (value : Value) → k < length face.outputs → k < length outputs
     → value ≡ value_at vs (get_or outputs k 0)
     → outputs_lines face.labels (drop k face.outputs) (map (value_at vs) (drop k outputs))
@@ -38,7 +38,7 @@ no_lines : (labels : List FaceLabel) (outputs : List FaceOutput) → outputs_lin
 no_lines labels [] = refl
 no_lines labels (output ∷ outputs) = refl
 
--- after the last output there is nothing
+-- past the last output there are no lines
 pub outputs_end : (face : Face) (vs : List Value) (outputs : List ℕ) (k : ℕ) → length outputs ≤ k
     → outputs_lines face.labels (drop k face.outputs) (map (value_at vs) (drop k outputs)) ≡ []
 outputs_end face vs outputs k h = ap (λ left. outputs_lines face.labels (drop k face.outputs) (map (value_at vs) left)) (drop_all k outputs h)
@@ -51,7 +51,7 @@ read_at vs outputs k value h all is =
     let within : get_or outputs k 0 < length vs = one_of_all _ outputs k _ all (slice_get-get_or outputs k 0 h) in
     is ∙ get_or_from_slice_get vs (get_or outputs k 0) (get_or vs (get_or outputs k 0) Undef) value (slice_get-get_or vs (get_or outputs k 0) Undef within)
 
--- ---- the label of a stop is its check's
+-- ---- the label of a stop is that of its check
 
 failed_label : (t : Bool) (label : ℕ) (stop : Stop) → cond t None (Some (Failed label)) ≡ Some stop → label_number stop ≡ label
 failed_label true label stop is = absurd (cc is)
@@ -76,7 +76,7 @@ first_or_later : (found later : Option Stop) (stop : Stop) (n : ℕ) → (found 
 first_or_later None later stop n here there is = there is
 first_or_later (Some first) later stop n here there is = here is
 
--- where each check's label is below a number, that of the first stop is too
+-- if each check's label is below a number, so is that of the first stop
 pub stop_label : (vs : List Value) (n : ℕ) (checks : List Check) (stop : Stop) → AllByRecursion (λ check. check.label < n) checks
     → first_stop vs checks ≡ Some stop → label_number stop < n
 stop_label vs n [] stop all is = absurd (cc is)

@@ -1,4 +1,4 @@
--- The lines of an input and the replies to them, from one line to the next, and by the bytes before the next line feed.
+-- The lines of an input and their replies, line by line and by the bytes before the next line feed.
 use Rattle.std.proofs.Common.{◌≡◌, ◌≢◌, ℕ, ◌<◌, Bool, true, false, List, [], ◌∷◌, ◌++◌, length, length-append, append-nil, refl, sym, ap, ◌∙◌, arith}
 use Rattle.std.specs.Prelude.{◌==◌, if◌then◌else◌}
 use Rattle.std.proofs.lemmas.Bool.{ne_eqb, lt-leb}
@@ -11,7 +11,7 @@ use Rattle.household_session.specs.Commands.{SessionCommand, too_long, session_c
 use Rattle.household_session.specs.Replies.{command_reply, command_values, lines_replies, reply_of, after_line, input_lines, onto_ended, ended_lines}
 use Rattle.household_session.specs.Replies.{replies_to, replies_of, IsUnended}
 
--- ---- a line that ends
+-- ---- a complete line
 
 ended_first : (byte : ℕ) (bytes first : List ℕ) (lines : List (List ℕ)) → byte ≢ 10 → input_lines bytes ≡ first ∷ lines
     → input_lines (byte ∷ bytes) ≡ (byte ∷ first) ∷ lines
@@ -31,7 +31,7 @@ ended_lines-line (byte ∷ bytes) rest free = ended_next byte (bytes ++ line_fee
 
 -- ---- bytes before the next line feed
 
--- lines with bytes before the first of them
+-- bytes put before the first of some lines
 abbrev pub in_front : List ℕ → List (List ℕ) → List (List ℕ)
 in_front bytes [] = bytes ∷ []
 in_front bytes (first ∷ lines) = (bytes ++ first) ∷ lines
@@ -74,7 +74,7 @@ ended_lines-front [] rest free = none_in_front (ended_lines rest)
 ended_lines-front (byte ∷ bytes) rest free =
     at_other_ended byte (bytes ++ rest) free.0 ∙ ap (onto_ended byte) (ended_lines-front bytes rest free.1) ∙ more_in_front_ended byte bytes (ended_lines rest)
 
--- what no line feed ends is one line, and none that is ended
+-- bytes without a line feed are one line, which has no line feed
 pub input_lines-last : (bytes : List ℕ) → IsUnended bytes → 0 < length bytes → input_lines bytes ≡ bytes ∷ []
 input_lines-last bytes free some = ap input_lines (sym (append-nil bytes)) ∙ input_lines-front bytes [] free some
 
@@ -83,7 +83,7 @@ ended_lines-last bytes free = ap ended_lines (sym (append-nil bytes)) ∙ ended_
 
 -- ---- the replies
 
--- the replies to an input are that to its first line, and those to the rest of it
+-- the replies to an input are that to its first line, followed by those to the rest
 pub replies-line : (sitting : Sitting) (first rest : List ℕ) → IsUnended first
     → replies_of sitting (first ++ line_feed ∷ rest) ≡ reply_of sitting first ++ replies_of (after_line sitting first) rest
 replies-line sitting first rest free = ap (replies_to sitting) (input_lines-line first rest free)
@@ -92,11 +92,11 @@ pub replies-ended : (sitting : Sitting) (first rest : List ℕ) → IsUnended fi
     → replies_to sitting (ended_lines (first ++ line_feed ∷ rest)) ≡ reply_of sitting first ++ replies_to (after_line sitting first) (ended_lines rest)
 replies-ended sitting first rest free = ap (replies_to sitting) (ended_lines-line first rest free)
 
--- a last line that lacks its line feed is replied to as another
+-- a last line without a line feed is replied to like any other
 pub replies-last : (sitting : Sitting) (bytes : List ℕ) → IsUnended bytes → 0 < length bytes → replies_of sitting bytes ≡ reply_of sitting bytes
 replies-last sitting bytes free some = ap (replies_to sitting) (input_lines-last bytes free some) ∙ append-nil (reply_of sitting bytes)
 
--- what is too long asks for nothing that can be done
+-- a line that is too long is an error
 too_long_is : (bytes : List ℕ) → SESSION_LINE_BYTES < length bytes → session_command bytes ≡ too_long
 too_long_is bytes long = rw (lt-leb (length bytes) SESSION_LINE_BYTES long) refl
 
@@ -108,7 +108,7 @@ same_stated : (showing : Showing) (values : List Value) (c d : SessionCommand) (
     ++ lines_replies showing (command_values showing values d) lines
 same_stated showing values c d lines same = ap (λ e. command_reply showing values e ++ lines_replies showing (command_values showing values e) lines) same
 
--- Of a line that is too long it doesn't matter which bytes it has.
+-- The reply to a line that is too long doesn't depend on its bytes.
 long_alike : (sitting : Sitting) (one other : List ℕ) (lines : List (List ℕ)) → SESSION_LINE_BYTES < length one → SESSION_LINE_BYTES < length other
     → replies_to sitting (one ∷ lines) ≡ replies_to sitting (other ∷ lines)
 long_alike sitting one other lines long longer =
@@ -154,14 +154,14 @@ ended_begin true byte all ended lines is = (lines, ap (λ l. [] ∷ l) is)
 ended_begin false byte all [] lines is = (onto_ended byte all, refl)
 ended_begin false byte all (first ∷ ended) lines is = (lines, ap (onto_ended byte) is)
 
--- the lines of an input begin with those of a prefix of it that have their line feed
+-- the lines of an input begin with the lines of a prefix that have their line feed
 pub input_lines-begin : (front rest : List ℕ) → (lines : List (List ℕ)) × (input_lines (front ++ rest) ≡ ended_lines front ++ lines)
 input_lines-begin [] rest = (input_lines rest, refl)
 input_lines-begin (byte ∷ front) rest =
     let more = input_lines-begin front rest in
     lines_begin (byte == line_feed) byte (input_lines (front ++ rest)) (ended_lines front) more.0 more.1
 
--- and so do those of its lines that have their line feed
+-- the same for the lines of the input that have their line feed
 pub ended_lines-begin : (front rest : List ℕ) → (lines : List (List ℕ)) × (ended_lines (front ++ rest) ≡ ended_lines front ++ lines)
 ended_lines-begin [] rest = (ended_lines rest, refl)
 ended_lines-begin (byte ∷ front) rest =

@@ -1,4 +1,4 @@
--- What is noted of a household's pairs, from the last one on.
+-- Marks of the inputs of a household's pairs, from the last pair on.
 use Rattle.std.proofs.Common.{◌≡◌, ℕ, ℤ, ◌+◌, ◌-◌, ◌<◌, ◌≤◌, Bool, true, List, ◌∷◌, length, get_or, set, drop, sym, ap, ◌∙◌, arith}
 use Rattle.std.proofs.lemmas.List.{drop_more}
 use Rattle.household_session.specs.Seats.{noted_pairs}

@@ -14,7 +14,7 @@ use Rattle.household_session.specs.declared.turns.ServeEnd.TheVariants.{Done, Re
 use Rattle.household_session.proofs.ByteLemmas.{unended_take}
 use Rattle.household_session.proofs.GoingLemmas.{breaks_ended, breaks_last, goes_cut, goes_ended, goes_none, goes_taken, goes_then, goes_whole, rose_from}
 
--- ---- what is known of the input
+-- ---- known contents of the input
 
 pub prepend_none : (known : Option (List ℕ)) → prepend_known [] known ≡ known
 prepend_none None = refl
@@ -41,7 +41,7 @@ stopped_at_end left source_faults written faults source_old source_now old now s
 stopped_at_end left source_faults written faults source_old source_now old now start held most ReadFault moved none calm never = absurd never
 stopped_at_end left source_faults written faults source_old source_now old now start held most TooLong moved none calm never = absurd never
 
--- what is kept of the bytes that are left is enough of them
+-- the bytes kept of those left are enough
 pub goes_kept : {K : Type 0} (written : K → Option (List ℕ)) (faults : K → ℕ) (old now : K) (start telling : Telling) (before left kept : List ℕ) (count : ℕ)
     → AreLongAlike telling → IsUnended left → count ≡ min (length left) 4097 → kept ≡ take count left → Goes written faults old now start telling before left
     → Goes written faults old now start telling before kept
@@ -55,7 +55,7 @@ goes_kept written faults old now start telling before left kept count alike free
 
 -- ---- all turns
 
--- So far these bytes were taken, and the lines that they end have their replies.
+-- The bytes so far were read, and the lines that they complete were replied to.
 pub record Standing {S K : Type 0} (left : S → Option (List ℕ)) (source_faults : S → ℕ) (written : K → Option (List ℕ)) (faults : K → ℕ)
     (source_old source_now : S) (old now : K) (start telling : Telling) (held : List ℕ) (count : ℕ) : Type 0 where
   pub bytes : List ℕ
@@ -151,7 +151,7 @@ standing_stopped left source_faults written faults source_old source_now source_
 standing_stopped left source_faults written faults source_old source_now source_new old now new start telling held count most TooLong nothing standing never few
     room = absurd never
 
--- the loop has taken as much as it takes
+-- the loop has read as much as the limit
 pub standing_full : {S K : Type 0} (left : S → Option (List ℕ)) (source_faults : S → ℕ) (written : K → Option (List ℕ)) (faults : K → ℕ)
     (source_old source_now : S) (old now : K) (start telling : Telling) (held : List ℕ) (count : ℕ)
     → telling [] ≡ [] → Standing left source_faults written faults source_old source_now old now start telling held count → count ≡ INPUT_BYTES

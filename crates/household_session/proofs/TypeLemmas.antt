@@ -1,4 +1,4 @@
--- The values of a session stay such that its inputs may have them.
+-- The values of a session stay ones that its inputs may have.
 use Rattle.std.proofs.Common.{◌≡◌, ℕ, ℤ, zero, suc, List, [], ◌∷◌, set, Bool, true, false, cond, Option, None, Some, Result, Ok, Err, refl}
 use Rattle.m_fixed.specs.declared.amount.Value.{Value}
 use Rattle.m_fixed.specs.declared.amount.Value.TheVariants.{Undef, Num}
@@ -14,7 +14,7 @@ use Rattle.household_session.specs.Commands.{SessionCommand, no_words, sets, cle
 use Rattle.household_session.specs.Replies.{command_values}
 use Rattle.household_session.specs.Sessions.{Showing, parsed_clear, parsed_set, values_edited}
 
--- one of the values is replaced by one that its input may have
+-- one value is replaced by one that its input may have
 pub value_set : (inputs : List Coded) (values : List Value) (number : ℕ) (v : Value) → AreValuesOf inputs values → IsValueOf (input_type inputs number) v
     → AreValuesOf inputs (set values number v)
 value_set [] [] number v all h = all

@@ -1,4 +1,4 @@
--- What a session replies to lines, and what becomes of it.
+-- The replies of a session to lines, and their effects.
 use Rattle.std.specs.Prelude.{◌≢◌, ℕ, ◌==◌, List, [], ◌∷◌, ◌++◌, codes, Option, None, Result, Ok, Err, if◌then◌else◌}
 use Rattle.std.specs.List.{AllByRecursion}
 use Rattle.m_text.specs.Bytes.{line_feed}
@@ -14,14 +14,14 @@ use Rattle.household_session.specs.Commands.{SessionCommand, no_words, sets, cle
 
 -- ---- one line
 
--- the reply to what an edit answers
+-- the reply to the result of an edit
 abbrev pub answer_reply : Result (Unit {0}) EditFault → List ℕ
 answer_reply (Ok none) = line (codes "ok")
 answer_reply (Err UnknownCode) = line (codes "refused unknown code")
 answer_reply (Err BadAmount) = line (codes "refused bad amount")
 answer_reply (Err NotOfType) = line (codes "refused not of its type")
 
--- the reply to a command, where the inputs have these values
+-- the reply to a command, for these values of the inputs
 abbrev pub command_reply : Showing → List Value → SessionCommand → List ℕ
 command_reply showing values no_words = []
 command_reply showing values (sets code amount) = answer_reply (answered (set_of showing.inputs code amount))
@@ -36,8 +36,8 @@ command_values showing values (sets code amount) = values_edited values (set_of 
 command_values showing values (clears code) = values_edited values (clear_of showing.inputs code)
 command_values showing values _ = values
 
--- The number of the input that a command names to set or clear it, if it does and there is one: also where the edit is refused. No other input's value is
--- another one after it.
+-- The number of the input that a command sets or clears, if there is one, even if the edit is
+-- rejected. No other input's value changes.
 abbrev pub input_named : List Coded → SessionCommand → Option ℕ
 input_named inputs no_words = None
 input_named inputs (sets code amount) = index_of code (codes_of inputs)
@@ -46,7 +46,8 @@ input_named inputs shows = None
 input_named inputs too_long = None
 input_named inputs bad = None
 
--- The reply to a line, given without its line feed: to `set 1AJ 5` the line `ok` where `1AJ` is a code.
+-- The reply to a line without its line feed: to `set 1AJ 5` the line `ok`, if `1AJ` is a code whose
+-- type accepts 5.
 abbrev pub reply_of : Sitting → List ℕ → List ℕ
 reply_of sitting bytes = command_reply (showing_of sitting) sitting.values (session_command bytes)
 
@@ -56,13 +57,13 @@ after_line sitting bytes = record sitting { values = command_values (showing_of 
 
 -- ---- many lines
 
--- The lines of an input, each without its line feed. The last one may lack it: `show\n\nclear` has the lines `show`, none
--- and `clear`, and an empty input has no line.
+-- The lines of an input, without their line feeds. The last line needs none: `show\n\nclear` has
+-- the lines `show`, an empty one and `clear`, and an empty input has no line.
 abbrev pub input_lines : List ℕ → List (List ℕ)
 input_lines [] = []
 input_lines (byte ∷ bytes) = if byte == line_feed then [] ∷ input_lines bytes else onto_first byte (input_lines bytes)
 
--- the lines with a byte put before the first of them, where there is one
+-- the lines with a byte put before the first of them, if there is one
 abbrev pub onto_ended : ℕ → List (List ℕ) → List (List ℕ)
 onto_ended byte [] = []
 onto_ended byte (first ∷ lines) = (byte ∷ first) ∷ lines
@@ -76,7 +77,7 @@ ended_lines (byte ∷ bytes) = if byte == line_feed then [] ∷ ended_lines byte
 abbrev pub IsUnended : List ℕ → Type 0
 IsUnended bytes = AllByRecursion (λ byte. byte ≢ line_feed) bytes
 
--- The replies to lines, in order. Each is that to what the lines before it have made of the values.
+-- The replies to lines, in order, each for the values after the lines before it.
 abbrev pub lines_replies : Showing → List Value → List (List ℕ) → List ℕ
 lines_replies showing values [] = []
 lines_replies showing values (first ∷ lines) =

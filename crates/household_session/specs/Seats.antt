@@ -1,4 +1,5 @@
--- A session with what was put since its last show: on that depends what the next show costs, and nothing that is replied.
+-- A session with its state at the last show, which determines the cost of the next show and no
+-- reply.
 use Rattle.std.specs.Prelude.{ℕ, ℤ, Bool, true, false, List, [], ◌∷◌, length, replicate, slice_set, Result, Ok, Err}
 use Rattle.m_fixed.specs.declared.amount.Value.{Value}
 use Rattle.m_fixed.specs.declared.amount.Value.TheVariants.{Undef}
@@ -10,35 +11,36 @@ use Rattle.household_session.specs.declared.fault.EditFault.{EditFault}
 use Rattle.household_session.specs.Sessions.{Sitting, set_of, clear_of}
 use Rattle.household_session.specs.Commands.{SessionCommand, no_words, sets, clears, shows, too_long, bad, session_command}
 
--- The values of the inputs at the last show, all undefined before the first one, and of each input whether it was put since then.
+-- The values of the inputs at the last show (undefined before the first one), and whether each
+-- input was set since then.
 pub record Since : Type 0 where
   pub shown : List Value
   pub put : List Bool
 
--- A session as contracts see it. Replies depend on the sitting alone.
+-- A session as contracts see it. Replies depend only on the sitting.
 pub record Seated : Type 0 where
   pub sitting : Sitting
   pub since : Since
 
--- how a sheet and a face are seen
+-- the view of a sheet and a face
 abbrev pub seated_by : Held → Face → Seated
 seated_by held face = record {
   sitting = record { flat = held.flat; face = face; values = held.now };
   since = record { shown = held.settled; put = held.put };
 }
 
--- ---- what is noted
+-- ---- inputs set since the last show
 
--- the inputs of pairs are noted
+-- marks the inputs of pairs
 abbrev pub noted_pairs : List (ℕ × ℤ) → List Bool → List Bool
 noted_pairs [] put = put
 noted_pairs (pair ∷ pairs) put = slice_set (noted_pairs pairs put) pair.0 true
 
--- where a session begins with these pairs of an input and an amount
+-- the state of a session that begins with these pairs of an input and an amount
 abbrev pub since_begun : Flat → List (ℕ × ℤ) → Since
 since_begun flat pairs = record { shown = replicate flat.inputs Undef; put = noted_pairs pairs (replicate flat.inputs false) }
 
--- after an edit, of which a refused one notes nothing
+-- after an edit; a rejected one marks nothing
 abbrev pub noted : Since → Result (ℕ × Value) EditFault → Since
 noted since (Ok edit) = record since { put = slice_set since.put edit.0 true }
 noted since (Err fault) = since
@@ -62,11 +64,12 @@ since_line seated bytes = since_command seated (session_command bytes)
 
 -- ---- costs
 
--- How many nodes a show evaluates: those that are touched between the inputs of the last show and those of now.
+-- The number of nodes that a show evaluates: those affected by the differences between the inputs
+-- at the last show and the current ones.
 abbrev pub show_cost : Seated → ℕ
 show_cost seated = touched seated.sitting.flat.nodes seated.since.put seated.since.shown seated.sitting.values
 
--- how many a command evaluates
+-- the number of nodes that a command evaluates
 abbrev pub command_cost : Seated → SessionCommand → ℕ
 command_cost seated no_words = 0
 command_cost seated (sets code amount) = 0
@@ -75,6 +78,6 @@ command_cost seated shows = show_cost seated
 command_cost seated too_long = 0
 command_cost seated bad = 0
 
--- how many a line evaluates
+-- the number of nodes that a line evaluates
 abbrev pub line_cost : Seated → List ℕ → ℕ
 line_cost seated bytes = command_cost seated (session_command bytes)

@@ -1,4 +1,4 @@
-//! Replies that go through a buffer.
+//! Buffers replies.
 ghost use Rattle.std.specs.Prelude.{◌≡◌, ◌<◌, length};
 ghost use Rattle.household_session.specs.Repliers.{RepliesTo};
 
@@ -8,7 +8,8 @@ use std::marker::Brand;
 use std::sync::ledger::Ledger;
 use value_sheet::Steps;
 
-/// What replies to lines, and a room for its replies: each is given by as many calls as it fills rooms, before the next line is done.
+/// A replier whose replies go through a buffer: each is written with one call per full buffer, and
+/// the buffer is flushed before the next line.
 #[derive(Drop)]
 pub(crate) struct Buffering<'a, 'r, R> {
     pub(crate) replier: &'a mut R,
@@ -34,7 +35,7 @@ impl<'a, 'r, R: Replier> Replier for Buffering<'a, 'r, R> {
     ghost long = { λ s one other lines a b. R.long s.replier.now one other lines a b };
 }
 
-// Does what a line asks for, and gives its reply through a room.
+// Executes a line and writes its reply through a buffer.
 fn reply_whole<R: Replier, K: Sink, L: Ledger>(
     replier: &mut R,
     line: &[u8],
@@ -50,7 +51,7 @@ fn reply_whole<R: Replier, K: Sink, L: Ledger>(
     printed.result
 }
 
-// The same, over the buffer.
+// The same, for a given buffered output.
 fn buffer_reply<'a, R: Replier, K: Sink, L: Ledger, O: Origin>(
     replier: &mut R,
     line: &[u8],

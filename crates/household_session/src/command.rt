@@ -1,4 +1,4 @@
-//! What a line asks for.
+//! Parses lines as commands.
 ghost use Rattle.std.specs.Prelude.{◌≡◌, ◌∷◌};
 ghost use Rattle.household_session.specs.Commands.{session_command, words_command, line_words};
 ghost use Rattle.household_session.specs.inner.Ready.{command_in};
@@ -7,7 +7,7 @@ use crate::words::next_word;
 use m_places::limits::SESSION_LINE_BYTES;
 use m_text::without_return;
 
-/// What a line asks for, with the words that it takes.
+/// A command, with its operands as parts of the line.
 #[derive(Clone, Copy)]
 pub(crate) enum LineCommand<'a> {
     Nothing,
@@ -18,7 +18,7 @@ pub(crate) enum LineCommand<'a> {
     Bad,
 }
 
-/// What a line, without its line feed, asks for.
+/// Parses a line without its line feed.
 pub(crate) fn command_of_line(line: &[u8]) -> LineCommand<'_>
     ensures { command_in result ≡ session_command line.now }
 {

@@ -1,9 +1,9 @@
-/// Why an edit is refused. A refused edit changes nothing.
+/// Why an edit is rejected. A rejected edit changes nothing.
 #[derive(Clone, Copy, Debug, PartialEq, Eq)]
 pub enum EditFault {
-    /// The code is the code of no input.
+    /// No input has this code.
     UnknownCode,
-    /// What should be an amount is none, or a greater one than there is.
+    /// The amount isn't one, or is out of range.
     BadAmount,
     /// The amount isn't of the type of its input.
     NotOfType,

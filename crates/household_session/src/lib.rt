@@ -1,11 +1,14 @@
-//! A session: one household of a flat program whose amounts are edited, and whose answer is shown again and again, where a show evaluates only
-//! what the edits since the last one touch; and the loop that replies to the lines of an input, one after another.
+//! A session: one household of a flat program, whose amounts are edited and whose answer can be
+//! shown at any time; and the loop that replies to the lines of an input.
 //!
-//! The loop knows how an input is cut into lines while it comes in pieces, and not what a line says. This crate knows nothing of files, and
-//! nothing but the start of a session takes memory.
+//! Uses `value_sheet`, so that a show evaluates only the nodes affected by the edits since the last
+//! one, and the inputs and outputs of `m_ports`. Knows nothing of files. Its loop knows how an
+//! input that arrives in pieces is split into lines, and nothing of the commands (`Replier`). Only
+//! the start of a session takes memory.
 //!
-//! A line over 4,096 bytes is rejected whatever its bytes, so the loop holds at most 4,097. Replies go through a buffer that is emptied after
-//! each line.
+//! A line over 4,096 bytes is rejected whatever its bytes, so the loop holds at most 4,097. Replies
+//! go through a buffer that is flushed after each line. `Ends`, the effect of the loop, mentions
+//! the bytes read even if the contents of the input aren't known.
 #![tactic(auto)]
 
 mod buffer;

@@ -1,4 +1,4 @@
-//! The lines that stand whole among bytes.
+//! Splits bytes into lines.
 ghost use Rattle.std.specs.Prelude.{◌≤◌, length, take, drop, IfOk, OnErr};
 ghost use Rattle.m_ports.specs.Counts.{Rose};
 ghost use Rattle.m_ports.specs.Sink.{AppendsPrefix};
@@ -12,8 +12,8 @@ use m_text::line_end;
 use std::sync::ledger::Ledger;
 use value_sheet::Steps;
 
-/// Does each line that has its line feed among the bytes, of which the first `held` have none, and answers where the bytes
-/// after the last one begin.
+/// Executes each line whose line feed is among the bytes; the first `held` bytes contain none.
+/// Returns where the bytes after the last line feed begin.
 pub(crate) fn do_ended<R: Replier, K: Sink, L: Ledger>(
     replier: &mut R,
     bytes: &[u8],

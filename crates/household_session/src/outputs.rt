@@ -1,4 +1,4 @@
-//! The lines of an answer, from a settled sheet and without the answer as a list.
+//! Prints the answer of a settled sheet, without a list of its values.
 ghost use Rattle.std.specs.Prelude.{◌≡◌, ◌<◌, ◌^◌, map, length};
 ghost use Rattle.m_ports.specs.Giving.{Gives};
 ghost use Rattle.flat_code.specs.Faces.{IsFaceOf};
@@ -10,7 +10,7 @@ use observables::Face;
 use tax_print::{print_stop, print_values};
 use value_sheet::Sheet;
 
-/// Writes the lines of what a settled sheet's program answers for its inputs.
+/// Writes the lines of the answer of a settled sheet's program to its inputs.
 pub(crate) fn print_sheet<K: Sink>(sheet: &Sheet, face: &Face, out: &mut K) -> Result<(), Failed>
     requires settled { sheet.now.settled ≡ sheet.now.now }
     requires face { IsFaceOf face.now sheet.now.flat }

@@ -1,14 +1,16 @@
-//! Bytes of a line that has begun, and pieces of the input after them.
+//! The bytes of an incomplete line, and the pieces of input after them.
 ghost use Rattle.std.specs.Prelude.{◌≡◌, ◌+◌, ◌-◌, ◌<◌, ◌≤◌, length, min, take, drop, IfOk, OnErr, OnOk};
 ghost use Rattle.std.specs.Io.KnownBytes.{prepend_known, IsAtEnd};
 ghost use Rattle.m_ports.specs.Counts.{Rose};
 
 use m_ports::{Failed, Source};
 
-/// The most bytes that are held of a line that has begun: one more than a line may have, so that they show that it is too long.
+/// The greatest number of bytes held of an incomplete line: one more than the limit of a line,
+/// which is enough to recognise that it is too long.
 pub(crate) const MOST_HELD: usize = 4_097;
 
-/// Takes a piece of at most so many bytes after the first `held` ones, and answers how many it has; 0 is the end of the input.
+/// Reads a piece of at most `most` bytes after the first `held` ones, and returns its length; 0 is
+/// the end of the input.
 pub(crate) fn take_piece<S: Source>(
     input: &mut S,
     room: &mut [u8],
@@ -29,7 +31,7 @@ pub(crate) fn take_piece<S: Source>(
     input.take(&mut room[held..end])
 }
 
-// Where a piece of at most so many bytes ends.
+// The greatest end of a piece of at most `most` bytes.
 fn piece_end(held: usize, room: usize, most: u64) -> usize
     requires some { 0 < most }
     requires room { held < room }
@@ -44,8 +46,8 @@ fn piece_end(held: usize, room: usize, most: u64) -> usize
     }
 }
 
-/// Moves the bytes between two places to the start, but no more of them than show that a line is too long, and answers how
-/// many it moved.
+/// Moves the bytes from `from` to `filled` to the start, but at most `MOST_HELD` of them, and
+/// returns how many it moved.
 pub(crate) fn keep(room: &mut [u8], from: usize, filled: usize) -> usize
     requires order { from ≤ filled }
     requires within { filled ≤ length room.old }

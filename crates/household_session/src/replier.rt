@@ -1,4 +1,4 @@
-//! What replies to lines.
+//! Repliers.
 ghost use Rattle.std.specs.Prelude.{◌≡◌, ◌<◌, [], ◌∷◌, List, ℕ, length};
 ghost use Rattle.m_places.specs.declared.limits.TheConstants.{SESSION_LINE_BYTES};
 ghost use Rattle.household_session.specs.Replies.{replies_to};
@@ -10,13 +10,13 @@ use m_ports::{Failed, Sink};
 use std::sync::ledger::Ledger;
 use value_sheet::Steps;
 
-/// What replies to the lines of an input.
+/// Executes lines of an input and replies to them.
 pub trait Replier {
-    /// The replies to lines, one after another, each given without its line feed.
+    /// The replies to lines without their line feeds, concatenated.
     ghost replies: { Self → List (List ℕ) → List ℕ };
 
-    /// Does what a line asks for, which is given without its line feed, and writes its reply. On a failure a prefix of the reply was
-    /// appended, and the object is that after the line all the same. It takes no memory.
+    /// Executes a line, given without its line feed, and writes its reply. On a failure a prefix of
+    /// the reply was appended; the state is that after the line in any case. It takes no memory.
     fn reply<K: Sink, L: Ledger>(
         &mut self,
         line: &[u8],
@@ -25,10 +25,10 @@ pub trait Replier {
     ) -> Result<(), Failed>
         ensures { RepliesTo K.written K.faults out.old out.new result (replies self.old) (replies self.new) line.now };
 
-    /// No lines have no reply.
+    /// Without lines there is no reply.
     ghost nothing: { (s : Self) → replies s [] ≡ [] };
 
-    /// Of a line that is too long it doesn't matter which bytes it has.
+    /// The reply to a line that is too long doesn't depend on its bytes.
     ghost long: { (s : Self) (one other : List ℕ) (lines : List (List ℕ)) → SESSION_LINE_BYTES < length one → SESSION_LINE_BYTES < length other
         → replies s (one ∷ lines) ≡ replies s (other ∷ lines) };
 }

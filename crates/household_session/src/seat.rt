@@ -1,4 +1,4 @@
-//! The amounts that a session begins with.
+//! The initial amounts of a session.
 ghost use Rattle.std.specs.Prelude.{◌≡◌, ◌<◌, []};
 ghost use Rattle.std.specs.List.{AllByRecursion};
 ghost use Rattle.household.specs.Household.{inputs_of, values_of};
@@ -8,7 +8,7 @@ use household::Household;
 use m_fixed::Value;
 use value_sheet::Sheet;
 
-/// Puts a household's amounts into a sheet of which all inputs are undefined.
+/// Writes a household's amounts into a sheet whose inputs are all undefined.
 pub(crate) fn put_all(sheet: &mut Sheet, household: &Household)
     requires none { sheet.old.now ≡ values_of [] sheet.old.flat.inputs }
     requires inputs { AllByRecursion (λ input. input < sheet.old.flat.inputs) (inputs_of household.now.pairs) }

@@ -1,4 +1,4 @@
-//! A session, its edits and its shows.
+//! Sessions: edits and shows.
 ghost use Rattle.std.specs.Prelude.{◌≡◌, ◌+◌, ◌*◌, ◌<◌, IfOk, IfSome, length};
 ghost use Rattle.std.specs.List.{AllByRecursion};
 ghost use Rattle.m_ports.specs.Giving.{Gives};
@@ -25,8 +25,9 @@ use std::marker::Model;
 use std::sync::ledger::Ledger;
 use value_sheet::{Sheet, Steps};
 
-/// A household of a tidy program, whose amounts can be edited and whose answer can be shown. Contracts see the program,
-/// what it shows of itself, the value of each input as it is now, and what was put since the last show.
+/// A household of a tidy program, whose amounts can be edited and whose answer can be shown.
+/// Contracts see the program, its face, the current value of each input, and which inputs were set
+/// since the last show.
 #[derive(Drop)]
 pub struct Session {
     sheet: Sheet,
@@ -46,9 +47,9 @@ impl Model for Session {
 }
 
 impl Session {
-    /// A session of a tidy program that begins with a household's amounts, which are of their inputs' types. The codes are those of
-    /// the face's inputs, and the program's arguments are numbered in 32 bits. Its only error is running out of memory, and no later
-    /// call takes memory.
+    /// Starts a session of a tidy program with a household's amounts, which are of their inputs'
+    /// types. `codes` are those of the face's inputs, and the program's arguments are numbered in
+    /// 32 bits. Its only error is running out of memory, and no later call takes memory.
     pub fn start(
         alloc: Global,
         tidy: Tidy,
@@ -70,8 +71,9 @@ impl Session {
         Ok(Session { sheet, face, codes })
     }
 
-    /// Sets the input with this code to an amount that is spelled as `2500.5`. An unknown code is refused before a bad
-    /// amount, and that before an amount that isn't of the input's type. A refused edit changes nothing. It takes no memory.
+    /// Sets the input with this code to an amount spelled as `2500.5`. An unknown code is reported
+    /// before a bad amount, and that before an amount that isn't of the input's type. A rejected
+    /// edit changes nothing. It takes no memory.
     pub fn set(&mut self, code: &[u8], amount: &[u8]) -> Result<(), EditFault>
         ensures answer { result ≡ answered (set_of self.old.sitting.face.inputs code.now amount.now) }
         ensures sitting { self.new.sitting ≡ edited self.old.sitting (set_of self.old.sitting.face.inputs code.now amount.now) }
@@ -92,7 +94,8 @@ impl Session {
         }
     }
 
-    /// Makes the input with this code undefined, which it may be already. An unknown code is refused. It takes no memory.
+    /// Makes the input with this code undefined, if it isn't already. An unknown code is rejected.
+    /// It takes no memory.
     pub fn clear(&mut self, code: &[u8]) -> Result<(), EditFault>
         ensures answer { result ≡ answered (clear_of self.old.sitting.face.inputs code.now) }
         ensures sitting { self.new.sitting ≡ edited self.old.sitting (clear_of self.old.sitting.face.inputs code.now) }
@@ -105,7 +108,7 @@ impl Session {
         Ok(())
     }
 
-    /// How many inputs there are. It takes no memory.
+    /// The number of inputs. It takes no memory.
     pub fn count(&self) -> u32
         ensures inputs { result ≡ length self.now.sitting.face.inputs }
         ensures flat { result ≡ self.now.sitting.flat.inputs }
@@ -113,7 +116,8 @@ impl Session {
         self.codes.len()
     }
 
-    /// The number of the input that a line names to set or clear it, also where that is refused. It takes no memory.
+    /// The number of the input that a line sets or clears, even if the edit is rejected. It takes
+    /// no memory.
     pub fn input_named(&self, line: &[u8]) -> Option<u32>
         ensures named { result ≡ input_named self.now.sitting.face.inputs (session_command line.now) }
         ensures known { IfSome result (λ input. input < self.now.sitting.flat.inputs) }
@@ -128,7 +132,7 @@ impl Session {
         }
     }
 
-    /// The value of the input with this number, as it is now. It takes no memory.
+    /// The current value of the input with this number. It takes no memory.
     pub fn input_value(&self, input: u32) -> Value
         requires { input < self.now.sitting.flat.inputs }
         ensures { result ≡ value_at self.now.sitting.values input }
@@ -136,9 +140,10 @@ impl Session {
         self.sheet.input_value(input)
     }
 
-    /// Writes the lines of what the program answers for the amounts as they are now, and then a line with a point. On a
-    /// failure a prefix of them was appended. It takes one step for each node that is touched between the inputs of the last
-    /// show and those of now, and no other, changes no amount, and takes no memory.
+    /// Writes the lines of the program's answer to the current amounts, then a line with a point.
+    /// On a failure a prefix of them was appended. It takes one step for each node affected by the
+    /// differences between the inputs at the last show and the current ones, and no other step; it
+    /// changes no amount, and takes no memory.
     pub fn show<K: Sink, L: Ledger>(
         &mut self,
         out: &mut K,
@@ -154,9 +159,9 @@ impl Session {
         give_pieces(out, &[b".\n"])
     }
 
-    /// Does what a line asks for, which is given without its line feed, and writes its reply: `set 1AJ 2500.5`, `clear 1AJ`
-    /// or `show`. On a failure a prefix of the reply was appended, and the session is that after the line all the same. A show
-    /// takes its steps, and another line none. It takes no memory.
+    /// Executes a line, given without its line feed, and writes its reply: `set 1AJ 2500.5`, `clear
+    /// 1AJ` or `show`. On a failure a prefix of the reply was appended; the session is that after
+    /// the line in any case. Only a show takes steps. It takes no memory.
     pub fn command<K: Sink, L: Ledger>(
         &mut self,
         line: &[u8],

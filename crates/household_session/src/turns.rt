@@ -1,4 +1,4 @@
-//! The loop over an input.
+//! The loop over the lines of an input.
 ghost use Rattle.std.specs.Prelude.{◌≡◌, ◌<◌, ◌≤◌, length, take};
 ghost use Rattle.household_session.specs.Replies.{IsUnended};
 ghost use Rattle.household_session.specs.Serving.{Counts, Ends};
@@ -13,30 +13,32 @@ use m_ports::{Failed, Sink, Source};
 use std::sync::ledger::Ledger;
 use value_sheet::Steps;
 
-/// How a session's loop ended.
+/// How the loop of a session ended.
 #[derive(Clone, Copy, Debug, PartialEq, Eq)]
 pub enum ServeEnd {
-    /// The input was read to its end, and each of its lines has its reply.
+    /// The input was read to its end, and each line was replied to.
     Done,
-    /// A read failed. The lines whose line feed was taken have their replies.
+    /// A read failed. All lines whose line feed was read were replied to.
     ReadFault,
-    /// A write failed. What was written is a prefix of the replies to the lines that have their line feed, or, at the input's end, to all lines.
+    /// A write failed. A prefix was written of the replies to the lines that have their line feed
+    /// or, at the end of the input, to all lines.
     WriteFault,
-    /// So many bytes were taken as a session takes, without the input's end. The lines whose line feed was taken have their
-    /// replies.
+    /// `INPUT_BYTES` bytes were read without the end of the input. All lines whose line feed was
+    /// read were replied to.
     TooLong,
 }
 
-// How many bytes the loop has room for: those of a line that has begun, as far as they matter, and a piece of the input after
-// them.
+// The size of the loop's buffer in bytes: an incomplete line, of which 4,097 are enough, and a
+// piece of the input.
 const ROOM: usize = 8_193;
 
-// How many bytes of a reply are given at a time.
+// The size of the buffer of a reply in bytes.
 const REPLY_ROOM: usize = 65_536;
 
-/// Does the lines of an input one after another, each as `Replier::reply` does, until the input ends, a read or a write
-/// fails, or `INPUT_BYTES` bytes were taken. Of a line that is too long no more than its first bytes are held. A last line may
-/// lack its line feed. A reply is given when it is whole, before the next line is done, in pieces of 65,536 bytes. It takes no memory.
+/// Executes the lines of an input in order, each by `Replier::reply`, until the input ends, a read
+/// or a write fails, or `INPUT_BYTES` bytes were read. Of a line that is too long only its first
+/// bytes are held. The last line needs no line feed. A reply is written completely before the next
+/// line is executed, in pieces of 65,536 bytes. It takes no memory.
 pub fn serve<R: Replier, S: Source, K: Sink, L: Ledger>(
     replier: &mut R,
     input: &mut S,
@@ -55,7 +57,7 @@ pub fn serve<R: Replier, S: Source, K: Sink, L: Ledger>(
     serve_in(&mut buffering, input, out, &mut room, steps)
 }
 
-// The same with this room.
+// The same, with a given buffer.
 fn serve_in<R: Replier, S: Source, K: Sink, L: Ledger>(
     replier: &mut R,
     input: &mut S,
@@ -81,8 +83,8 @@ fn serve_in<R: Replier, S: Source, K: Sink, L: Ledger>(
     ServeEnd::TooLong
 }
 
-// Takes a piece of at most so many bytes after those that are held, and does the lines that it ends. Answers how many bytes
-// are held then, and how many were taken.
+// Reads a piece of at most `most` bytes after those that are held, and executes the lines that it
+// completes. Returns how many bytes are then held, and how many were read.
 fn turn<R: Replier, S: Source, K: Sink, L: Ledger>(
     replier: &mut R,
     input: &mut S,
@@ -110,7 +112,7 @@ fn turn<R: Replier, S: Source, K: Sink, L: Ledger>(
     }
 }
 
-// Does the last line, which lacks its line feed, if there is one.
+// Executes the last line if it has no line feed and isn't empty.
 fn finish<R: Replier, K: Sink, L: Ledger>(
     replier: &mut R,
     held: &[u8],

@@ -1,9 +1,10 @@
-//! The words of a line.
+//! Splits lines into words.
 ghost use Rattle.std.specs.Prelude.{◌≡◌, ◌≢◌, ◌⊎◌, [], ◌∷◌, MatchOption, IsTrue};
 ghost use Rattle.m_text.specs.Bytes.{RunsTo, space};
 ghost use Rattle.household_session.specs.Commands.{starts_word, line_words};
 
-/// The first word of a line and what stands after it; `None` where the line has no words. Takes no memory.
+/// The first word of a line and the rest after it; `None` if the line has no words. Takes no
+/// memory.
 pub fn next_word(line: &[u8]) -> Option<(&[u8], &[u8])>
     ensures { MatchOption result (line_words line.now ≡ []) (λ r. line_words line.now ≡ r.0.now ∷ line_words r.1.now) }
 {
@@ -15,7 +16,7 @@ pub fn next_word(line: &[u8]) -> Option<(&[u8], &[u8])>
     Some((&line[..end], &line[end..]))
 }
 
-// A line without the spaces at its start.
+// A line without its leading spaces.
 fn without_spaces(line: &[u8]) -> &[u8]
     ensures words { line_words result.now ≡ line_words line.now }
     ensures front { (result.now ≡ []) ⊎ IsTrue (starts_word result.now) }
@@ -28,7 +29,7 @@ fn without_spaces(line: &[u8]) -> &[u8]
     &line[line.len()..]
 }
 
-// Where the word at the start of a line ends.
+// The end of the word at the start of a line.
 fn word_end(line: &[u8]) -> usize
     ensures { RunsTo (λ b. b ≢ space) line.now 0 result }
 {

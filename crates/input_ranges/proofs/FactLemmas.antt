@@ -1,4 +1,4 @@
--- What ranges say of each input is a fact: a value is possible, and the bounds are amounts in order.
+-- The fact of each input has a possible value, and its bounds are amounts in order.
 use Rattle.std.proofs.Common.{◌≡◌, ◌≤ℤ◌, ℕ, ℤ, ◌+◌, neg_ℤ, pos, List, [], ◌∷◌, length, Option, Some, None, Result, Ok, Err, Bool, true, false, cond, eqb, refl}
 use Rattle.std.proofs.Common.{sym, subst, ap, arith}
 use Rattle.std.specs.Prelude.{int_le, is_some, IsTrue, ◌||◌}

@@ -1,4 +1,4 @@
--- What ranges say of each input.
+-- The facts of inputs with ranges.
 use Rattle.std.proofs.Common.{◌≡◌, ℕ, ◌+◌, ◌-◌, ◌<◌, ◌≤◌, zero, suc, List, [], ◌∷◌, length, set, drop, get_or, eqb, true, false, refl, sym, ap, subst, ◌∙◌}
 use Rattle.std.proofs.Common.{zero-add, arith}
 use Rattle.std.specs.List.{AllByRecursion}
@@ -9,7 +9,7 @@ use Rattle.definedness.specs.Facts.{Possible}
 use Rattle.input_ranges.specs.Ranges.{fact_within, facts_from, facts_within, type_fact, type_facts}
 use Rattle.input_ranges.specs.declared.ranges.InputRange.{InputRange}
 
--- no ranges say what the types do
+-- without ranges the facts are those of the types
 none_named : (n : ℕ) (inputs : List Coded) → facts_from [] n inputs ≡ type_facts inputs
 none_named n [] = refl
 none_named n (input ∷ inputs) = ap (λ (fs : List Possible). type_fact input.kind ∷ fs) (none_named (n + 1) inputs)
@@ -17,7 +17,7 @@ none_named n (input ∷ inputs) = ap (λ (fs : List Possible). type_fact input.k
 pub no_ranges : (inputs : List Coded) → facts_within [] inputs ≡ type_facts inputs
 no_ranges inputs = none_named 0 inputs
 
--- a range of an input that stands before all of these says nothing of them
+-- a range of an input before all of these doesn't affect them
 skipped : (ranges : List InputRange) (range : InputRange) (n : ℕ) (inputs : List Coded) → range.input < n
     → facts_from (range ∷ ranges) n inputs ≡ facts_from ranges n inputs
 skipped ranges range n [] l = refl
@@ -26,7 +26,7 @@ skipped ranges range n (input ∷ inputs) l =
     let rest = skipped ranges range (n + 1) inputs (omega arith) in
     λ i. cond-false (eqb range.input n) range.fact (fact_within ranges n input.kind) other i ∷ rest i
 
--- the fact of a range stands in the place of its input
+-- the fact of a range replaces that of its input
 put : (ranges : List InputRange) (range : InputRange) (n k : ℕ) (inputs : List Coded) → range.input ≡ n + k → k < length inputs
     → set (facts_from ranges n inputs) k range.fact ≡ facts_from (range ∷ ranges) n inputs
 put ranges range n k [] e l = absurd (omega arith)
@@ -49,7 +49,7 @@ known_at n [] k d h l = absurd (omega arith)
 known_at n (range ∷ ranges) zero d h l = h.0
 known_at n (range ∷ ranges) (suc k) d h l = known_at n ranges k d h.1 (omega arith)
 
--- the next range, from the back on, says what may be given of its input
+-- the next range, from the last to the first, replaces the fact of its input
 pub next_put : (inputs : List Coded) (ranges : List InputRange) (facts : List Possible) (left : ℕ) (range d : InputRange)
     → AllByRecursion (λ r. r.input < length inputs) ranges → 0 < left → left ≤ length ranges
     → range ≡ get_or ranges (left - 1) d → facts ≡ facts_within (drop left ranges) inputs
@@ -66,7 +66,7 @@ next_put inputs ranges facts left range d known some within read filled =
           ∙ ap (λ rs. facts_within rs inputs) (sym cut),
     )
 
--- a range that is there is read whatever stands for one that isn't
+-- an element that is there is read with any default
 pub same_read : (ranges : List InputRange) (k : ℕ) (one other : InputRange) → k < length ranges → get_or ranges k one ≡ get_or ranges k other
 same_read [] k one other l = absurd (omega arith)
 same_read (range ∷ ranges) zero one other l = refl

@@ -1,4 +1,4 @@
--- What the rows of ranges say, by themselves and one after another.
+-- The rows of ranges, alone and in order.
 use Rattle.std.proofs.Common.{◌≡◌, ◌≢◌, ℕ, ◌<◌, ◌≤◌, ◌+◌, List, [], ◌∷◌, ◌++◌, length, Option, Some, None, Result, Ok, Err, Bool, true, false, cond, leb, refl}
 use Rattle.std.proofs.Common.{sym, subst, ap, ◌∙◌, append_assoc, length-append, arith}
 use Rattle.std.specs.List.{AllByRecursion, AllZip}
@@ -22,9 +22,9 @@ use Rattle.input_ranges.specs.Ranges.{ranges_read, parsed_ranges, row_of, typed_
 use Rattle.input_ranges.specs.RangeFiles.{AreRanges, AreRefusedRanges, IsRangeRow, at_row, no_header}
 use Rattle.input_ranges.specs.declared.ranges.InputRange.{InputRange}
 
--- ---- a row by itself
+-- ---- a row alone
 
--- what the fields of a row that is read say
+-- the parts of a row that is read
 stated_parts : (inputs : List Coded) (line : ℕ) (o : Option ℕ) (word least greatest : List ℕ) (range : InputRange)
     → parsed_range inputs line o word least greatest ≡ Ok range
     → (o ≡ Some range.input) × (parsed_fact (input_type inputs range.input) word least greatest ≡ Some range.fact)

@@ -1,4 +1,4 @@
--- What a file of ranges without a fault is, and what one with a fault, said of its records.
+-- Valid files of ranges, and rejected ones, by their records.
 use Rattle.std.specs.Prelude.{◌≡◌, ℕ, ◌≤◌, true, List, [], ◌∷◌, length, Some}
 use Rattle.std.specs.List.{AllZip}
 use Rattle.m_places.specs.declared.limits.TheConstants.{ROWS}
@@ -15,7 +15,7 @@ use Rattle.household.specs.Refusals.{LacksHeader}
 use Rattle.input_ranges.specs.Ranges.{parsed_fact, facts_within, inputs_of, is_header, is_typed, row_of}
 use Rattle.input_ranges.specs.declared.ranges.InputRange.{InputRange}
 
--- A row by itself: the code of an input, and three fields that say what may be given of it, with bounds of its type.
+-- A row alone: the code of an input, and three valid fields with bounds of its type.
 pub record IsRangeRow (inputs : List Coded) (fields : List (List ℕ)) (range : InputRange) : Type 0 where
   pub code : List ℕ
   pub word : List ℕ
@@ -26,8 +26,9 @@ pub record IsRangeRow (inputs : List Coded) (fields : List (List ℕ)) (range : 
   pub says : parsed_fact (input_type inputs range.input) word least greatest ≡ Some range.fact
   pub typed : is_typed (input_type inputs range.input) range.fact ≡ true
 
--- The bytes are ranges that say this of the inputs: the records are a header and a row for each range, in order; no input stands twice, the rows are
--- not too many; and of each input what its range says may be given, or where it has none what its type does.
+-- The bytes allow these values of the inputs: the records are a header and one row for each range,
+-- in order; no input occurs twice; the number of rows is within the limit; and each input has the
+-- fact of its range, or without one that of its type.
 pub record AreRanges (inputs : List Coded) (bytes : List ℕ) (given : List Possible) : Type 0 where
   pub first : List (List ℕ)
   pub rows : List (List (List ℕ))
@@ -39,7 +40,8 @@ pub record AreRanges (inputs : List Coded) (bytes : List ℕ) (given : List Poss
   pub few : length ranges ≤ ROWS
   pub each : given ≡ facts_within ranges inputs
 
--- Why the bytes of ranges are refused: they lack the header; or after it a row has this fault, and the rows before it have none.
+-- Why the bytes of ranges are rejected: they lack the header; or a row has this fault, and the rows
+-- before it have none.
 pub data AreRefusedRanges (inputs : List Coded) (bytes : List ℕ) : HouseholdFault → Type 0 where
   no_header : LacksHeader is_header (records_of bytes) → AreRefusedRanges inputs bytes BadHeader
   at_row : {first : List (List ℕ)} {rows : List (List (List ℕ))} {fault : HouseholdFault} → records_of bytes ≡ first ∷ rows → is_header first ≡ true

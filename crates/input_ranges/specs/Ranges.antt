@@ -1,4 +1,4 @@
--- What a file of ranges says of the inputs.
+-- The meaning of a file of ranges.
 use Rattle.std.specs.Prelude.{ℕ, ℤ, pos, ◌+◌, ◌==◌, Bool, true, false, ◌&&◌, nat_le, int_le, List, [], ◌∷◌, length, map, Option, Some, None, Result, Ok, Err}
 use Rattle.std.specs.Prelude.{codes, if◌then◌else◌}
 use Rattle.std.specs.Str.{bytes_eq}
@@ -22,7 +22,7 @@ use Rattle.input_ranges.specs.declared.given.Given.{Given}
 use Rattle.input_ranges.specs.declared.given.Given.TheVariants.{Yes, No, Maybe}
 use Rattle.input_ranges.specs.declared.ranges.InputRange.{InputRange}
 
--- ---- what may be given of an input
+-- ---- possible values of an input
 
 -- the least and the greatest amount of a type
 abbrev pub type_range : InputType → ℤ × ℤ
@@ -30,7 +30,7 @@ type_range Any = (lowest_amount, highest_amount)
 type_range Whole = (lowest_amount, highest_amount)
 type_range Truth = (pos 0, pos unit)
 
--- the amounts from the first to the second, and undefined or not
+-- the amounts from the first to the second, optionally with undefined
 abbrev pub amounts_of : Bool → ℤ × ℤ → Possible
 amounts_of undef range = record { undef = undef; over = false; range = Some range }
 
@@ -38,7 +38,8 @@ amounts_of undef range = record { undef = undef; over = false; range = Some rang
 abbrev pub nothing : Possible
 nothing = record { undef = true; over = false; range = None }
 
--- Of an input that no record names: undefined, or any amount of its type. A `BOOLEEN` is undefined, or 0 to 1.
+-- Of an input without a record: undefined, or any amount of its type. A `BOOLEEN` is undefined, or
+-- from 0 to 1.
 abbrev pub type_fact : InputType → Possible
 type_fact kind = amounts_of true (type_range kind)
 
@@ -48,7 +49,7 @@ type_facts inputs = map (λ input. type_fact input.kind) inputs
 
 -- ---- a record
 
--- what the word of a record says: the input has an amount, it has none, or either
+-- the meaning of a record's word: the input has an amount, is undefined, or either
 abbrev pub given_of : List ℕ → Option Given
 given_of word =
     if bytes_eq word (codes "yes") then Some Yes
@@ -60,34 +61,36 @@ given_of word =
 abbrev pub are_empty : List ℕ → List ℕ → Bool
 are_empty least greatest = (length least == 0) && (length greatest == 0)
 
--- the amounts from one to another, if that isn't below it
+-- the amounts from one to another, if the first isn't greater
 abbrev pub in_order : Bool → ℤ × ℤ → Option Possible
 in_order undef range = if int_le range.0 range.1 then Some (amounts_of undef range) else None
 
--- the amounts from one bound that is read to another; none where one is no amount
+-- the amounts from one parsed bound to another; none if one of them isn't an amount
 abbrev pub from_read : Bool → Result ℤ AmountFault → Result ℤ AmountFault → Option Possible
 from_read undef (Ok least) (Ok greatest) = in_order undef (least, greatest)
 from_read undef _ _ = None
 
--- What two bounds say of an input of a type that may have an amount: where both are empty any amount of the type, and else those from the first to
--- the second. They say nothing where one is empty and the other isn't, one is no amount, or the first is above the second.
+-- The values within two bounds for an input of a type that may have an amount. If both are empty,
+-- any amount of the type, and else those from the first to the second. The bounds are invalid if
+-- only one is empty, one isn't an amount, or the first is greater than the second.
 abbrev pub parsed_bounds : Bool → InputType → List ℕ → List ℕ → Option Possible
 parsed_bounds undef kind least greatest =
     if are_empty least greatest then Some (amounts_of undef (type_range kind)) else from_read undef (amount_read (text_value least))
     (amount_read (text_value greatest))
 
--- What a word and two bounds say. With `no` both bounds are empty.
+-- The values of a word and two bounds. With `no` both bounds must be empty.
 abbrev pub parsed_possible : InputType → Given → List ℕ → List ℕ → Option Possible
 parsed_possible kind Yes least greatest = parsed_bounds false kind least greatest
 parsed_possible kind Maybe least greatest = parsed_bounds true kind least greatest
 parsed_possible kind No least greatest = if are_empty least greatest then Some nothing else None
 
--- what the word says, if it is one of the three
+-- the same, if the word is one of the three
 abbrev pub under_word : InputType → Option Given → List ℕ → List ℕ → Option Possible
 under_word kind None least greatest = None
 under_word kind (Some given) least greatest = parsed_possible kind given least greatest
 
--- What the three fields after a code say of an input of a type: `yes`, `0` and `9000` that it is an amount from 0 to 9000.
+-- The possible values of an input of a type by the three fields after its code: `yes`, `0` and
+-- `9000` are the amounts from 0 to 9000.
 abbrev pub parsed_fact : InputType → List ℕ → List ℕ → List ℕ → Option Possible
 parsed_fact kind word least greatest = under_word kind (given_of word) least greatest
 
@@ -99,11 +102,12 @@ are_typed kind (Some range) = is_of_type kind range.0 && is_of_type kind range.1
 abbrev pub is_typed : InputType → Possible → Bool
 is_typed kind possible = are_typed kind possible.range
 
--- the range of an input, if its bounds are of its type, in the record with this number
+-- the range of an input, if its bounds are of its type, or else a fault of the record with this
+-- number
 abbrev pub typed_range : ℕ → InputType → ℕ → Possible → Result InputRange HouseholdFault
 typed_range line kind input possible = if is_typed kind possible then Ok (record { input = input; fact = possible }) else Err (NotOfType line)
 
--- the same, if the fields after the code say something
+-- the same, if the fields after the code are valid
 abbrev pub fact_range : ℕ → InputType → ℕ → Option Possible → Result InputRange HouseholdFault
 fact_range line kind input None = Err (BadAmount line)
 fact_range line kind input (Some possible) = typed_range line kind input possible
@@ -114,8 +118,8 @@ parsed_range inputs line None word least greatest = Err (UnknownCode line)
 parsed_range inputs line (Some input) word least greatest = fact_range line (input_type inputs input) input
     (parsed_fact (input_type inputs input) word least greatest)
 
--- What the fields of the record with this number say by themselves: where `1AJ` has the number 0, the fields `1AJ`, `yes`, `0` and `9000` say that the
--- input 0 is an amount from 0 to 9000.
+-- The range of the fields of the record with this number, alone: if `1AJ` has the number 0, the
+-- fields `1AJ`, `yes`, `0` and `9000` are the amounts from 0 to 9000 of input 0.
 abbrev pub range_of : List Coded → ℕ → List (List ℕ) → Result InputRange HouseholdFault
 range_of inputs line (code ∷ word ∷ least ∷ greatest ∷ []) = parsed_range inputs line (index_of code (codes_of inputs)) word least greatest
 range_of inputs line _ = Err (BadRow line)
@@ -126,12 +130,13 @@ range_of inputs line _ = Err (BadRow line)
 abbrev pub inputs_of : List InputRange → List ℕ
 inputs_of ranges = map (λ range. range.input) ranges
 
--- a range whose input may not stand in the ranges before it
+-- the range, if no earlier range has its input
 abbrev pub new_range : ℕ → List InputRange → InputRange → Result InputRange HouseholdFault
 new_range line before range = if is_input_among range.input (inputs_of before) then Err (CodeTwice line) else Ok range
 
--- What a row says after rows that gave these ranges. The first of these faults that it has decides: it is one row too many, it hasn't four
--- fields, its code is unknown, its word or its bounds say nothing, a bound isn't of the input's type, its code stands in a row before it.
+-- The range of a row after the rows of these ranges, or its first fault of: too many rows, not four
+-- fields, an unknown code, an invalid word or invalid bounds, a bound not of the input's type, a
+-- code used before.
 abbrev pub row_of : List Coded → List InputRange → List (List ℕ) → Result InputRange HouseholdFault
 row_of inputs before fields =
     if nat_le ROWS (length before) then Err TooManyRows
@@ -142,36 +147,38 @@ abbrev pub are_headings : List ℕ → List ℕ → List ℕ → List ℕ → Bo
 are_headings code given least greatest =
     bytes_eq code (codes "code") && bytes_eq given (codes "given") && bytes_eq least (codes "least") && bytes_eq greatest (codes "greatest")
 
--- whether these fields are the first record of ranges
+-- whether these fields are the header
 abbrev pub is_header : List (List ℕ) → Bool
 is_header (code ∷ given ∷ least ∷ greatest ∷ []) = are_headings code given least greatest
 is_header _ = false
 
--- the ranges that records say
+-- the ranges of a file's records, or their first fault
 abbrev pub ranges_read : List Coded → List (List (List ℕ)) → Result (List InputRange) HouseholdFault
 ranges_read inputs [] = Err BadHeader
 ranges_read inputs (first ∷ rows) = if is_header first then in_turn (row_of inputs) [] rows else Err BadHeader
 
--- the ranges that the bytes of a file say
+-- the ranges of a file's bytes, or their first fault
 abbrev pub parsed_ranges : List Coded → List ℕ → Result (List InputRange) HouseholdFault
 parsed_ranges inputs bytes = ranges_read inputs (records_of bytes)
 
--- ---- what is known of each input
+-- ---- the facts of all inputs
 
--- what ranges say of the input with this number and type: the first of its ranges, or where there is none its type
+-- the fact of the input with this number and type: that of its first range, or without one that of
+-- its type
 abbrev pub fact_within : List InputRange → ℕ → InputType → Possible
 fact_within [] number kind = type_fact kind
 fact_within (range ∷ ranges) number kind = if range.input == number then range.fact else fact_within ranges number kind
 
--- the same of inputs, of which the first has this number
+-- the same for inputs, the first of which has this number
 abbrev pub facts_from : List InputRange → ℕ → List Coded → List Possible
 facts_from ranges number [] = []
 facts_from ranges number (input ∷ inputs) = fact_within ranges number input.kind ∷ facts_from ranges (number + 1) inputs
 
--- What may be given of each input within ranges, in the order of the inputs.
+-- The possible values of each input with these ranges, in the order of the inputs.
 abbrev pub facts_within : List InputRange → List Coded → List Possible
 facts_within ranges inputs = facts_from ranges 0 inputs
 
--- What the bytes of a file of ranges say: what may be given of each input, in order; or the fault for which the file is refused.
+-- The meaning of the bytes of a file of ranges: the possible values of each input, in order, or the
+-- fault for which it is rejected.
 abbrev pub ranges_of : List Coded → List ℕ → Result (List Possible) HouseholdFault
 ranges_of inputs bytes = if_read (λ ranges. Ok (facts_within ranges inputs)) (parsed_ranges inputs bytes)

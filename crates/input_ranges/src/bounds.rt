@@ -1,4 +1,4 @@
-//! The values that the bounds of a record allow.
+//! The set of values that the fields of a record allow.
 ghost use Rattle.std.specs.Prelude.{◌≡◌, ◌≤ℤ◌, option_map};
 ghost use Rattle.m_fixed.specs.Amounts.{IsAmount};
 ghost use Rattle.m_fixed.specs.Text.{amount_read, text_value};
@@ -15,14 +15,16 @@ const MOST: i128 = 10_000_000_000_000_000_000;
 // One unit, in millionths.
 const UNIT: i128 = 1_000_000;
 
-/// What may be given of an input of this type that no record names: nothing, or any of its amounts. Takes no memory.
+/// The values of an input of this type without a record: undefined, or any amount of the type.
+/// Takes no memory.
 pub(crate) fn type_fact(kind: InputType) -> Fact
     ensures { result ≡ type_fact kind }
 {
     amounts_of_type(true, kind)
 }
 
-/// What may be given of an input of this type, by a record's word and its two bounds; none where they don't say it. Takes no memory.
+/// The values of an input of this type by a record's word and two bounds; `None` if the bounds are
+/// invalid. Takes no memory.
 pub(crate) fn parsed_possible(
     kind: InputType,
     given: Given,
@@ -44,7 +46,7 @@ pub(crate) fn parsed_possible(
     }
 }
 
-/// Whether the bounds of what may be given are amounts of this type. Takes no memory.
+/// Whether the bounds of a fact are amounts of this type. Takes no memory.
 pub(crate) fn is_typed(kind: InputType, fact: Fact) -> bool
     ensures { result ≡ is_typed kind fact }
 {
@@ -54,7 +56,7 @@ pub(crate) fn is_typed(kind: InputType, fact: Fact) -> bool
     }
 }
 
-// The amounts within two bounds, or of the type where these are empty, and undefined or not.
+// The amounts within two bounds, or of the type if both are empty, optionally with undefined.
 fn parsed_bounds(undef: bool, kind: InputType, least: &[u8], greatest: &[u8]) -> Option<Fact>
     ensures { result ≡ parsed_bounds undef kind least.now greatest.now }
 {
@@ -70,14 +72,14 @@ fn parsed_bounds(undef: bool, kind: InputType, least: &[u8], greatest: &[u8]) ->
     in_order(undef, low, high)
 }
 
-// Whether two fields are empty.
+// Whether both bounds are empty.
 fn are_empty(least: &[u8], greatest: &[u8]) -> bool
     ensures { result ≡ are_empty least.now greatest.now }
 {
     least.is_empty() && greatest.is_empty()
 }
 
-// The amounts from one to another that isn't below it.
+// The amounts from one to another, if the first isn't greater.
 fn in_order(undef: bool, least: Amount, greatest: Amount) -> Option<Fact>
     ensures { result ≡ in_order undef (least, greatest) }
 {
@@ -88,7 +90,7 @@ fn in_order(undef: bool, least: Amount, greatest: Amount) -> Option<Fact>
     }
 }
 
-// The amounts of a type, and undefined or not.
+// The amounts of a type, optionally with undefined.
 fn amounts_of_type(undef: bool, kind: InputType) -> Fact
     ensures { result ≡ amounts_of undef (type_range kind) }
 {
@@ -99,7 +101,7 @@ fn amounts_of_type(undef: bool, kind: InputType) -> Fact
     }
 }
 
-// These amounts, and undefined or not.
+// These amounts, optionally with undefined.
 fn amounts_of(undef: bool, least: Amount, greatest: Amount) -> Fact
     requires { least ≤ℤ greatest }
     ensures { result ≡ amounts_of undef (least, greatest) }
@@ -124,7 +126,7 @@ fn nothing() -> Fact
     }
 }
 
-// The amount of so many millionths.
+// The amount of this number of millionths.
 fn amount(millionths: i128) -> Amount
     requires { IsAmount millionths }
     ensures { result ≡ millionths }

@@ -1,19 +1,19 @@
-//! What a record says of whether an input has an amount.
+//! The second field of a record: whether an input has an amount.
 ghost use Rattle.std.specs.Prelude.{◌≡◌};
 ghost use Rattle.input_ranges.specs.Ranges.{given_of};
 
 /// Whether an input has an amount.
 #[derive(Clone, Copy, Debug, PartialEq, Eq)]
 pub enum Given {
-    /// It has one.
+    /// It has an amount.
     Yes,
-    /// It has none.
+    /// It is undefined.
     No,
-    /// It has one or none.
+    /// It has an amount or is undefined.
     Maybe,
 }
 
-/// What a word says: `yes`, `no` or `maybe`. Takes no memory.
+/// Parses `yes`, `no` or `maybe`. Takes no memory.
 pub(crate) fn given_of(word: &[u8]) -> Option<Given>
     ensures { result ≡ given_of word.now }
 {

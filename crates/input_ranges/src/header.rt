@@ -1,4 +1,4 @@
-//! The first record of a file of ranges.
+//! The header of a file of ranges.
 ghost use Rattle.std.specs.Prelude.{◌≡◌};
 ghost use Rattle.csv.specs.Records.{fields_of};
 ghost use Rattle.input_ranges.specs.Ranges.{are_headings, is_header};
@@ -6,7 +6,7 @@ ghost use Rattle.input_ranges.specs.Ranges.{are_headings, is_header};
 use csv::ByteRecord;
 use household::records::field_at;
 
-/// Whether a record is the first of a file of ranges.
+/// Whether a record is the header.
 pub(crate) fn is_header(row: &ByteRecord) -> bool
     ensures { result ≡ is_header (fields_of row.now) }
 {
@@ -21,7 +21,7 @@ pub(crate) fn is_header(row: &ByteRecord) -> bool
     )
 }
 
-// Whether four fields are the words of the first record.
+// Whether four fields are the words of the header.
 fn are_headings(code: &[u8], given: &[u8], least: &[u8], greatest: &[u8]) -> bool
     ensures { result ≡ are_headings code.now given.now least.now greatest.now }
 {

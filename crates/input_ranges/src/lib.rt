@@ -1,7 +1,7 @@
 //! Ranges of inputs: which values a household within them may give each input.
 //!
-//! This crate reads the bytes of a file of ranges, by the records of `household`. It knows inputs, their codes and types, amounts and facts,
-//! and doesn't know what is computed from them.
+//! Uses the records and the index of codes of `household`, and the facts of `definedness`. Knows
+//! nothing of what is computed from the values.
 #![tactic(auto)]
 
 mod bounds;

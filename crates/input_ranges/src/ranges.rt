@@ -1,4 +1,4 @@
-//! What is known of each input, by the ranges that name some of them.
+//! The facts of all inputs, from ranges for some of them.
 ghost use Rattle.std.specs.Prelude.{◌≡◌, ◌<◌, IfOk, length, map};
 ghost use Rattle.std.specs.List.{AllByRecursion};
 ghost use Rattle.input_ranges.specs.Ranges.{facts_within, type_fact, type_facts};
@@ -9,22 +9,24 @@ use m_places::Seq;
 use observables::Coded;
 use std::alloc::{AllocError, Global};
 
-/// An input and what may be given of it.
+/// An input and its possible values.
 #[derive(Clone, Copy, Debug)]
 pub(crate) struct InputRange {
-    /// The input's number, its place among all inputs from 0.
+    /// The input's number: its position among all inputs, from 0.
     pub(crate) input: u32,
     pub(crate) fact: Fact,
 }
 
-/// What may be given of each input where no range is known: nothing, or any amount of its type. Its only error is running out of memory.
+/// The facts of inputs without ranges: undefined, or any amount of the type. Its only error is
+/// running out of memory.
 pub fn type_facts(alloc: Global, inputs: &[Coded]) -> Result<Seq<Fact>, AllocError>
     ensures { IfOk result (λ facts. facts ≡ type_facts inputs.now) }
 {
     Ok(Seq::from_vec(facts_of_types(alloc, inputs)?))
 }
 
-/// What may be given of each input within these ranges: what its range says, or where it has none its type. Its only error is running out of memory.
+/// The facts of inputs with these ranges: that of its range, or without one that of its type. Its
+/// only error is running out of memory.
 pub(crate) fn facts_within(
     alloc: Global,
     inputs: &[Coded],
@@ -38,7 +40,7 @@ pub(crate) fn facts_within(
     Ok(Seq::from_vec(facts))
 }
 
-// What is known of each input by its type.
+// The fact of each input by its type.
 fn facts_of_types(alloc: Global, inputs: &[Coded]) -> Result<Vec<Fact>, AllocError>
     ensures { IfOk result (λ facts. facts.items ≡ map (λ input. type_fact input.kind) inputs.now) }
 {
@@ -49,7 +51,8 @@ fn facts_of_types(alloc: Global, inputs: &[Coded]) -> Result<Vec<Fact>, AllocErr
     Ok(facts)
 }
 
-// Puts what ranges say in the place of what the types do. The first range of an input decides.
+// Replaces the facts of inputs that have ranges. For an input with several ranges the first one is
+// used.
 fn put_ranges(inputs: &[Coded], ranges: &[InputRange], facts: &mut [Fact])
     requires known { AllByRecursion (λ range. range.input < length inputs.now) ranges.now }
     requires types { facts.old ≡ type_facts inputs.now }

@@ -1,5 +1,6 @@
-//! A file of ranges: records set apart by commas, of which the first is `code,given,least,greatest`, and each other the code of an input, `yes`, `no` or
-//! `maybe`, and two amounts or nothing.
+//! Parses files of ranges: comma-separated records, the first of which is
+//! `code,given,least,greatest`; each other is the code of an input, `yes`, `no` or `maybe`, and two
+//! amounts or two empty fields.
 ghost use Rattle.std.specs.Prelude.{◌≡◌, ◌<◌, [], length, IfOk, Ok, Err};
 ghost use Rattle.std.specs.List.{AllByRecursion};
 ghost use Rattle.csv.specs.Records.{fields_of};
@@ -24,8 +25,8 @@ use m_places::Seq;
 use observables::{Coded, InputType};
 use std::alloc::Global;
 
-/// Reads the ranges in these bytes: what may be given of each input, in the order of the inputs, of which there are `count`. One that no record
-/// names may have any amount of its type, or none. The first record with a fault decides.
+/// Reads the possible values of each of `count` inputs, in their order. An input without a record
+/// may be undefined or have any amount of its type. The first faulty record is reported.
 pub fn read_ranges(
     alloc: Global,
     bytes: &[u8],
@@ -40,7 +41,7 @@ pub fn read_ranges(
     Ok(facts_within(alloc, inputs, ranges.as_slice())?)
 }
 
-// The ranges that the records name.
+// The ranges of a file's records.
 fn named_ranges(
     alloc: Global,
     bytes: &[u8],
@@ -65,7 +66,7 @@ fn named_ranges(
     Ok(Seq::from_vec(ranges))
 }
 
-// The ranges of the rows that are left.
+// The ranges of the remaining rows.
 fn read_rows(
     alloc: Global,
     records: &mut Records<'_>,
@@ -89,7 +90,7 @@ fn read_rows(
     Ok(ranges)
 }
 
-// The range that the record with this number says.
+// Parses the record with this number.
 fn read_range(
     row: &ByteRecord,
     line: u32,
@@ -122,7 +123,8 @@ fn kind_of(inputs: &[Coded], input: u32) -> InputType
     }
 }
 
-// What may be given of an input of a type, by the three fields after its code; none where they don't say it.
+// The possible values of an input of a type by the three fields after its code; `None` if the
+// fields are invalid.
 fn parsed_fact(kind: InputType, word: &[u8], least: &[u8], greatest: &[u8]) -> Option<Fact>
     ensures { result ≡ parsed_fact kind word.now least.now greatest.now }
 {

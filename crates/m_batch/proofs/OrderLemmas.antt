@@ -1,4 +1,4 @@
--- Where nothing is read before it's written, what registers and slots hold at the start is no matter.
+-- If nothing is read before it is written, the initial registers and slots are irrelevant.
 use Rattle.std.proofs.Common.{◌≡◌, ◌≢◌, ℕ, zero, suc, ◌<◌, Bool, true, false, length, get_or, set, map, replicate, List, [], ◌∷◌, Option, None, Some, is_none}
 use Rattle.std.proofs.Common.{refl, sym, ◌∙◌, ap, subst, ⊎_elim, arith}
 use Rattle.std.specs.Prelude.{if◌then◌else◌, IsSome}
@@ -43,16 +43,16 @@ same_stop inputs pool packed ran (Some stop) is some =
     ∙ ap (λ (o : Option Stop). answer_of o ran.outputs) (sym is)
 same_stop inputs pool packed ran None is some = absurd (cc some)
 
--- it answers its stop, whatever follows
+-- its answer is its stop, whatever follows
 pub ran_stays : (inputs pool : List Value) (packed : List Packed) (ran : Ran) → IsSome ran.stop → ran_answer (ran_from inputs pool ran packed) ≡ ran_answer ran
 ran_stays inputs pool packed ran some = same_stop inputs pool packed ran ran.stop refl some
 
--- and so does a machine
+-- the same for a machine
 acts-ended : (inputs : List Value) (m : Machine) (stop : Stop) (is : List Instr) → m.ended ≡ Some stop → acts inputs m is ≡ m
 acts-ended inputs m stop [] e = refl
 acts-ended inputs m stop (i ∷ is) e = ap (λ (o : Option Stop). acts inputs (act_at inputs o i m) is) e ∙ acts-ended inputs m stop is e
 
--- ---- code with which nothing is wrong
+-- ---- valid code
 
 picked : (b : Bool) (o : Option State) (f : State → Option CodeWrong) (k : ℕ) → (if b then option_map_or f o (Some (BadOrder k)) else Some (BadNumber k)) ≡ None
     → (t : State) × (o ≡ Some t) × (f t ≡ None)
@@ -60,7 +60,7 @@ picked true (Some t) f k e = (t, refl, e)
 picked true None f k e = absurd (cc e)
 picked false o f k e = absurd (cc e)
 
--- each instruction moves what is known to what the next one needs
+-- the state after each instruction is what the next one needs
 fault_next : (n : Counts) (s : State) (k : ℕ) (i : Instr) (is : List Instr) → fault_from n s k (i ∷ is) ≡ None → (t : State) × (moved i s ≡ Some t)
     × (fault_from n t (suc k) is ≡ None)
 fault_next n s k i is e = picked (has_numbers n s i) (moved i s) (λ t. fault_from n t (suc k) is) k e
@@ -81,14 +81,14 @@ rest_some : (x : ℕ) (o : Option (List ℕ)) → IsSome (option_map (λ xs. x �
 rest_some x None some = absurd (cc some)
 rest_some x (Some xs) some = refl
 
--- where all outputs are given, each is
+-- if all outputs are given, each one is
 given_each : (outputs : List (Option ℕ)) (k : ℕ) → IsSome (all_given outputs) → k < length outputs → (x : ℕ) × (get_or outputs k None ≡ Some x)
 given_each [] k some lt = absurd (omega arith)
 given_each (None ∷ outputs) k some lt = absurd (cc some)
 given_each (Some x ∷ outputs) zero some lt = (x, refl)
 given_each (Some x ∷ outputs) (suc k) some lt = given_each outputs k (rest_some x (all_given outputs) some) (omega arith)
 
--- ---- a run and a machine that hold the same where something is known
+-- ---- a run and a machine with equal known values
 
 record Agree (used : List ℕ) (s : State) (m : Machine) (ran : Ran) : Type 0 where
   width : length ran.registers ≡ REGISTERS
@@ -121,7 +121,7 @@ output_set outputs rs ms k x v w in_rs in_ms is h j y e =
     ∙ sym (get_or-set_other ms k j w Undef ne))
     (cases_eq j k)
 
--- a node is computed
+-- an operator's result is written
 agree_node : (used : List ℕ) (s : State) (m : Machine) (ran : Ran) (r : ℕ) (node : Node) (v w : Value) (stop : Option Stop) → Agree used s m ran → r < REGISTERS
     → v ≡ w
     → Agree used (with_node r node s) (record m { registers = put m.registers r w })
@@ -153,7 +153,7 @@ slot_set used f cells ss k x v w apart room lt is h d y below e =
     ∙ sym (put-other cells (get_or used k 0) w (get_or used d 0) other))
     (cases_eq d k)
 
--- what is held after an instruction
+-- the state after an instruction
 abbrev After : List Value → List Value → List ℕ → Packed → Machine → Ran → State → Type 0
 After inputs pool used p m ran t = Agree used t (act inputs (unpacked pool used p) m) (run_on inputs pool ran p)
 
@@ -217,7 +217,7 @@ agree_act inputs pool used n (Output k r) s t m ran apart ok many e h =
       given = length-set m.outputs k (m.registers r) ∙ h.given ∙ sym (length-set s.outputs k (Some x.0));
     })
 
--- what an instruction stops is the same
+-- the stops of an instruction are the same
 same_end : (inputs pool : List Value) (used : List ℕ) (p : Packed) (s t : State) (m : Machine) (ran : Ran) → moved (unpacked pool used p) s ≡ Some t
     → m.ended ≡ None → Agree used s m ran
     → (act inputs (unpacked pool used p) m).ended ≡ stop_in ran.registers p
@@ -234,7 +234,7 @@ same_end inputs pool used (Check g r over_only label) s t m ran e going h =
     ∙ ap (λ v. check_stop (at ran.registers g) v over_only label) (sym (h.registers r y.0 y.1))
 same_end inputs pool used (Output k r) s t m ran e going h = going
 
--- no instruction changes how many outputs there are
+-- the number of outputs is unchanged
 moved_outputs : (i : Packed) (pool : List Value) (used : List ℕ) (s t : State) → moved (unpacked pool used i) s ≡ Some t → length t.outputs ≡ length s.outputs
 moved_outputs (Take r n) pool used s t e = ap (λ (z : State). length z.outputs) (sym (some-is _ t e))
 moved_outputs (Lit r k) pool used s t e = ap (λ (z : State). length z.outputs) (sym (some-is _ t e))
@@ -260,7 +260,7 @@ Instrs pool used packed = map (unpacked pool used) packed
 abbrev end_of : Machine → Answer
 end_of m = answer_of m.ended m.outputs
 
--- an instruction of a machine that goes on
+-- an instruction of a machine that hasn't stopped
 acts_next : (inputs : List Value) (m : Machine) (i : Instr) (is : List Instr) → m.ended ≡ None → acts inputs m (i ∷ is) ≡ acts inputs (act inputs i m) is
 acts_next inputs m i is going = ap (λ (o : Option Stop). acts inputs (act_at inputs o i m) is) going
 
@@ -273,7 +273,7 @@ both_stopped inputs pool packed is m ran stop ran_is m_is =
     ∙ ap (λ (o : Option Stop). answer_of o m.outputs) (sym m_is)
     ∙ ap end_of (sym (acts-ended inputs m stop is m_is))
 
--- a run and a machine that agree, of which both have stopped or none
+-- a run and a machine that agree, and of which both have stopped or neither
 goes : (inputs pool : List Value) (used : List ℕ) (n : Counts) (k : ℕ) (packed : List Packed) (s : State) (m : Machine) (ran : Ran) (stop : Option Stop)
     → AreDistinct used
     → AllByRecursion (IsPacked n.inputs n.outputs (length pool) (length used)) packed → fault_from n s k (Instrs pool used packed) ≡ None
@@ -305,7 +305,7 @@ none_given zero k = refl
 none_given (suc n) zero = refl
 none_given (suc n) (suc k) = none_given n k
 
--- before the first instruction nothing is known
+-- before the first instruction no value is known
 agree_start : (used : List ℕ) (outputs : ℕ) (ran : Ran) → length ran.registers ≡ REGISTERS → length ran.slots ≡ length used → length ran.outputs ≡ outputs
     → Agree used (start outputs) (fresh outputs) ran
 agree_start used outputs ran registers slots many = record {
@@ -318,7 +318,7 @@ agree_start used outputs ran registers slots many = record {
   given = length-replicate outputs Undef ∙ sym (length-replicate outputs None);
 }
 
--- Code with which nothing is wrong answers what the machine does, from any state of its sizes.
+-- From any registers and slots of the right sizes, valid code has the machine's answer.
 pub ran_is_run : (code : Listing) (parts : Parts) (inputs : List Value) (ran : Ran) → AreParts code parts → length inputs ≡ code.counts.inputs → ran.stop ≡ None
     → length ran.registers ≡ REGISTERS → length ran.slots ≡ length parts.used.now → length ran.outputs ≡ code.counts.outputs
     → ran_answer (ran_from inputs parts.pool.now ran parts.packed.now) ≡ machine_run code inputs

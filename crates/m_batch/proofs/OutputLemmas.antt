@@ -1,4 +1,4 @@
--- The outputs of a run are as many as the code has.
+-- A run has as many outputs as the code.
 use Rattle.std.proofs.Common.{◌≡◌, List, [], ◌∷◌, length, Option, None, Some, refl, ap, ◌∙◌}
 use Rattle.std.proofs.lemmas.List.{length-set, length-replicate}
 use Rattle.m_fixed.specs.declared.amount.Value.{Value}
@@ -10,7 +10,7 @@ use Rattle.reg_machine.specs.declared.instr.Instr.TheVariants.{Take, Lit, Do, St
 use Rattle.reg_machine.specs.Flow.{Listing}
 use Rattle.reg_machine.specs.Machine.{Machine, fresh, act, act_at, acts, answer_of, machine_run}
 
--- an instruction changes no count
+-- an instruction doesn't change the number of outputs
 act-outputs : (inputs : List Value) (instr : Instr) (m : Machine) → length (act inputs instr m).outputs ≡ length m.outputs
 act-outputs inputs (Take r n) m = refl
 act-outputs inputs (Lit r v) m = refl
@@ -28,12 +28,12 @@ acts-outputs : (inputs : List Value) (m : Machine) (instrs : List Instr) → len
 acts-outputs inputs m [] = refl
 acts-outputs inputs m (instr ∷ instrs) = acts-outputs inputs (act_at inputs m.ended instr m) instrs ∙ at-outputs inputs m.ended instr m
 
--- an answer of values has those of the end
+-- the values of an answer are the outputs at the end
 same-outputs : (ended : Option Stop) (outputs ends : List Value) → Values outputs ≡ answer_of ended ends → outputs ≡ ends
 same-outputs None outputs ends e = cc
 same-outputs (Some stop) outputs ends e = cc
 
--- a run that wasn't stopped has as many values as there are outputs
+-- a run that didn't stop has as many values as the code has outputs
 pub outputs-long : (code : Listing) (inputs outputs : List Value) → Values outputs ≡ machine_run code inputs → length outputs ≡ code.counts.outputs
 outputs-long code inputs outputs e =
     let after = acts inputs (fresh code.counts.outputs) code.instrs in

@@ -1,4 +1,4 @@
--- What workers answer, part after part, is what code answers the whole.
+-- The answers of all parts, joined, are the answers of the whole.
 use Rattle.std.proofs.Common.{◌≡◌, ℕ, ◌+◌, ◌*◌, ◌<◌, ◌≤◌, length, get_or, take, drop, List, ◌++◌, Ok, Err, refl, sym, ◌∙◌, ap, Result, Vec}
 use Rattle.std.specs.Prelude.{map, IfOk}
 use Rattle.std.specs.declared.alloc.Global.{Global}
@@ -6,7 +6,7 @@ use Rattle.std.proofs.lemmas.List.{map-append, take-append-drop}
 use Rattle.workers.specs.Parts.{behind, joined, part_at}
 use Rattle.workers.proofs.PartLemmas.{of_parts, stated_of_parts}
 
--- what is made of each part is a map of it, so what they make, joined, is the map of the whole
+-- the result for each part is a map of it, so the joined results are the map of the whole
 abbrev IsMapped : {X Y E : Type 0} → (X → Y) → ℕ → List X → Result (List Y) E → Type 0
 IsMapped f at items all = IfOk all (λ ys. ys ≡ map f items)
 
@@ -16,7 +16,7 @@ more f size at items made (Ok rest) gave is =
     (λ i. gave i ++ is i) ∙ sym (map-append f (take size items) (drop size items)) ∙ ap (map f) (take-append-drop size items)
 more f size at items made (Err fault) gave is = tt
 
--- what the parts gave, joined
+-- the joined results of the parts
 pub mapped : {X Y E : Type 0} (f : X → Y) (size : ℕ) (items : List X) (parts : List (Result (Vec Y Global) E))
     → ((n : ℕ) (d : Result (Vec Y Global) E) → n < length parts → IfOk (get_or parts n d) (λ made. made.items ≡ map f (part_at items size (n * size))))
     → ((n : ℕ) → n < length parts → n * size < length items) → length items ≤ length parts * size → IfOk (joined parts) (λ ys. ys ≡ map f items)

@@ -1,4 +1,4 @@
--- Places of inputs, from one row to the next, and the lists of values that are filled by them.
+-- Places of inputs, row by row, and the lists of values filled by them.
 use Rattle.std.proofs.Common.{◌≡◌, ◌≢◌, ℕ, ℤ, zero, suc, ◌+◌, ◌-◌, ◌<◌, ◌≤◌, eqb, List, [], ◌∷◌, ◌++◌, length, get_or, set, map, take, drop, replicate, refl}
 use Rattle.std.proofs.Common.{sym, ap, subst, ◌∙◌, ⊎_elim, zero-add, arith, Vec}
 use Rattle.std.specs.declared.alloc.Global.{Global}
@@ -17,9 +17,9 @@ use Rattle.m_batch.specs.Batch.{HasInputsBelow}
 use Rattle.m_batch.specs.declared.places.Places.{Places}
 use Rattle.m_batch.specs.inner.Places.{place_of, IsPlacing, HasPlaces, RowHasPlaces, KeepPlaces, ArePlaced, IsFilled}
 
--- ---- places, one after another
+-- ---- places, in order
 
--- the input of a pair is among so many
+-- the input of a pair is below the count
 pub pair_below : (n : ℕ) (pairs given : List (ℕ × ℤ)) (k : ℕ) (pair : ℕ × ℤ) → AllByRecursion (λ input. input < n) (inputs_of pairs) → given ≡ pairs
     → k < length given
     → pair ≡ get_or given k pair → pair.0 < n
@@ -31,7 +31,7 @@ pair_below n pairs given k pair known is lt at =
 pub keep_trans : (a b c : Places) → KeepPlaces a b → KeepPlaces b c → KeepPlaces a c
 keep_trans a b c one two = record { many = two.many ∙ one.many; places = λ n h. two.places n (one.places n h) }
 
--- pairs that had places have them still
+-- pairs keep their places
 keep_placed : (old new : Places) (pairs : List (ℕ × ℤ)) → KeepPlaces old new → HasPlaces old pairs → HasPlaces new pairs
 keep_placed old new [] keep has = tt
 keep_placed old new (pair ∷ pairs) keep has = ((omega (arith, has.0.0, keep.many), keep.places pair.0 has.0.1), keep_placed old new pairs keep has.1)
@@ -41,7 +41,7 @@ placed_push : (places : Places) (pairs : List (ℕ × ℤ)) (pair : ℕ × ℤ) 
 placed_push places [] pair has below some = ((below, some), tt)
 placed_push places (p ∷ pairs) pair has below some = (has.0, placed_push places pairs pair has.1 below some)
 
--- a pair more
+-- one more pair
 pub placed_next : (old new : Places) (pairs given : List (ℕ × ℤ)) (k : ℕ) (pair : ℕ × ℤ) → HasPlaces old (take k pairs) → KeepPlaces old new → given ≡ pairs
     → k < length given
     → pair ≡ get_or given k pair → pair.0 < length old.of.items → 0 < place_of new pair.0 → HasPlaces new (take (k + 1) pairs)
@@ -51,7 +51,7 @@ placed_next old new pairs given k pair has keep is lt at below some =
     subst (HasPlaces new) (ap (λ (p : ℕ × ℤ). take k pairs ++ p ∷ []) here ∙ sym (take_more pairs k pair within))
     (placed_push new (take k pairs) pair (keep_placed old new (take k pairs) keep has) (omega (arith, below, keep.many)) some)
 
--- the amounts of a row are of so many inputs
+-- the amounts of a row are of inputs below the count
 pub row_below : (n m : ℕ) (rows : List Row) (k : ℕ) (row : Row) → AllByRecursion (HasInputsBelow n) rows → k < length rows → row ≡ get_or rows k row → m ≡ n
     → AllByRecursion (λ input. input < m) (inputs_of row.household.pairs)
 row_below n m rows k row all lt at same = subst (λ (i : ℕ). HasInputsBelow i row) (sym same) (subst (HasInputsBelow n) (sym at) (all_at rows k all lt))
@@ -61,7 +61,7 @@ row_below n m rows k row all lt at same = subst (λ (i : ℕ). HasInputsBelow i 
     all_at (r ∷ rows) zero all lt = all.0
     all_at (r ∷ rows) (suc k) all lt = all_at rows k all.1 (omega arith)
 
--- a row more
+-- one more row
 rows_push : (old new : Places) (rows : List Row) (row : Row) → KeepPlaces old new → AllByRecursion (RowHasPlaces old) rows → RowHasPlaces new row
     → AllByRecursion (RowHasPlaces new) (rows ++ row ∷ [])
 rows_push old new [] row keep all has = (has, tt)
@@ -79,13 +79,13 @@ rows_next inputs old new rows k row are placing keep lt at has = record {
 
 -- ---- lists of values
 
--- what stands for a place past the end doesn't matter within
+-- the default for positions past the end is irrelevant within
 any_default : {X : Type 0} (xs : List X) (i : ℕ) (d e : X) → i < length xs → get_or xs i d ≡ get_or xs i e
 any_default [] i d e lt = absurd (omega arith)
 any_default (x ∷ xs) zero d e lt = refl
 any_default (x ∷ xs) (suc i) d e lt = any_default xs i d e (omega arith)
 
--- where all is undefined, no pairs are
+-- all undefined is what no pairs give
 pub filled_none : (places : Places) (row : List Value) (n : ℕ) → row ≡ replicate n Undef → IsFilled places row []
 filled_none places row n is k below = ap (λ (vs : List Value). at vs (place_of places k)) is ∙ undefined n (place_of places k)
   where
@@ -94,13 +94,13 @@ filled_none places row n is k below = ap (λ (vs : List Value). at vs (place_of 
     undefined (suc n) zero = refl
     undefined (suc n) (suc k) = undefined n k
 
--- the inputs of one place from 1 on are one
+-- different inputs have different places from 1 on
 one_input : (places : Places) (n m : ℕ) → IsPlacing places → n < length places.of.items → m < length places.of.items → 0 < place_of places n
     → place_of places m ≡ place_of places n → m ≡ n
 one_input places n m is n_in m_in some same =
     sym (is.back m m_in (subst (λ (k : ℕ). 0 < k) (sym same) some)) ∙ ap (λ (k : ℕ). get_or places.inputs.items k 0) same ∙ is.back n n_in some
 
--- a pair before pairs
+-- one more pair, put first
 filled_more : (places : Places) (row : List Value) (pairs : List (ℕ × ℤ)) (pair : ℕ × ℤ) → IsPlacing places → length row ≡ length places.inputs.items
     → pair.0 < length places.of.items
     → 0 < place_of places pair.0 → IsFilled places row pairs → IsFilled places (set row (place_of places pair.0) (Num pair.1)) (pair ∷ pairs)
@@ -116,7 +116,7 @@ filled_more places row pairs pair is width below some filled n n_in =
     ∙ sym (cond-false (eqb pair.0 n) (Num pair.1) (value_at pairs n) (ne_eqb pair.0 n (λ e. other (sym e)))))
     (cases_eq n pair.0)
 
--- what is known of a pair at a place
+-- the properties of a pair at a position
 pair_has : (places : Places) (pairs : List (ℕ × ℤ)) (k : ℕ) (d : ℕ × ℤ) → HasPlaces places pairs → k < length pairs
     → ((get_or pairs k d).0 < length places.of.items) × (0 < place_of places (get_or pairs k d).0)
 pair_has places [] k d has lt = absurd (omega arith)
@@ -133,13 +133,13 @@ pair_placed places pairs given k pair has is lt at =
 pub place_is : (places : Places) (n place : ℕ) → n < length places.of.items → place ≡ get_or places.of.items n place → place ≡ place_of places n
 place_is places n place below at = at ∙ any_default places.of.items n place 0 below
 
--- the place of a pair is within a list of so many values
+-- the place of a pair is within the list
 pub place_within : (places : Places) (row : List Value) (n place : ℕ) → IsPlacing places → n < length places.of.items → place ≡ get_or places.of.items n place
     → length row ≡ length places.inputs.items → place < length row
 place_within places row n place is below at width = let here = is.below n below in let same = place_is places n place below at in omega
     (arith, here, same, width)
 
--- the next pair, from the back on
+-- the next pair, from the last to the first
 pub filled_next : (places : Places) (row : List Value) (pairs given : List (ℕ × ℤ)) (left : ℕ) (pair : ℕ × ℤ) (place : ℕ) → IsPlacing places
     → HasPlaces places pairs → given ≡ pairs
     → length row ≡ length places.inputs.items → 0 < left → left ≤ length given → pair ≡ get_or given (left - 1) pair
@@ -155,7 +155,7 @@ filled_next places row pairs given left pair place placing has is width some wit
     (subst (IsFilled places (set row (place_of places pair.0) (Num pair.1))) (sym cut)
     (filled_more places row (drop left given) pair placing width here.0 here.1 filled))
 
--- a list that is filled gives the inputs what the pairs do
+-- a filled list gives the inputs what the pairs do
 pub filled_inputs : (places : Places) (row : List Value) (pairs : List (ℕ × ℤ)) → IsFilled places row pairs
     → row_inputs places.of.items row ≡ values_of pairs (length places.of.items)
 filled_inputs places row pairs filled =
@@ -167,7 +167,7 @@ filled_inputs places row pairs filled =
     ∙ sym (get_or-map (value_at pairs) (range_with_len 0 many) k 0 d (omega (arith, k_in, length-range_with_len 0 many))
     ∙ ap (value_at pairs) (get_or-range_with_len 0 many k 0 k_in ∙ zero-add k)))
 
--- the row of a list that was put in its place
+-- the row of a list that was replaced
 row_put : (block : List (Vec Value Global)) (r : ℕ) (new : Vec Value Global) → r < length block → row_at (set block r new) r ≡ new.items
 row_put block r new lt =
     ap (λ (rows : List (List Value)). get_or rows r []) (map-set (λ (v : Vec Value Global). v.items) block r new)
@@ -184,7 +184,7 @@ row_taken block n r lt =
     ap (λ (rows : List (List Value)). get_or rows r []) (sym (take-map (λ (v : Vec Value Global). v.items) n block))
     ∙ get_or-take n (map (λ (v : Vec Value Global). v.items) block) r [] lt
 
--- the amounts of a row more
+-- the amounts of one more row
 pub values_next : (places : List ℕ) (rows : List Row) (block : List (Vec Value Global)) (r : ℕ) (row : Row) (new : Vec Value Global) → r < length block
     → r < length rows
     → row ≡ get_or rows r row → row_inputs places new.items ≡ values_of row.household.pairs (length places)

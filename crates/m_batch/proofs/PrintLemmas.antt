@@ -1,4 +1,4 @@
--- What is printed of rows, part after part.
+-- The text of rows, part by part.
 use Rattle.std.proofs.Common.{◌≡◌, ℕ, suc, ◌+◌, ◌*◌, ◌-◌, ◌<◌, ◌≤◌, length, get_or, take, drop, List, [], ◌∷◌, ◌++◌, refl, sym, ◌∙◌, ap, subst, append_assoc}
 use Rattle.std.proofs.Common.{arith, ◌⊎◌, ⊎_elim, inl, inr}
 use Rattle.std.specs.List.{AllByRecursion}
@@ -12,18 +12,18 @@ use Rattle.workers.specs.Parts.{AreOfParts, part_at}
 use Rattle.m_batch.specs.Batch.{answers_of, row_answer}
 use Rattle.m_batch.specs.Printing.{MayPrintEach, printed_count, printed_text}
 
--- ---- rows in two parts, with the answers of code
+-- ---- rows in two parts, with their answers
 
--- the place after a row and others
+-- the position after one row and others
 after : (at n : ℕ) → at + 1 + n ≡ at + suc n
 after at n = omega arith
 
--- the place after some rows, or nothing stands there
+-- the position after some rows, or there are no more
 abbrev pub Next : ℕ → ℕ → List Row → List Row → Type 0
 Next at next one other = (next ≡ at + length one) ⊎ (other ≡ [])
 
 module _ (text : ℕ → Row → Answer → List ℕ) (code : Listing) where
-  -- the text of the rows from one place on
+  -- the text of the rows from a position on
   abbrev pub text_from : ℕ → List Row → List ℕ
   text_from at rows = printed_text text at rows (answers_of code rows)
 
@@ -81,7 +81,7 @@ module _ (may : ℕ → Row → Answer → Type 0) (code : Listing) where
       let both = may_split at one other (subst (MayFrom at) is all) in
       (both.0, may_there at next one other there both.1)
 
-  -- a part of rows that may be printed
+  -- the rows of a part may be printed
   pub may_part : (from at size : ℕ) (rows : List Row) → at ≤ length rows → MayFrom from rows → MayFrom (from + at) (part_at rows size at)
   may_part from at size rows inside all =
       let taken = length-take at rows in
@@ -90,7 +90,7 @@ module _ (may : ℕ → Row → Answer → Type 0) (code : Listing) where
       (may_next (from + at) (drop at rows) (part_at rows size at) (drop size (drop at rows)) (from + at + length (part_at rows size at))
       (sym (take-append-drop size (drop at rows))) (inl refl) back).0
 
--- what holds of each of some rows holds of each in either part
+-- a property of each row holds in both parts
 pub each_next : {X : Type 0} (P : X → Type 0) (one other : List X) → AllByRecursion P (one ++ other) → AllByRecursion P one × AllByRecursion P other
 each_next P [] other all = (tt, all)
 each_next P (x ∷ one) other all = let rest = each_next P one other all.1 in ((all.0, rest.0), rest.1)
@@ -100,9 +100,9 @@ each_part P at size items all =
     let back = (each_next P (take at items) (drop at items) (subst (AllByRecursion P) (sym (take-append-drop at items)) all)).1 in
     (each_next P (part_at items size at) (drop size (drop at items)) (subst (AllByRecursion P) (sym (take-append-drop size (drop at items))) back)).0
 
--- ---- rows that are cut into windows, or into parts of one size
+-- ---- rows divided into windows, or into parts of one size
 
--- the rows that are left begin with a window
+-- the remaining rows begin with a window
 pub window_next : (rows : List Row) (from end : ℕ) → from < end → end ≤ length rows
     → (drop from rows ≡ take (end - from) (drop from rows) ++ drop end rows) × Next from end (take (end - from) (drop from rows)) (drop end rows)
 window_next rows from end some within =
@@ -114,7 +114,7 @@ window_next rows from end some within =
       inl (omega (arith, taken, left, some, within)),
     )
 
--- the rows that are left begin with a part
+-- the remaining rows begin with a part
 pub part_next : (rows part : List Row) (size n from : ℕ) → part ≡ part_at rows size (n * size)
     → (drop (n * size) rows ≡ part ++ drop ((n + 1) * size) rows) × Next (from + n * size) (from + (n + 1) * size) part (drop ((n + 1) * size) rows)
 part_next rows part size n from is =
@@ -130,7 +130,7 @@ part_next rows part size n from is =
           (cases_lt (length left) size),
     )
 
--- what was made of a part, and of those after it
+-- the result for a part, then those for the rest
 pub made_next : {U : Type 0} (gives : ℕ → List Row → U → Type 0) (size n : ℕ) (rows : List Row) (made : List U) (u d : U) → n < length made
     → u ≡ get_or made n d
     → AreOfParts gives size (n * size) (drop (n * size) rows) (drop n made)
@@ -143,9 +143,9 @@ made_next {U} gives size n rows made u d inside is all =
           (subst (λ k. AreOfParts gives size k (drop size (drop (n * size) rows)) (drop (n + 1) made)) next unfolded.2),
     )
 
--- ---- rows and answers, one after the other
+-- ---- rows and answers, in order
 
--- the place of the next row
+-- the position of the next row
 there : (place k : ℕ) → place + k + 1 ≡ place + (k + 1)
 there place k = omega arith
 
@@ -178,7 +178,7 @@ may_at may place rows answers k row d answer e rows_in answers_in is_row is_answ
       subst (λ n. MayPrintEach may n (drop (k + 1) rows) (drop (k + 1) answers)) (there place k) both.1,
     )
 
--- where each row may be printed with each answer, all may
+-- if each row may be printed with each answer, all may
 pub each_may : (may : ℕ → Row → Answer → Type 0) → ((at : ℕ) (row : Row) (answer : Answer) → may at row answer)
     → (at : ℕ) (rows : List Row) (answers : List Answer) → MayPrintEach may at rows answers
 each_may may all at [] answers = tt

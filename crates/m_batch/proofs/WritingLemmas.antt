@@ -1,4 +1,4 @@
--- A text in several writes, where memory may end it.
+-- A text in several writes, interrupted if memory runs out.
 use Rattle.std.proofs.Common.{◌≡◌, ℕ, List, [], ◌++◌, Option, None, Some, Result, Ok, Err, refl, sym, ◌∙◌, ap, subst, append-nil}
 use Rattle.std.specs.Io.KnownBytes.{append_known}
 use Rattle.m_ports.specs.Counts.{Rose}
@@ -9,7 +9,7 @@ use Rattle.m_batch.specs.Printing.{Counted, WritesRows}
 use Rattle.m_batch.specs.declared.fault.PrintFault.{PrintFault}
 use Rattle.m_batch.specs.declared.fault.PrintFault.TheVariants.{Memory, Failed}
 
--- the next part was not written to its end
+-- the next part was interrupted
 pub part_stopped : {S U : Type 0} (written : S → Option (List ℕ)) (faults : S → ℕ) (old now new : S) (text piece rest left : List ℕ)
     (whole : Result U PrintFault) (other fault : PrintFault) → whole ≡ Err other → other ≡ fault → left ≡ piece ++ rest → Given written faults old now text left
     → AppendsPrefix (written now) (written new) piece → Counted {T = Unit {0}} (Err fault) (faults now) (faults new)
@@ -33,7 +33,7 @@ nothing_more : (known : Option (List ℕ)) → known ≡ append_known known []
 nothing_more None = refl
 nothing_more (Some bytes) = ap Some (sym (append-nil bytes))
 
--- there was no memory before the first write
+-- memory ran out before the first write
 pub nothing_written : {S U : Type 0} (written : S → Option (List ℕ)) (faults : S → ℕ) (old : S) (text : List ℕ) (result : Result U PrintFault)
     (fault : PrintFault)
     → result ≡ Err fault → fault ≡ Memory → WritesRows written faults old old result text
@@ -43,7 +43,7 @@ nothing_written written faults old text result fault f s = rw (f ∙ ap Err s) (
   counted = refl;
 })
 
--- a call failed that was to write all
+-- a write of the whole failed
 pub gave_failed : {S U : Type 0} (written : S → Option (List ℕ)) (faults : S → ℕ) (old new : S) (text whole : List ℕ) (result : Result U PrintFault)
     (fault : PrintFault)
     → result ≡ Err fault → fault ≡ Failed → text ≡ whole → Rose (faults old) (faults new) → AppendsPrefix (written old) (written new) text
@@ -54,7 +54,7 @@ gave_failed written faults old new text whole result fault f s is rose prefix = 
   counted = rose;
 })
 
--- and wrote it
+-- a write of the whole succeeded
 pub gave_all : {S U : Type 0} (written : S → Option (List ℕ)) (faults : S → ℕ) (old new : S) (text whole : List ℕ) (value : U)
     → text ≡ whole → written new ≡ append_known (written old) text → faults new ≡ faults old → WritesRows written faults old new (Ok value) whole
 gave_all written faults old new text whole value is all none = record {

@@ -1,4 +1,4 @@
--- What the rows of a table are answered.
+-- The answers of a table's rows.
 use Rattle.std.specs.Prelude.{ℕ, ◌<◌, List, map}
 use Rattle.std.specs.List.{AllByRecursion}
 use Rattle.observables.specs.declared.answer.Answer.{Answer}
@@ -7,11 +7,11 @@ use Rattle.reg_machine.specs.Machine.{machine_run}
 use Rattle.household.specs.declared.table.Row.{Row}
 use Rattle.household.specs.Household.{inputs_of, values_of}
 
--- a row has amounts for none but so many inputs
+-- a row has amounts only for inputs below this count
 abbrev pub HasInputsBelow : ℕ → Row → Type 0
 HasInputsBelow inputs row = AllByRecursion (λ input. input < inputs) (inputs_of row.household.pairs)
 
--- What code answers for a row: its run on the row's amounts, undefined where the row has none.
+-- The answer of code to a row: its run on the row's amounts, with the other inputs undefined.
 abbrev pub row_answer : Listing → Row → Answer
 row_answer code row = machine_run code (values_of row.household.pairs code.counts.inputs)
 
@@ -19,7 +19,7 @@ row_answer code row = machine_run code (values_of row.household.pairs code.count
 abbrev pub answers_of : Listing → List Row → List Answer
 answers_of code rows = map (row_answer code) rows
 
--- rows that are left to be computed by code
+-- code, and the rows that it hasn't run yet
 pub record Left : Type 0 where
   pub code : Listing
   pub rows : List Row

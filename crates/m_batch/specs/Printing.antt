@@ -1,4 +1,4 @@
--- What is printed of rows with their answers, and what is known of a call that prints them.
+-- The text of rows with their answers, and the effect of a call that prints them.
 use Rattle.std.specs.Prelude.{◌≡◌, ℕ, ◌+◌, ◌-◌, ◌^◌, min, List, [], ◌∷◌, ◌++◌, Option, Result, Ok, Err, OnOk, OnErr}
 use Rattle.std.specs.Io.KnownBytes.{append_known}
 use Rattle.m_ports.specs.Counts.{Rose}
@@ -8,32 +8,33 @@ use Rattle.household.specs.declared.table.Row.{Row}
 use Rattle.m_batch.specs.declared.fault.PrintFault.{PrintFault}
 use Rattle.m_batch.specs.declared.fault.PrintFault.TheVariants.{Memory, Failed}
 
--- What is printed of rows with these answers, one after another, where the first row has this place. `text` is that of one row.
+-- The texts of rows with these answers, in order, where the first row has this position. `text` is
+-- that of one row.
 abbrev pub printed_text : (ℕ → Row → Answer → List ℕ) → ℕ → List Row → List Answer → List ℕ
 printed_text text at (row ∷ rows) (answer ∷ answers) = text at row answer ++ printed_text text (at + 1) rows answers
 printed_text text at _ _ = []
 
--- how much is counted of them
+-- the sum of their counts
 abbrev pub printed_count : (ℕ → Row → Answer → ℕ) → ℕ → List Row → List Answer → ℕ
 printed_count count at (row ∷ rows) (answer ∷ answers) = count at row answer + printed_count count (at + 1) rows answers
 printed_count count at _ _ = 0
 
--- a number as far as 64 bits count
+-- a number saturated at the greatest `u64`
 abbrev pub counted_to_end : ℕ → ℕ
 counted_to_end n = min n (2 ^ 64 - 1)
 
--- each of them may be printed
+-- each row may be printed with its answer
 abbrev pub MayPrintEach : (ℕ → Row → Answer → Type 0) → ℕ → List Row → List Answer → Type 0
 MayPrintEach may at (row ∷ rows) (answer ∷ answers) = may at row answer × MayPrintEach may (at + 1) rows answers
 MayPrintEach may at _ _ = Unit {0}
 
--- the count of faults of an output rose where a write failed, and else it is the same
+-- the output's fault count rose if a write failed, and is unchanged otherwise
 abbrev pub Counted : {T : Type 0} → Result T PrintFault → ℕ → ℕ → Type 0
 Counted (Ok value) old new = new ≡ old
 Counted (Err Memory) old new = new ≡ old
 Counted (Err Failed) old new = Rose old new
 
--- A text was written; or there was no memory on the way, or a write failed, and a prefix of it was.
+-- A text was written; or memory ran out or a write failed, and a prefix of it was written.
 pub record WritesRows {S T : Type 0} (written : S → Option (List ℕ)) (faults : S → ℕ) (old new : S) (result : Result T PrintFault) (text : List ℕ) : Type 0
   where
     pub all : OnOk result (written new ≡ append_known (written old) text)

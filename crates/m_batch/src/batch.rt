@@ -1,4 +1,4 @@
-//! The answers of a table's rows.
+//! Runs the rows of a table.
 ghost use Rattle.std.specs.Prelude.{◌≡◌, IfOk};
 ghost use Rattle.std.specs.List.{AllByRecursion};
 ghost use Rattle.m_batch.specs.Batch.{HasInputsBelow, answers_of};
@@ -12,11 +12,14 @@ use std::alloc::{AllocError, Global};
 use std::thread::Threads;
 use workers::{join_parts, part_size};
 
-/// What code answers for each row of a table, in the order of the rows. Each answer is that of a run by itself, so a
-/// row that stops changes no other, and answers are the same for every gate and every number of threads. The worker of row k, from 0, first
-/// calls `gate.pass(k)`. There are as many workers as processors, and two at least where there are two rows. Its only error is running out of memory.
+/// The answer of code to each row of a table, in the order of the rows. Each answer is that of a
+/// separate run, so a row that stops doesn't affect the others, and the answers don't depend on the
+/// gate or the number of threads. The worker of row k, from 0, first calls `gate.pass(k)`. There
+/// are as many workers as processors, and at least two for two rows or more. The only error is
+/// running out of memory.
 ///
-/// Of code that gives its input 0 back, the rows with the amounts 5 and nothing are answered 5 and undefined.
+/// For code whose output is its input 0, rows with the amount 5 and with none have the answers 5
+/// and undefined.
 pub fn run_batch<R: Threads + Sync, G: Gate + Sync>(
     rt: &R,
     alloc: Global,

@@ -1,4 +1,4 @@
-//! The rows of a worker, a block after the other, on a machine of its own.
+//! The rows of one worker, block by block, on its own machine.
 ghost use Rattle.std.specs.Prelude.{◌≡◌, ◌<◌, ◌≤◌, ◌++◌, ℕ, IfOk, OnOk, OnErr, length, slice_index_or};
 ghost use Rattle.std.specs.List.{AllByRecursion};
 ghost use Rattle.household.specs.declared.table.Row.{Row};
@@ -17,8 +17,8 @@ use reg_machine::Code;
 use std::alloc::{AllocError, Global};
 use std::marker::Model;
 
-/// Rows of a table that one worker computes, a block of them after the other, on a machine of its own. Contracts see the code and the rows
-/// that are left.
+/// The rows that one worker has left, to be computed block by block on its own machine. Contracts
+/// see the code and the rows that are left.
 #[derive(Drop)]
 pub struct Blocks<'a> {
     columns: Columns<'a>,
@@ -27,7 +27,7 @@ pub struct Blocks<'a> {
     rows: &'a [Row],
 }
 
-/// Some rows, and what each of them is answered.
+/// Some rows and their answers.
 #[derive(Drop)]
 pub struct Answered<'a> {
     pub rows: &'a [Row],
@@ -46,7 +46,8 @@ impl<'a> Model for Blocks<'a> {
 }
 
 impl<'a> Blocks<'a> {
-    /// Rows for this code. It goes through their amounts once, and takes room for a machine and a block. Its only error is running out of memory.
+    /// Prepares rows for this code. It goes over their amounts once, and takes memory for a machine
+    /// and a block. Its only error is running out of memory.
     pub fn new(alloc: Global, code: &'a Code, rows: &'a [Row]) -> Result<Blocks<'a>, AllocError>
         requires { AllByRecursion (HasInputsBelow code.now.counts.inputs) rows.now }
         ensures { IfOk result (λ blocks. blocks ≡ record { code = code.now; rows = rows.now }) }
@@ -62,15 +63,15 @@ impl<'a> Blocks<'a> {
         })
     }
 
-    /// How many rows are left. Takes no memory.
+    /// The number of rows left. Takes no memory.
     pub fn left(&self) -> usize
         ensures { result ≡ length self.now.rows }
     {
         self.rows.len()
     }
 
-    /// The next rows with their answers: some where any are left, and no more than a block. Its only error is running out of memory, and the
-    /// rows are left then.
+    /// The next rows with their answers: at least one if any are left, and at most a block. Its
+    /// only error is running out of memory, which leaves the rows as they were.
     pub fn next(&mut self, alloc: Global) -> Result<Answered<'a>, AllocError>
         ensures code { self.new.code ≡ self.old.code }
         ensures rows { IfOk result (λ part. self.old.rows ≡ part.rows.now ++ self.new.rows) }
@@ -89,7 +90,7 @@ impl<'a> Blocks<'a> {
     }
 }
 
-// Rows for a block, with so many places each.
+// Lists of values for the rows of a block, with `width` values each.
 fn new_rows(alloc: Global, width: usize) -> Result<Vec<Vec<Value>>, AllocError>
     ensures many { IfOk result (λ rows. length rows.items ≡ BLOCK) }
     ensures width { IfOk result (λ rows. AreRows width rows.items) }
@@ -101,7 +102,7 @@ fn new_rows(alloc: Global, width: usize) -> Result<Vec<Vec<Value>>, AllocError>
     Ok(rows)
 }
 
-// Where the first block of so many rows ends.
+// The number of rows in the first block of `count` rows.
 fn block_end(count: usize) -> usize
     ensures some { 0 < count → 0 < result }
     ensures within { result ≤ count }
@@ -125,7 +126,7 @@ fn run_rows<'a>(places: &Places, rows: &[Row], columns: &mut Columns<'a>, block:
     columns.run_block(&places.of, &block[..rows.len()]);
 }
 
-// The answers of a block that was computed.
+// The answers of a computed block.
 fn answers_of_block<'a>(
     alloc: Global,
     rows: &[Row],

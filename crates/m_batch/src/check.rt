@@ -1,4 +1,4 @@
-//! Checks, row by row: a row's first stop is kept.
+//! Checks, for all rows of a block: the first stop of each row is kept.
 ghost use Rattle.std.specs.Prelude.{◌≡◌, ◌<◌, ◌≤◌, ℕ, length, slice_index_or, None, IsSome, IsTrue};
 ghost use Rattle.reg_machine.specs.inner.Cells.{at};
 ghost use Rattle.m_batch.specs.inner.Rows.{row_of};
@@ -10,7 +10,7 @@ use flat_code::stop_at;
 use m_fixed::Value;
 use observables::Stop;
 
-/// No row has stopped.
+/// Marks all rows as not stopped.
 pub(crate) fn clear_stops(many: usize, stops: &mut Vec<Option<Stop>>)
     requires width { many ≤ length stops.old.items }
     ensures room { length stops.new.items ≡ length stops.old.items }
@@ -28,7 +28,7 @@ fn clear_front(stops: &mut [Option<Stop>])
     }
 }
 
-/// Whether so many rows have all stopped. It looks no further than the first that hasn't.
+/// Whether all rows have stopped. It looks no further than the first that hasn't.
 pub(crate) fn have_stopped(many: usize, stops: &Vec<Option<Stop>>) -> bool
     requires width { many ≤ length stops.now.items }
     ensures { IsTrue result → (r : ℕ) → r < many → IsSome (slice_index_or stops.now.items r None) }
@@ -41,7 +41,7 @@ pub(crate) fn have_stopped(many: usize, stops: &Vec<Option<Stop>>) -> bool
     true
 }
 
-/// Checks so many rows.
+/// Does one check for all rows.
 pub(crate) fn check_rows(
     guard: usize,
     condition: usize,

@@ -1,4 +1,4 @@
-//! The answers of a worker's rows.
+//! The answers of one worker.
 ghost use Rattle.std.specs.Prelude.{◌≡◌, IfOk};
 ghost use Rattle.std.specs.List.{AllByRecursion};
 ghost use Rattle.m_batch.specs.Batch.{HasInputsBelow, answers_of};
@@ -9,7 +9,7 @@ use observables::Answer;
 use reg_machine::Code;
 use std::alloc::{AllocError, Global};
 
-/// The answers of rows.
+/// The answers of rows, in order.
 pub(crate) fn answers_of_chunk(
     alloc: Global,
     code: &Code,

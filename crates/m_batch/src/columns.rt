@@ -1,4 +1,4 @@
-//! The machine for blocks of rows.
+//! A machine that runs code on blocks of rows.
 ghost use Rattle.std.specs.Prelude.{◌≡◌, ◌<◌, ◌≤◌, ℕ, length, IfOk};
 ghost use Rattle.reg_machine.specs.Machine.{machine_run};
 ghost use Rattle.m_batch.specs.inner.Rows.{answer_in, row_at, row_inputs, row_of};
@@ -14,7 +14,8 @@ use reg_machine::{Code, Parts};
 use std::alloc::{AllocError, Global};
 use std::marker::Model;
 
-/// A machine for code that is lent. Contracts see the code, and what the last block's rows are answered, by their places.
+/// A machine for borrowed code. Contracts see the code, and the answers of the last block's rows by
+/// their positions.
 #[derive(Drop)]
 pub struct Columns<'a> {
     code: &'a Code,
@@ -36,8 +37,9 @@ impl<'a> Model for Columns<'a> {
 }
 
 impl<'a> Columns<'a> {
-    /// A machine for this code. It takes room for sixteen registers, the slots that are stored to and the outputs, each for a block of
-    /// rows, whatever the code's length and its count of slots. Its only error is running out of memory.
+    /// A machine for this code. It takes memory for a column for each of sixteen registers, of the
+    /// slots that are written and of the outputs, whatever the length of the code and its slot
+    /// count. Its only error is running out of memory.
     pub fn new(alloc: Global, code: &'a Code) -> Result<Columns<'a>, AllocError>
         ensures { IfOk result (λ columns. columns.code ≡ code.now) }
     {
@@ -46,8 +48,9 @@ impl<'a> Columns<'a> {
         Ok(Columns { code, parts, room })
     }
 
-    /// Runs the code for the rows of a block. Input n of a row is its value at the place `numbers[n]`, and undefined after its end.
-    /// Nothing of an earlier block is left. It takes no memory, and a step for each instruction and row.
+    /// Runs the code on the rows of a block. Input n of a row is its value at position
+    /// `numbers[n]`, or undefined past the row's end. No state of earlier blocks has an effect. It
+    /// takes no memory, and one step for each instruction and row.
     pub fn run_block(&mut self, numbers: &[usize], rows: &[Vec<Value>])
         requires inputs { length numbers.now ≡ self.old.code.counts.inputs }
         requires width { length rows.now ≤ BLOCK }
@@ -64,7 +67,7 @@ impl<'a> Columns<'a> {
         );
     }
 
-    /// What the row at this place is answered. Its only error is running out of memory.
+    /// The answer of the row at this position. Its only error is running out of memory.
     pub fn answer(&self, alloc: Global, r: usize) -> Result<Answer, AllocError>
         requires { r < BLOCK }
         ensures { IfOk result (λ answer. answer ≡ answer_in self.now r) }

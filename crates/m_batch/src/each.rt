@@ -1,4 +1,4 @@
-//! What fills the start of a column: an input, a literal, a copy or an operator.
+//! Computes the values of a column: an input, a literal, a copy or an operator's result.
 ghost use Rattle.std.specs.Prelude.{◌≡◌, ◌<◌, ◌≤◌, ℕ, length, take};
 ghost use Rattle.m_fixed.specs.Operators.{op_value};
 ghost use Rattle.reg_machine.specs.inner.Cells.{at};
@@ -8,7 +8,7 @@ ghost use Rattle.m_batch.specs.inner.Rooms.{AreWide};
 use crate::room::BLOCK;
 use m_fixed::{Op, Value, apply};
 
-/// The values at a place of rows.
+/// The values of rows at a position.
 pub(crate) fn give_inputs(place: usize, rows: &[Vec<Value>], scratch: &mut Vec<Value>)
     requires width { length rows.now ≤ length scratch.old.items }
     ensures room { length scratch.new.items ≡ length scratch.old.items }
@@ -27,7 +27,7 @@ fn each_input(place: usize, rows: &[Vec<Value>], out: &mut [Value])
     }
 }
 
-// The value at a place of a row, and none after its end.
+// The value of a row at a position, or undefined past the end.
 fn value_in(row: &Vec<Value>, place: usize) -> Value
     ensures { result ≡ at row.now.items place }
 {
@@ -38,7 +38,7 @@ fn value_in(row: &Vec<Value>, place: usize) -> Value
     }
 }
 
-/// The same value for so many rows.
+/// One value, `many` times.
 pub(crate) fn give_literal(value: &Value, many: usize, scratch: &mut Vec<Value>)
     requires width { many ≤ length scratch.old.items }
     ensures room { length scratch.new.items ≡ length scratch.old.items }
@@ -56,7 +56,7 @@ fn each_literal(value: &Value, out: &mut [Value])
     }
 }
 
-/// The values of another column.
+/// The first values of another column.
 pub(crate) fn give_copy(column: &Vec<Value>, many: usize, scratch: &mut Vec<Value>)
     requires column { many ≤ length column.now.items }
     requires width { many ≤ length scratch.old.items }
@@ -76,7 +76,7 @@ fn each_copy(column: &[Value], out: &mut [Value])
     }
 }
 
-/// An operator's values on those of three registers.
+/// The results of an operator on three registers.
 pub(crate) fn give_result(
     op: Op,
     of: (u8, u8, u8),
@@ -124,7 +124,7 @@ fn each_result(op: Op, a: usize, b: usize, c: usize, registers: &[Vec<Value>], o
     );
 }
 
-/// The first values of a column.
+/// The first `many` values of a column.
 pub(crate) fn front(column: &Vec<Value>, many: usize) -> &[Value]
     requires { many ≤ length column.now.items }
     ensures { result.now ≡ take many column.now.items }
@@ -132,7 +132,7 @@ pub(crate) fn front(column: &Vec<Value>, many: usize) -> &[Value]
     &column.as_slice()[..many]
 }
 
-// Each arm names its operator, so that the compiler makes a loop of its own for each.
+// Each arm names its operator, so that the compiler makes a specialised loop for it.
 fn by_operator(op: Op, a: &[Value], b: &[Value], c: &[Value], out: &mut [Value])
     requires a { length a.now ≡ length out.old }
     requires b { length b.now ≡ length out.old }

@@ -1,14 +1,14 @@
-//! Why rows are not printed to their end.
+//! Errors of printing rows.
 ghost use Rattle.std.specs.Prelude.{◌≡◌};
 ghost use Rattle.m_batch.specs.declared.fault.PrintFault.TheVariants.{Memory as NoMemory, Failed as NotWritten};
 
 use m_ports::Failed;
 use std::alloc::AllocError;
 
-/// Why rows are not printed to their end.
+/// Why not all rows were printed.
 #[derive(Clone, Copy, Debug, PartialEq, Eq)]
 pub enum PrintFault {
-    /// There was no memory.
+    /// Out of memory.
     Memory,
     /// A write failed.
     Failed,

@@ -1,11 +1,14 @@
-//! Many households at once: what code answers for each row of a table, in the order of the rows; and one alone.
+//! Runs code on many households, the rows of a table, or on one.
 //!
-//! Rows are shared out among threads, and each thread runs the one code over a block of rows at a time: an instruction goes over all rows of
-//! the block before the next one does. This crate knows neither how a table is spelled nor how an answer is printed.
+//! Uses `reg_machine` for code, `household` for rows, and `workers`: rows are divided among
+//! threads, and each thread executes an instruction for all rows of a block before the next
+//! instruction. Knows nothing of the syntax of tables or of how an answer is printed.
 //!
-//! A block has 64 rows, computed by columns; a row that stopped goes on with the others (`AreRun`). A block has lists for the inputs that some
-//! row has (`Places`). A window has up to 8,192 rows (`window_size`), in as many parts as there are processors. The texts of workers have a
-//! fixed room; a part that doesn't fit is printed again by the first thread (`give_part`).
+//! A block has 64 rows, stored by columns; a row that stopped is computed on with the others, and
+//! its first stop is kept (`AreRun`). Only inputs that some row has are stored (`Places`). A window
+//! has up to 8,192 rows (`window_size`), in as many parts as there are processors. Each worker
+//! prints into a text of fixed capacity; a part that doesn't fit is printed again by the first
+//! thread (`give_part`).
 #![tactic(auto)]
 
 mod batch;

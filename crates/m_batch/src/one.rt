@@ -1,4 +1,4 @@
-//! The answer of one household.
+//! Runs one household.
 ghost use Rattle.std.specs.Prelude.{◌≡◌, ◌<◌, IfOk, length};
 ghost use Rattle.std.specs.List.{AllByRecursion};
 ghost use Rattle.household.specs.Household.{inputs_of, values_of};
@@ -11,10 +11,10 @@ use observables::Answer;
 use reg_machine::{Code, Machine};
 use std::alloc::{AllocError, Global};
 
-/// What code answers for a household: its run on the household's amounts, undefined where it has none. Its only error is
-/// running out of memory.
+/// The answer of code to a household: its run on the household's amounts, with the other inputs
+/// undefined. Its only error is running out of memory.
 ///
-/// Of code that gives its input 0 back, a household with the amount 5 is answered 5.
+/// For code whose output is its input 0, a household with the amount 5 has the answer 5.
 pub fn run_household(
     alloc: Global,
     code: &Code,
@@ -28,7 +28,7 @@ pub fn run_household(
     answer_to(alloc, code, &mut machine, &inputs)
 }
 
-/// What code answers for these inputs, by a machine for it.
+/// The answer of code to these inputs, from a new machine.
 pub(crate) fn answer_to<'a>(
     alloc: Global,
     code: &Code,

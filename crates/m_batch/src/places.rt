@@ -1,4 +1,5 @@
-//! Where the inputs that rows have amounts for stand in a list of values: as many places as such inputs, however many inputs there are.
+//! Numbers the inputs for which rows have amounts, so that a row needs only as many values, however
+//! many inputs there are.
 ghost use Rattle.std.specs.Prelude.{◌≡◌, ◌<◌, ℕ, IfOk, OnOk, length, slice_index_or};
 ghost use Rattle.std.specs.List.{AllByRecursion};
 ghost use Rattle.household.specs.Household.{inputs_of};
@@ -8,14 +9,15 @@ ghost use Rattle.m_batch.specs.inner.Places.{ArePlaced, IsPlacing, HasPlaces, Ke
 use household::{Household, Row};
 use std::alloc::{AllocError, Global};
 
-/// The place of each input, which is 0 where no row has an amount for it, and the input of each place from 1.
+/// The place of each input, which is 0 if no row has an amount for it, and the input of each place
+/// from 1 on.
 #[derive(Drop)]
 pub struct Places {
     pub of: Vec<usize>,
     pub inputs: Vec<u32>,
 }
 
-/// Places for the inputs of rows. Its only error is running out of memory.
+/// Assigns places to the inputs of rows. Its only error is running out of memory.
 pub(crate) fn place_inputs(alloc: Global, inputs: usize, rows: &[Row]) -> Result<Places, AllocError>
     requires { AllByRecursion (HasInputsBelow inputs) rows.now }
     ensures { IfOk result (λ places. ArePlaced inputs places rows.now) }

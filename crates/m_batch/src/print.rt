@@ -1,5 +1,5 @@
-//! Rows that several workers compute and print at once: each computes those of a part and prints them into a text of its own, and the
-//! texts are given in order by one call each.
+//! Computes and prints rows with several workers: each prints its part into its own text, and the
+//! texts are written in order, each with one call.
 ghost use Rattle.std.specs.Prelude.{◌≡◌, ◌+◌, ◌*◌, ◌^◌, ◌<◌, ◌≤◌, IfOk, IfSome, length};
 ghost use Rattle.std.specs.List.{AllByRecursion};
 ghost use Rattle.workers.specs.Parts.{AreOfParts};
@@ -18,18 +18,18 @@ use std::alloc::Global;
 use std::thread::Threads;
 use workers::{map_parts, part_at, part_size};
 
-// How many rows are computed before they are given, at most, and at least where there are so many.
+// The greatest number of rows in a window, and the least (the last window may be shorter).
 const WINDOW: usize = 8_192;
 
 const FEWEST: usize = 256;
 
-// How many values a window may be answered, where it has more rows than the fewest.
+// The greatest number of values in the answers of a window, unless it has the least number of rows.
 const VALUES: usize = 262_144;
 
-// How many bytes the texts have room for that are held at once.
+// The total capacity of the texts that are held at once, in bytes.
 const ROOM: usize = 33_554_432;
 
-// The gate of rows of which the first has a place.
+// The gate for a window whose first row has a given position.
 #[derive(Drop)]
 struct Later<'a, G> {
     gate: &'a G,
@@ -42,9 +42,11 @@ impl<'a, G: Gate> Gate for Later<'a, G> {
     }
 }
 
-/// Computes the rows of a table and prints them, in the order of the rows, for every gate and every number of threads. The worker of row k, from
-/// 0, first calls `gate.pass(k)`. There are as many workers as processors, and two at least where there are two rows. Answers how much the printer
-/// counts of the rows, as far as a `u64` counts. Where memory runs out or a write fails, a prefix of the text was appended.
+/// Computes the rows of a table and prints them in order; the text doesn't depend on the gate or
+/// the number of threads. The worker of row k, from 0, first calls `gate.pass(k)`. There are as
+/// many workers as processors, and at least two for two rows or more. Returns the sum of the
+/// printer's counts, saturated at the greatest `u64`. If memory runs out or a write fails, a prefix
+/// of the text was appended.
 pub fn print_batch<R: Threads + Sync, G: Gate + Sync, P: RowPrinter + Sync, K: Sink>(
     rt: &R,
     alloc: Global,
@@ -71,8 +73,8 @@ pub fn print_batch<R: Threads + Sync, G: Gate + Sync, P: RowPrinter + Sync, K: S
     Ok(count)
 }
 
-// How many rows are computed at once of code with so many outputs: some hundred at least, so that their lines take no more than some 10 MB or
-// the room of so many.
+// The number of rows in a window for code with this many outputs. It is limited so that the
+// window's lines take about 10 MB or the capacity of the texts, with some hundred rows at least.
 fn window_size(outputs: u32) -> usize
     ensures { 0 < result }
 {
@@ -82,7 +84,7 @@ fn window_size(outputs: u32) -> usize
     }
 }
 
-// Where a window of so many rows ends that begins at a place.
+// The end of the window that begins at a position.
 fn window_end(from: usize, count: usize, size: usize) -> usize
     requires begun { from < count }
     requires size { 0 < size }
@@ -96,7 +98,7 @@ fn window_end(from: usize, count: usize, size: usize) -> usize
     }
 }
 
-// Computes and prints rows of which the first has this place.
+// Computes and prints a window whose first row has this position.
 fn print_window<R: Threads + Sync, G: Gate + Sync, P: RowPrinter + Sync, K: Sink>(
     rt: &R,
     alloc: Global,
@@ -143,7 +145,7 @@ fn print_window<R: Threads + Sync, G: Gate + Sync, P: RowPrinter + Sync, K: Sink
     )
 }
 
-// Gives what was printed of each part, in order, where the first row has this place.
+// Writes the printed parts in order, where the first row has this position.
 fn give_parts<P: RowPrinter, K: Sink>(
     alloc: Global,
     code: &Code,
@@ -171,7 +173,7 @@ fn give_parts<P: RowPrinter, K: Sink>(
     Ok(count)
 }
 
-// Gives what was printed of a part: its text, or where there is none, it is printed to the output itself.
+// Writes a printed part. A part without a text is printed directly to the output.
 fn give_part<P: RowPrinter, K: Sink>(
     alloc: Global,
     code: &Code,

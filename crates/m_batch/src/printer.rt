@@ -1,4 +1,4 @@
-//! What is printed of a row that was computed.
+//! Printers of rows.
 ghost use Rattle.std.specs.Prelude.{◌≡◌, ℕ, List, IfOk};
 ghost use Rattle.m_ports.specs.Giving.{Gives};
 ghost use Rattle.household.specs.declared.table.Row.{Row};
@@ -8,19 +8,20 @@ use household::Row;
 use m_ports::{Failed, Sink};
 use observables::Answer;
 
-/// What is printed of a row that was computed, and what is counted of it: the answer's lines, say, or the lines of what one had expected,
-/// and how many they are. Several workers print by one printer at once.
+/// Prints a row and its answer, and counts something about them: for example, prints the answer's
+/// lines, or counts and prints expectations that aren't met. Several workers share one printer.
 pub trait RowPrinter {
-    /// The row at this place, from 0, may be printed with this answer.
+    /// The row at this position, from 0, may be printed with this answer.
     ghost may_print: { Self → ℕ → Row → Answer → Type 0 };
 
-    /// What is printed of it.
+    /// The text of a row.
     ghost text: { Self → ℕ → Row → Answer → List ℕ };
 
-    /// How much is counted of it.
+    /// The count of a row.
     ghost count: { Self → ℕ → Row → Answer → ℕ };
 
-    /// Prints a row with its answer, and answers how much is counted of it. On a failure a prefix of the text was appended.
+    /// Prints a row with its answer, and returns its count. On a failure a prefix of the text was
+    /// appended.
     fn print<K: Sink>(
         &self,
         place: usize,

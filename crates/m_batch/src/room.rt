@@ -1,4 +1,4 @@
-//! The columns that code is run in.
+//! The columns of a machine for blocks.
 ghost use Rattle.std.specs.Prelude.{◌≡◌, length, IfOk};
 ghost use Rattle.m_batch.specs.inner.Rooms.{AreWide, IsRoom};
 
@@ -7,11 +7,11 @@ use observables::Stop;
 use reg_machine::REGISTERS;
 use std::alloc::{AllocError, Global};
 
-/// How many rows a block has at most.
+/// The greatest number of rows in a block.
 pub const BLOCK: usize = 64;
 
-/// A column for each register, each slot that is used and each output, one more to compute in, and where each row stopped. A column
-/// has a place for each row of a block.
+/// A column for each register, each slot that is used and each output, one more for results, and
+/// the stop of each row. A column has one value for each row of a block.
 #[derive(Drop)]
 pub struct Room {
     pub registers: Vec<Vec<Value>>,
@@ -22,7 +22,7 @@ pub struct Room {
 }
 
 impl Room {
-    /// Room for so many slots and outputs. Its only error is running out of memory.
+    /// Columns for this many slots and outputs. Its only error is running out of memory.
     pub(crate) fn new(alloc: Global, slots: usize, outputs: usize) -> Result<Room, AllocError>
         ensures { IfOk result (IsRoom slots outputs) }
     {
@@ -41,7 +41,7 @@ impl Room {
     }
 }
 
-// So many columns.
+// This many columns.
 fn new_columns(alloc: Global, many: usize) -> Result<Vec<Vec<Value>>, AllocError>
     ensures many { IfOk result (λ columns. length columns.items ≡ many) }
     ensures wide { IfOk result (λ columns. AreWide columns.items) }

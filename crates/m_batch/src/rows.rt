@@ -1,4 +1,4 @@
-//! The amounts of rows, put at the places of their inputs.
+//! Writes the amounts of rows to the places of their inputs.
 ghost use Rattle.std.specs.Prelude.{◌≡◌, ◌<◌, ◌≤◌, ℕ, [], length, slice_index_or};
 ghost use Rattle.std.specs.List.{AllByRecursion};
 ghost use Rattle.household.specs.declared.table.Row.{Row};
@@ -10,7 +10,7 @@ use crate::places::Places;
 use household::{Household, Row};
 use m_fixed::Value;
 
-/// Puts the amounts of each row into the list of values that stands at its place. What stood in it is gone.
+/// Writes the amounts of each row over the list of values at its position.
 pub(crate) fn put_rows(rows: &[Row], places: &Places, block: &mut [Vec<Value>])
     requires many { length rows.now ≤ length block.old }
     requires placing { IsPlacing places.now }
@@ -26,7 +26,7 @@ pub(crate) fn put_rows(rows: &[Row], places: &Places, block: &mut [Vec<Value>])
     }
 }
 
-// Puts the amounts of a row.
+// Writes the amounts of one row.
 fn put_row(given: &Row, places: &Places, row: &mut [Value])
     requires placing { IsPlacing places.now }
     requires placed { RowHasPlaces places.now given.now }
@@ -38,7 +38,8 @@ fn put_row(given: &Row, places: &Places, row: &mut [Value])
     put_pairs(&given.household, places, row);
 }
 
-// Puts the amounts of a household where nothing stands yet. The first pair of an input decides.
+// Writes the amounts of a household into undefined values. For an input with several pairs the
+// first one is used.
 fn put_pairs(household: &Household, places: &Places, row: &mut [Value])
     requires placing { IsPlacing places.now }
     requires placed { HasPlaces places.now household.now.pairs }

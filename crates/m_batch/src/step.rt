@@ -1,4 +1,4 @@
-//! Instructions, one after another, each for all rows of a block.
+//! Executes instructions in order, each for all rows of a block.
 ghost use Rattle.std.specs.Prelude.{◌≡◌, ◌<◌, ◌≤◌, ℕ, length, slice_set};
 ghost use Rattle.std.specs.List.{AllByRecursion};
 ghost use Rattle.reg_machine.specs.inner.Cells.{at};
@@ -13,7 +13,8 @@ use crate::room::{BLOCK, Room};
 use m_fixed::Value;
 use reg_machine::Packed;
 
-/// Runs instructions over rows, from what the room holds. It may end before them, where each row has stopped. Takes no memory.
+/// Runs instructions on rows, from the state of the room. It may end early if each row has stopped.
+/// Takes no memory.
 pub(crate) fn run_rows(
     packed: &[Packed],
     pool: &[Value],
@@ -36,7 +37,8 @@ pub(crate) fn run_rows(
     }
 }
 
-/// Does an instruction for all rows. A row that has stopped goes on, and nothing of it is read again but its stop.
+/// Executes an instruction for all rows. A row that has stopped is computed on, but only its stop
+/// is read.
 fn step(packed: Packed, pool: &[Value], numbers: &[usize], rows: &[Vec<Value>], room: &mut Room)
     requires packed { IsPacked (length numbers.now) (length room.old.outputs.items) (length pool.now) (length room.old.slots.items) packed }
     requires width { length rows.now ≤ BLOCK }
@@ -84,7 +86,7 @@ fn step(packed: Packed, pool: &[Value], numbers: &[usize], rows: &[Vec<Value>], 
     }
 }
 
-// Puts what was computed in the place of a column, which is computed in next.
+// Swaps the result into a column; the old column receives the next result.
 fn place(columns: &mut [Vec<Value>], k: usize, scratch: &mut Vec<Value>)
     requires within { k < length columns.old }
     requires wide { AreWide columns.old }

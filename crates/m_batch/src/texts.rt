@@ -1,4 +1,4 @@
-//! The rows of one worker, printed.
+//! Prints the rows of one worker.
 ghost use Rattle.std.specs.Prelude.{◌≡◌, ◌+◌, ◌^◌, ◌<◌, ◌≤◌, IfOk, IfSome, length};
 ghost use Rattle.std.specs.List.{AllByRecursion};
 ghost use Rattle.m_ports.specs.Giving.{Gives};
@@ -15,14 +15,15 @@ use observables::Answer;
 use reg_machine::Code;
 use std::alloc::Global;
 
-/// What is printed of the rows of a part, and how much is counted of them.
+/// The text of a part and its count.
 #[derive(Drop)]
 pub(crate) struct PartText {
     pub text: FixedText,
     pub count: u64,
 }
 
-/// The text of rows of which the first has this place, or none where it has no room, or there is no memory.
+/// The text of rows, the first of which has this position; `None` if it doesn't fit or memory runs
+/// out.
 pub(crate) fn text_of<P: RowPrinter>(
     alloc: Global,
     room: usize,
@@ -45,8 +46,8 @@ pub(crate) fn text_of<P: RowPrinter>(
     }
 }
 
-/// Computes rows of which the first has this place, and prints them, a block after the other. Answers how much is counted of them, as far as a
-/// `u64` counts.
+/// Computes rows, the first of which has this position, and prints them block by block. Returns the
+/// sum of their counts, saturated at the greatest `u64`.
 pub(crate) fn print_part<P: RowPrinter, K: Sink>(
     alloc: Global,
     code: &Code,
@@ -73,7 +74,7 @@ pub(crate) fn print_part<P: RowPrinter, K: Sink>(
     Ok(count)
 }
 
-// Prints rows with their answers, where the first row has this place.
+// Prints rows with their answers, where the first row has this position.
 fn print_block<P: RowPrinter, K: Sink>(
     printer: &P,
     place: usize,

@@ -1,4 +1,4 @@
--- A table of cases reads to the cases that its records are.
+-- A table of cases is read as the cases of its records.
 use Rattle.std.proofs.Common.{◌≡◌, ◌≢◌, ℕ, ℤ, ◌≤◌, List, [], ◌∷◌, ◌++◌, drop, length, Result, Ok, Err, Bool, true, false, cond, eqb, leb, refl, sym, subst, ap}
 use Rattle.std.proofs.Common.{◌∙◌, append_assoc, arith, codes}
 use mathlib.Core.Bool.{◌&&◌}
@@ -91,7 +91,7 @@ column_whole inputs names before field column more stated d =
     ap (if_read (new_column before)) stated ∙ cond-false (list_any (is_same_column column) before) (Err (CodeTwice 1)) (Ok column)
     (apart_from before more column d)
 
--- ---- what is expected
+-- ---- expectations
 
 amount_any : (line other : ℕ) (r : Result ℤ AmountFault) (expected : Expected) → amount_expected line r ≡ Ok expected → amount_expected other r ≡ Ok expected
 amount_any line other (Ok z) expected h = h
@@ -101,7 +101,7 @@ choice : {T E : Type 0} (b : Bool) (value : T) (r s : Result T E) (t : T) → (r
 choice true value r s t more h = h
 choice false value r s t more h = more h
 
--- the number of the record makes no difference
+-- the number of the record is irrelevant
 expects : (line : ℕ) (cell : List ℕ) (expected : Expected) → parsed_expectation line cell ≡ Ok expected → Expects cell expected
 expects line cell expected h other =
     choice (bytes_eq cell (codes "undefined")) (Is Undef) _ _ expected
@@ -211,7 +211,7 @@ case_whole inputs line columns fields case is =
 
 -- ---- all cases
 
--- a case that says what it says by itself says it in its turn
+-- a case that is valid alone is read as itself in order
 case_in_turn : (inputs : List Coded) (columns : List Column) (before : List Case) (fields : List (List ℕ)) (case : Case) (more : List Case)
     → IsCase inputs columns fields case → length (before ++ case ∷ more) ≤ ROWS
     → case_of inputs columns before fields ≡ Ok case
@@ -219,7 +219,7 @@ case_in_turn inputs columns before fields case more is few =
     cond-false (leb ROWS (length before)) (Err TooManyRows) (parsed_case inputs (line_behind (length before)) columns fields) (fewer ROWS before more case few)
     ∙ case_whole inputs (line_behind (length before)) columns fields case is
 
--- what a case says in its turn, it says where there is room for one more
+-- a case that is read in order is valid alone, and within the limit
 case_parts : (inputs : List Coded) (columns : List Column) (before : List Case) (fields : List (List ℕ)) (case : Case)
     → case_of inputs columns before fields ≡ Ok case
     → (leb ROWS (length before) ≡ false) × (parsed_case inputs (line_behind (length before)) columns fields ≡ Ok case)

@@ -1,4 +1,4 @@
--- What each case of a table has: known inputs, amounts of their types, and expectations of known outputs.
+-- Each case of a table has known inputs, amounts of their types, and expectations of known outputs.
 use Rattle.std.proofs.Common.{◌≡◌, ◌≢◌, ℕ, ℤ, suc, ◌+◌, ◌<◌, ◌≤◌, ◌^◌, Bool, true, false, cond, eqb, leb, arith, List, [], ◌∷◌, ◌++◌, length, length-append}
 use Rattle.std.proofs.Common.{Option, Some, None, Result, Ok, Err, refl, sym, ◌∙◌, subst, append_assoc}
 use mathlib.Core.Bool.{◌&&◌}
@@ -31,7 +31,7 @@ use Rattle.m_cases.specs.inner.Outputs.{IsBelow, column_outputs}
 use Rattle.m_cases.proofs.Few.{few}
 use Rattle.m_cases.proofs.SeenLemmas.{any_input, any_output, inputs-push, inputs-skip, outputs-push, outputs-skip}
 
--- numbers below n, none of which stands twice
+-- distinct numbers below n
 record AreKnown (n : ℕ) (numbers : List ℕ) : Type 0 where
   known : AllByRecursion (λ number. number < n) numbers
   once : AreDifferent numbers
@@ -45,7 +45,7 @@ known-push n numbers number k l e = record {
 
 -- ---- columns
 
--- the inputs and the outputs of columns are known, and none stands twice
+-- the inputs and outputs of columns are known, and none occurs twice
 record AreColumns (inputs outputs : ℕ) (columns : List Column) : Type 0 where
   amounts : AreKnown inputs (column_inputs columns)
   expected : AreKnown outputs (column_outputs columns)
@@ -96,7 +96,7 @@ columns_known inputs names fields columns h =
 
 -- ---- pairs
 
--- without one in the midst, and without the last ones
+-- a property of all elements, after removal of one and of the last ones
 All-without : {X : Type 0} (P : X → Type 0) (xs ys : List X) (x : X) → AllByRecursion P (xs ++ x ∷ ys) → AllByRecursion P (xs ++ ys)
 All-without P [] ys x h = h.1
 All-without P (y ∷ xs) ys x h = (h.0, All-without P xs ys x h.1)
@@ -126,7 +126,7 @@ stated_amount line input stated pair h = by (amount_read stated) refl h
 abbrev AreAmounts : List (ℕ × ℤ) → Type 0
 AreAmounts pairs = AllByRecursion (λ pair. IsAmount pair.1) pairs
 
--- the pairs so far and the columns that are left are of known inputs, and the pairs are amounts
+-- the pairs so far and the remaining columns are of known inputs, and the pairs have amounts
 record AreGood (n : ℕ) (before : List (ℕ × ℤ)) (columns : List ℕ) : Type 0 where
   inputs : AreKnown n (inputs_of before ++ columns)
   amounts : AreAmounts before
@@ -200,7 +200,7 @@ cells_expected n line before (Output output ∷ columns) (cell ∷ cells) all b 
 
 -- ---- cases
 
--- what is known of a case
+-- the properties of a case
 pub record IsGoodCase (inputs : List Coded) (names : ℕ) (case : Case) : Type 0 where
   pub known : AreInputs (length inputs) case.row.household.pairs
   pub types : AreOfTypes inputs case.row.household.pairs
@@ -231,7 +231,7 @@ case_good inputs names line columns (label ∷ cells) case small c h =
       expected = record { known = named.0; few = let m = named.1 in omega (arith, m, many, small) };
     })
 
--- all cases are good
+-- all cases have them
 pub cases_good : (inputs : List Coded) (names : List (List ℕ)) (fields : List (List ℕ)) (columns : List Column) (records : List (List (List ℕ)))
     (cases : List Case) → length names < 2 ^ 32
     → in_turn (column_of inputs names) [] fields ≡ Ok columns → in_turn (case_of inputs columns) [] records ≡ Ok cases
@@ -262,7 +262,7 @@ each_expected inputs names (case ∷ cases) h = (h.0.expected, each_expected inp
 pub as_many : (cases : List Case) → length (cases_made cases).expected ≡ length (cases_made cases).rows
 as_many cases = length-map cases (λ (c : Case). c.expected) ∙ sym (length-map cases (λ (c : Case). c.row))
 
--- they are not too many
+-- the number of cases is within the limit
 few_cases : (inputs : List Coded) (columns : List Column) (records : List (List (List ℕ))) (cases : List Case)
     → in_turn (case_of inputs columns) [] records ≡ Ok cases → length cases ≤ ROWS
 few_cases inputs columns records cases h =

@@ -1,4 +1,4 @@
--- The cells of a record, from one of them on.
+-- The cells of a record, from a position on.
 use Rattle.std.proofs.Common.{◌≡◌, ℕ, ℤ, ◌+◌, ◌<◌, ◌≤◌, Bool, true, false, cond, eqb, arith, get_or, drop, List, [], ◌∷◌, ◌++◌, length, Result, Ok, Err, refl}
 use Rattle.std.proofs.Common.{sym, ap, ◌∙◌}
 use Rattle.std.proofs.lemmas.List.{drop_more, drop_all}
@@ -14,11 +14,11 @@ use Rattle.m_cases.specs.Cases.{case_fault, expected_read, parsed_expectation, o
 use Rattle.m_cases.specs.Columns.{column_inputs, input_cells}
 use Rattle.m_cases.specs.inner.Cells.{amounts_behind, expected_behind}
 
--- what is read from a place on
+-- the result of reading from a position on
 abbrev amounts_from : ℕ → List (ℕ × ℤ) → List Column → List (List ℕ) → Result (List (ℕ × ℤ)) HouseholdFault
 amounts_from line before columns cells = cells_read line before (column_inputs columns) (input_cells columns cells)
 
--- a choice between nothing more and one thing more, and what is read after it
+-- a conditional between nothing more and one more value, then the rest
 one_more : {A B F : Type 0} (b : Bool) (next : List A → Result B F) (before : List A) (r : Result A F)
     → cond b (next before) (if_read (λ x. next (before ++ x ∷ [])) r) ≡ if_read next (cond b (Ok before) (if_read (λ x. Ok (before ++ x ∷ [])) r))
 one_more true next before r = refl
@@ -31,7 +31,7 @@ amounts_step line before (Input input) cell columns cells =
     one_more (eqb (length cell) 0) (λ b. amounts_from line b columns cells) before (parsed_amount line input (amount_read (text_value cell)))
 amounts_step line before (Output output) cell columns cells = refl
 
--- a choice as before, where what is added is made of what is read
+-- the same, where the added value is made from the one that is read
 one_made : {A B C F : Type 0} (b : Bool) (made : A → C) (next : List C → Result B F) (before : List C) (r : Result A F)
     → cond b (next before) (if_read (λ x. next (before ++ made x ∷ [])) r) ≡ if_read next (cond b (Ok before) (if_read (λ x. Ok (before ++ made x ∷ [])) r))
 one_made true made next before r = refl
@@ -44,7 +44,7 @@ expected_step line before (Input input) cell columns cells = refl
 expected_step line before (Output output) cell columns cells =
     one_made (eqb (length cell) 0) (λ e. (output, e)) (λ b. expected_read line b columns cells) before (parsed_expectation line cell)
 
--- the columns and the cells from a place on
+-- the columns and the cells from a position on
 at_place : {B : Type 0} (read : List Column → List (List ℕ) → B) (columns : List Column) (fields : List (List ℕ)) (k : ℕ) (column d : Column) (cell : List ℕ)
     → length fields ≡ length columns + 1 → k < length columns
     → column ≡ get_or columns k d → cell ≡ get_or fields (k + 1) [] → read (drop k columns) (drop (k + 1) fields) ≡ read (column ∷ drop (k + 1) columns)
@@ -54,7 +54,7 @@ at_place read columns fields k column d cell l h c e =
     ∙ ap (λ (fs : List (List ℕ)). read (column ∷ drop (k + 1) columns) fs) (drop_more fields (k + 1) [] (omega (arith, l, h))
     ∙ ap (λ (x : List ℕ). x ∷ drop (k + 1 + 1) fields) (sym e))
 
--- a cell more
+-- one more cell
 pub amounts_next : (line : ℕ) (before after : List (ℕ × ℤ)) (columns : List Column) (fields : List (List ℕ)) (k : ℕ) (column d : Column) (cell : List ℕ)
     → length fields ≡ length columns + 1 → k < length columns
     → column ≡ get_or columns k d → cell ≡ get_or fields (k + 1) [] → amounts_behind line before column cell ≡ Ok after
@@ -100,7 +100,7 @@ expected_stop line before columns fields k column d cell fault all l h c e bad s
     ∙ expected_step line before column cell (drop (k + 1) columns) (drop (k + 1 + 1) fields)
     ∙ ap (if_read (λ b. expected_read line b (drop (k + 1) columns) (drop (k + 1 + 1) fields))) bad
 
--- no cell is left
+-- no more cells
 pub amounts_end : (line : ℕ) (before : List (ℕ × ℤ)) (columns : List Column) (cells : List (List ℕ)) (k : ℕ) → length columns ≤ k
     → cells_read line before (column_inputs (drop k columns)) (input_cells (drop k columns) cells) ≡ Ok before
 amounts_end line before columns cells k h = ap (λ cs. amounts_from line before cs cells) (drop_all k columns h)

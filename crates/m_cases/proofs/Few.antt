@@ -1,4 +1,4 @@
--- Different numbers below a count are no more than that count.
+-- Distinct numbers below a count are at most as many as the count.
 use Rattle.std.proofs.Common.{◌≡◌, ◌≢◌, ℕ, zero, suc, ◌+◌, ◌<◌, ◌≤◌, Bool, true, false, eqb, arith, List, [], ◌∷◌, length, refl, ap, ◌∙◌, subst}
 use mathlib.Core.Bool.{◌||◌}
 use Rattle.std.specs.List.{AllByRecursion}
@@ -10,7 +10,7 @@ abbrev one : Bool → ℕ
 one true = 1
 one false = 0
 
--- how many numbers below a count stand among these
+-- how many numbers below a count are in this list
 abbrev among_below : ℕ → List ℕ → ℕ
 among_below zero xs = 0
 among_below (suc n) xs = among_below n xs + one (is_input_among n xs)
@@ -27,7 +27,7 @@ none_below : (n : ℕ) → among_below n [] ≡ 0
 none_below zero = refl
 none_below (suc n) = let more = none_below n in omega (arith, more)
 
--- a number above the count changes nothing
+-- a number that isn't below the count is irrelevant
 above : (n x : ℕ) (xs : List ℕ) → n ≤ x → among_below n (x ∷ xs) ≡ among_below n xs
 above zero x xs h = refl
 above (suc n) x xs h =
@@ -54,7 +54,7 @@ new_below (suc n) x xs h e = cases (eqb x n)
     by : (x n : ℕ) → x < suc n → (x ≡ n → ⊥) → x < n
     by x n l g = omega (arith, l, g)
 
--- a number that differs from all isn't among them
+-- a number different from all others is not among them
 not_among : (x : ℕ) (xs : List ℕ) → AllByRecursion (λ other. other ≢ x) xs → is_input_among x xs ≡ false
 not_among x [] h = refl
 not_among x (y ∷ xs) h = ap (λ b. b || is_input_among x xs) (ne_eqb y x h.0) ∙ not_among x xs h.1

@@ -1,4 +1,4 @@
--- Names that are found by those that stand first.
+-- The index of names by their first occurrences.
 use Rattle.std.proofs.Common.{◌≡◌, ℕ, zero, suc, ◌+◌, ◌<◌, Bool, true, false, not, cond, arith, add-one, get_or, take, List, [], ◌∷◌, ◌++◌, length, Option}
 use Rattle.std.proofs.Common.{Some, None, refl, sym, ap, ◌∙◌, subst}
 use Rattle.std.specs.Option.{option_map}
@@ -12,7 +12,7 @@ use Rattle.observables.specs.declared.face.FaceOutput.TheVariants.{Named, Noted}
 use Rattle.observables.specs.Outputs.{names_of}
 use Rattle.m_cases.specs.inner.Outputs.{Finds}
 
--- a place, or else the next one
+-- a position, or else the next one
 abbrev or_at : Option ℕ → Bool → ℕ → Option ℕ
 or_at (Some i) b n = Some i
 or_at None b n = cond b (Some n) None
@@ -39,7 +39,7 @@ at_front [] place i l = absurd (omega (arith, l))
 at_front (p ∷ places) place zero l = refl
 at_front (p ∷ places) place (suc i) l = at_front places place i (omega (arith, l))
 
--- one more name, at the next place
+-- one more name, at the next position
 pub finds_next : (names known : List (List ℕ)) (places : List ℕ) (name : List ℕ) (place : ℕ) → length names ≡ place → Finds names known places
     → Finds (names ++ name ∷ []) (known ++ name ∷ []) (places ++ place ∷ [])
 finds_next names known places name place l f = record {
@@ -56,7 +56,7 @@ finds_next names known places name place l f = record {
     by x None true h = ap Some (l ∙ sym (at_end places place (length known) f.many))
     by x None false h = refl
 
--- a name that is known already
+-- a name that the index has already
 pub finds_again : (names known : List (List ℕ)) (places : List ℕ) (name : List ℕ) → has name known ≡ true → Finds names known places
     → Finds (names ++ name ∷ []) known places
 finds_again names known places name there f = record {
@@ -94,13 +94,13 @@ put_new names known new places added name place fresh n more a l is =
     subst (λ (ks : List (List ℕ)). Finds (names ++ name ∷ []) ks added) (sym longer)
     (subst (λ (ps : List ℕ). Finds (names ++ name ∷ []) (known ++ name ∷ []) ps) (sym a) (finds_next names known places name place l is))
 
--- no name is known
+-- the empty index
 pub finds_none : (names known : List (List ℕ)) (places : List ℕ) → names ≡ [] → known ≡ [] → places ≡ [] → Finds names known places
 finds_none names known places n k p =
     subst (λ (ns : List (List ℕ)). Finds ns known places) (sym n)
     (subst (λ (ks : List (List ℕ)). Finds [] ks places) (sym k) (subst (λ (ps : List ℕ). Finds [] [] ps) (sym p) (record { many = refl; each = λ x. refl })))
 
--- ---- the names of outputs, from one output to the next
+-- ---- the names of outputs, in order
 
 names_push : (outputs : List FaceOutput) (output : FaceOutput) → names_of (outputs ++ output ∷ []) ≡ names_of outputs ++ names_of (output ∷ [])
 names_push [] output = refl

@@ -50,7 +50,7 @@ small_each : (notes n : ℕ) (es : List (ℕ × Expected)) → notes + n < 2 ^ 3
 small_each notes n [] few h = tt
 small_each notes n (e ∷ es) few h = let l = h.0 in (omega (arith, few, l), small_each notes n es few h.1)
 
--- the numbers of the face are of 32 bits
+-- the numbers of the face fit 32 bits
 abbrev pub AreSmall : ℕ → List Case → Type 0
 AreSmall notes cases = AllByRecursion (λ (c : Case). AllByRecursion (λ e. notes + e.0 < 2 ^ 32) c.expected) cases
 
@@ -62,7 +62,7 @@ pub as_many_numbered : (notes : ℕ) (cases : List Case) → length (cases_made 
     → length (numbered_cases notes (cases_made cases)).expected ≡ length (numbered_cases notes (cases_made cases)).rows
 as_many_numbered notes cases h = length-map (cases_made cases).expected (numbered notes) ∙ h
 
--- one more at the end
+-- one more element at the end
 pub map_last : {X Y : Type 0} (f : X → Y) (xs : List X) (x : X) → map f (xs ++ x ∷ []) ≡ map f xs ++ f x ∷ []
 map_last f [] x = refl
 map_last f (y ∷ xs) x = ap (λ l. f y ∷ l) (map_last f xs x)
@@ -74,7 +74,7 @@ assoc : (xs ys zs : List (ℕ × Expected)) → (xs ++ ys) ++ zs ≡ xs ++ (ys +
 assoc [] ys zs = refl
 assoc (x ∷ xs) ys zs = ap (λ l. x ∷ l) (assoc xs ys zs)
 
--- what stands at the next place
+-- the element at the next position
 pub next_is : (notes : ℕ) (es all : List (ℕ × Expected)) (i : ℕ) (d : ℕ × Expected) → all ≡ numbered notes (take i es) ++ drop i es → i < length es
     → get_or all i d ≡ get_or es i d
 next_is notes es all i d is h =
@@ -104,9 +104,9 @@ all_numbered notes es all i is h =
     append-nil [] = refl
     append-nil (x ∷ xs) = ap (λ l. x ∷ l) (append-nil xs)
 
--- ---- what is read
+-- ---- reading
 
--- what bytes say by the numbers of the face is what they say by the places among the names
+-- reading with the numbers of the face is reading by positions among the names, then renumbering
 pub face_read : (notes : ℕ) (stated : Result Cases CasesFault) (cases : Cases) → if_read (λ c. Ok (numbered_cases notes c)) stated ≡ Ok cases
     → (c : Cases) × (stated ≡ Ok c) × (numbered_cases notes c ≡ cases)
 face_read notes (Ok c) cases h = (c, refl, cc h)
@@ -124,7 +124,7 @@ names_all [] h = refl
 names_all (Named name ∷ outputs) h = ap (λ l. name ∷ l) (names_all outputs h)
 names_all (Noted number ∷ outputs) h = absurd (false≢true h)
 
--- the names stand after the notes
+-- the names come after the notes
 names_behind : (labels : List FaceLabel) (outputs : List FaceOutput) → notes_stand_first labels outputs ≡ true
     → drop (length (notes_of outputs)) (output_names outputs) ≡ names_of outputs
 names_behind labels [] h = refl
@@ -150,7 +150,7 @@ one_numbered labels outputs label vs e h =
     ∙ ap (λ name. cond (is_met e.1 (got_of (named_values (length (notes_of outputs)) vs) e.0)) []
     (mismatch_line label name e.1 (got_of (named_values (length (notes_of outputs)) vs) e.0))) (name_behind labels outputs e.0 h)
 
--- the lines by the numbers of the face are those by the places among the names
+-- the lines are the same with the numbers of the face and with positions among the names
 pub lines_numbered : (labels : List FaceLabel) (outputs : List FaceOutput) (label : List ℕ) (vs : Option (List Value)) (es : List (ℕ × Expected))
     → notes_stand_first labels outputs ≡ true
     → mismatch_lines (output_names outputs) label vs (numbered (length (notes_of outputs)) es) ≡ mismatch_lines (names_of outputs) label
@@ -158,7 +158,7 @@ pub lines_numbered : (labels : List FaceLabel) (outputs : List FaceOutput) (labe
 lines_numbered labels outputs label vs [] h = refl
 lines_numbered labels outputs label vs (e ∷ es) h = λ i. one_numbered labels outputs label vs e h i ++ lines_numbered labels outputs label vs es h i
 
--- and so is their count
+-- the same for their count
 pub count_numbered : (notes : ℕ) (vs : Option (List Value)) (es : List (ℕ × Expected))
     → mismatch_count vs (numbered notes es) ≡ mismatch_count (named_values notes vs) es
 count_numbered notes vs [] = refl

@@ -1,4 +1,4 @@
--- What a record says, part by part.
+-- The parts of a record.
 use Rattle.std.proofs.Common.{◌≡◌, ℕ, ℤ, ◌+◌, true, cond, eqb, arith, get_or, drop, List, [], ◌∷◌, length, Result, Ok, Err, ap, ◌∙◌}
 use Rattle.std.proofs.lemmas.Bool.{eq-eqb}
 use Rattle.m_names.proofs.NameLemmas.{and-both}
@@ -13,7 +13,7 @@ use Rattle.m_cases.specs.declared.fault.CasesFault.TheVariants.{BadRow}
 use Rattle.m_cases.specs.Cases.{parsed_case, case_with, expected_read, of_household}
 use Rattle.m_cases.specs.Columns.{column_inputs, input_cells}
 
--- what a record with a label and a cell for each column says
+-- the case of a record with a label and a cell for each column
 abbrev parsed_parts : List Coded → ℕ → List Column → List ℕ → List (List ℕ) → Result Case CasesFault
 parsed_parts inputs line columns label cells =
     if_read (λ pairs. if_read (λ expected. Ok (case_with label pairs expected)) (expected_read line [] columns cells))

@@ -1,4 +1,4 @@
--- Which columns were seen.
+-- Marks of columns.
 use Rattle.std.proofs.Common.{◌≡◌, ℕ, ◌≤◌, arith, Bool, eqb, List, [], ◌∷◌, ◌++◌, refl, sym, ap, ◌∙◌, subst}
 use mathlib.Core.Bool.{◌||◌}
 use Rattle.std.proofs.lemmas.List.{append-nil}
@@ -37,12 +37,12 @@ inputs-skip columns a = sym (append-nil (column_inputs columns)) ∙ inputs-push
 pub outputs-skip : (columns : List Column) (a : ℕ) → column_outputs columns ≡ column_outputs (columns ++ Input a ∷ [])
 outputs-skip columns a = sym (append-nil (column_outputs columns)) ∙ outputs-push columns (Input a)
 
--- what is below some is below more
+-- numbers below a count are below a greater one
 pub below_more : (inputs outputs m n : ℕ) (column : Column) → IsBelow inputs outputs column → inputs ≤ m → outputs ≤ n → IsBelow m n column
 below_more inputs outputs m n (Input a) b h k = omega (arith, b, h)
 below_more inputs outputs m n (Output a) b h k = omega (arith, b, k)
 
--- one more column is seen
+-- one more column is marked
 pub sees_input : (seen new : Seen) (columns : List Column) (column : Column) (a : ℕ) → column ≡ Input a
     → Marks new.inputs.items (column_inputs columns ++ a ∷ []) → new.outputs.items ≡ seen.outputs.items → AreSeen seen columns
     → AreSeen new (columns ++ column ∷ [])

@@ -1,4 +1,4 @@
--- The lines of expectations that aren't met, and their count, from one of them on.
+-- The lines of the expectations that aren't met, and their count, from a position on.
 use Rattle.std.proofs.Common.{◌≡◌, ℕ, zero, suc, ◌+◌, ◌<◌, ◌≤◌, Bool, true, false, cond, arith, get_or, drop, List, [], ◌∷◌, ◌++◌, length, Option, sym, ap, ◌∙◌}
 use Rattle.std.proofs.Common.{subst}
 use Rattle.std.proofs.lemmas.List.{drop_more, drop_all}
@@ -43,7 +43,7 @@ count_unmet vs expected k e met h is m f =
 pub count_end : (vs : Option (List Value)) (expected : List (ℕ × Expected)) (k : ℕ) → length expected ≤ k → mismatch_count vs (drop k expected) ≡ 0
 count_end vs expected k h = ap (mismatch_count vs) (drop_all k expected h)
 
--- the expectation at a place is of a known output
+-- the expectation at a position is of a known output
 pub known_at : (names : ℕ) (expected : List (ℕ × Expected)) (k : ℕ) (e : ℕ × Expected) → AllByRecursion (λ x. x.0 < names) expected → k < length expected
     → e ≡ get_or expected k e → e.0 < names
 known_at names [] k e all h is = absurd (omega (arith, h))

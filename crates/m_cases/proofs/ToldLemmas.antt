@@ -1,4 +1,4 @@
--- The values that an answer gives are those that are told.
+-- The values of an answer are those of its observation.
 use Rattle.std.proofs.Common.{◌≡◌, ℕ, List, length, Option, Some, None, ap}
 use Rattle.std.specs.Option.{option_map}
 use Rattle.std.specs.Prelude.{slice_get}

@@ -1,4 +1,4 @@
--- What a table of cases without a fault is, said of its records and its cases.
+-- A valid table of cases, by its records and its cases.
 use Rattle.std.specs.Prelude.{◌≡◌, ◌≢◌, ℕ, ◌≤◌, true, List, [], ◌∷◌, drop, length, Ok}
 use Rattle.std.specs.List.{AllByRecursion, AllZip}
 use Rattle.m_places.specs.declared.limits.TheConstants.{ROWS}
@@ -13,12 +13,12 @@ use Rattle.m_cases.specs.declared.expected.Expected.{Expected}
 use Rattle.m_cases.specs.Cases.{parsed_expectation}
 use Rattle.m_cases.specs.Columns.{column_inputs, parsed_field, input_cells}
 
--- a cell expects this, whatever the number of its record
+-- the expectation of a cell, whatever the number of its record
 abbrev pub Expects : List ℕ → Expected → Type 0
 Expects cell expected = (line : ℕ) → parsed_expectation line cell ≡ Ok expected
 
--- What cells expect below these columns, of which there are as many: an empty one nothing, nor one below an input, and each other one thing
--- of its column's output, in order.
+-- The expectations of cells in as many columns: none for an empty cell or in the column of an
+-- input, and for each other cell one of its column's output, in order.
 abbrev pub AreExpectations : List Column → List (List ℕ) → List (ℕ × Expected) → Type 0
 AreExpectations [] [] [] = Unit {0}
 AreExpectations (Input input ∷ columns) (cell ∷ cells) expected = AreExpectations columns cells expected
@@ -27,12 +27,12 @@ AreExpectations (Output output ∷ columns) ((byte ∷ bytes) ∷ cells) (one �
     × AreExpectations columns cells expected
 AreExpectations _ _ _ = ⊥
 
--- no column stands twice
+-- the columns are distinct
 abbrev pub AreApart : List Column → Type 0
 AreApart [] = Unit {0}
 AreApart (column ∷ columns) = AllByRecursion (λ other. other ≢ column) columns × AreApart columns
 
--- A row of a table of cases by itself, below these columns: a label, and a cell for each column.
+-- A case alone, in these columns: a label, and a cell for each column.
 pub record IsCase (inputs : List Coded) (columns : List Column) (fields : List (List ℕ)) (case : Case) : Type 0 where
   pub cells : List (List ℕ)
   pub split : fields ≡ case.row.label ∷ cells
@@ -42,8 +42,9 @@ pub record IsCase (inputs : List Coded) (columns : List Column) (fields : List (
   pub fits : are_fitting inputs case.row.household.pairs ≡ true
   pub expects : AreExpectations columns cells case.expected
 
--- The bytes are a table with these cases: the records are one that begins with `name` and has the code of an input, or `=` and the name of
--- an output, for each column, none twice, and then one for each case, in order; and the cases are not too many.
+-- The bytes are a table with these cases: the header is `name` and, for each column, a distinct
+-- code of an input or `=` and a name of an output; one record for each case follows, in order; and
+-- the number of cases is within the limit.
 pub record IsCaseTable (inputs : List Coded) (names : List (List ℕ)) (bytes : List ℕ) (cases : List Case) : Type 0 where
   pub first : List (List ℕ)
   pub others : List (List (List ℕ))

@@ -1,4 +1,4 @@
--- What the columns of a table of cases are for.
+-- The columns of a table of cases.
 use Rattle.std.specs.Prelude.{ℕ, ◌==◌, Bool, false, List, [], ◌∷◌, Option, Some, None, Result, Ok, Err, if◌then◌else◌}
 use Rattle.std.specs.List.{list_any}
 use Rattle.m_names.specs.Names.{index_of}
@@ -15,41 +15,42 @@ abbrev pub input_declared : Option ℕ → Result Column CasesFault
 input_declared None = Err (UnknownCode 1)
 input_declared (Some input) = Ok (Input input)
 
--- a column of what is expected of an output
+-- a column of expectations of an output
 abbrev pub parsed_output : Option ℕ → Result Column CasesFault
 parsed_output None = Err (UnknownOutput 1)
 parsed_output (Some output) = Ok (Output output)
 
--- What a field of the first record says by itself: after an equals sign, which is the byte 61, the name of an output, of which the first
--- that has the name is meant; and else the code of an input. `names` are the names of the outputs that have one, and the number of an
--- output is its place among them: where the requests are `REV` and `IRN`, the field `=IRN` says the output 1.
+-- The column of a field of the header alone: after an equals sign (byte 61), the first output with
+-- this name; otherwise the input with this code. `names` are the names of the outputs that have
+-- one, and an output is numbered by its position among them: if the requests are `REV` and `IRN`,
+-- the field `=IRN` is output 1.
 abbrev pub parsed_field : List Coded → List (List ℕ) → List ℕ → Result Column CasesFault
 parsed_field inputs names [] = input_declared (index_of [] (codes_of inputs))
 parsed_field inputs names (byte ∷ bytes) =
     if byte == 61 then parsed_output (index_of bytes names) else input_declared (index_of (byte ∷ bytes) (codes_of inputs))
 
--- whether two columns are for one thing
+-- whether two columns are of the same input or output
 abbrev pub is_same_column : Column → Column → Bool
 is_same_column (Input a) (Input b) = b == a
 is_same_column (Output a) (Output b) = b == a
 is_same_column (Input a) (Output b) = false
 is_same_column (Output a) (Input b) = false
 
--- a column, which may not be for the same thing as one before it
+-- a column, which must differ from earlier ones
 abbrev pub new_column : List Column → Column → Result Column CasesFault
 new_column before column = if list_any (is_same_column column) before then Err (CodeTwice 1) else Ok column
 
--- What a field of the first record says after those of these columns.
+-- The column of a field of the header, after these columns.
 abbrev pub column_of : List Coded → List (List ℕ) → List Column → List ℕ → Result Column CasesFault
 column_of inputs names before field = if_read (new_column before) (parsed_field inputs names field)
 
--- the inputs of the columns of amounts, in order
+-- the inputs of columns of amounts, in order
 abbrev pub column_inputs : List Column → List ℕ
 column_inputs [] = []
 column_inputs (Input input ∷ columns) = input ∷ column_inputs columns
 column_inputs (Output output ∷ columns) = column_inputs columns
 
--- the cells below the columns of amounts, in order
+-- the cells in columns of amounts, in order
 abbrev pub input_cells : List Column → List (List ℕ) → List (List ℕ)
 input_cells [] cells = []
 input_cells (column ∷ columns) [] = []

@@ -1,3 +1,3 @@
--- What inner functions' contracts speak of. No reader of the public contract needs it.
+-- Definitions for the contracts of inner functions. Public contracts use none of them.
 pub mod Outputs
 pub mod Cells

@@ -1,4 +1,4 @@
-//! The cases of a table: rows, and what is expected of each.
+//! Reads tables of cases: rows with expectations.
 ghost use Rattle.std.specs.Prelude.{◌≡◌, ◌<◌, ◌≤◌, ◌+◌, ◌^◌, ◌++◌, ◌∷◌, [], drop, length, IfOk, OnOk, Ok, Err};
 ghost use Rattle.std.specs.List.{AllByRecursion};
 ghost use Rattle.csv.specs.Records.{fields_of};
@@ -27,23 +27,24 @@ use m_places::{Name, Seq};
 use observables::{Face, FaceOutput};
 use std::alloc::{AllocError, Global};
 
-/// The cases of a table: its rows in order, and at the same place what is expected of each, in the order of the fields. The number
-/// of an output is that of the face, from 0, notes before names.
+/// A table of cases: its rows in order, and for each row its expectations in the order of the
+/// fields. Outputs are numbered as in the face, from 0, notes before names.
 #[derive(Drop)]
 pub struct Cases {
     pub rows: Seq<Row>,
     pub expected: Seq<Seq<(u32, Expected)>>,
 }
 
-/// A row, and what is expected of it. The number of an output is its place among the outputs with names, from 0.
+/// A row and its expectations. Here outputs are numbered among those with names, from 0.
 #[derive(Drop)]
 pub struct Case {
     pub row: Row,
     pub expected: Seq<(u32, Expected)>,
 }
 
-/// Reads a table of cases: records set apart by commas, of which the first is `name` and then codes of inputs and names of outputs
-/// after `=`, and each other a label and for each column an amount, what is expected, or nothing, as `dupont,2500.5,1500.5`.
+/// Parses a table of cases: comma-separated records, the first of which is `name`, then codes of
+/// inputs and, after `=`, names of outputs; each other is a label and for each column an amount, an
+/// expectation, or nothing, as `dupont,2500.5,1500.5`.
 pub fn read_cases(
     alloc: Global,
     bytes: &[u8],
@@ -74,7 +75,7 @@ pub fn read_cases(
     Ok(apart(alloc, cases, notes)?)
 }
 
-// How many notes stand before the names.
+// The number of notes, which come before the names.
 fn count_notes(outputs: &[FaceOutput]) -> u32
     requires { length outputs.now < 2 ^ 32 }
     ensures { result ≡ length (notes_of outputs.now) }
@@ -88,14 +89,14 @@ fn count_notes(outputs: &[FaceOutput]) -> u32
     count
 }
 
-// Whether a record is the first of a table.
+// Whether a record is the header of a table.
 fn is_header(row: &ByteRecord) -> bool
     ensures { result ≡ is_table_header (fields_of row.now) }
 {
     field_at(row, 0) == b"name".as_slice()
 }
 
-// The columns of a table of cases, by its first record.
+// The columns of a table of cases, from its header.
 fn columns_of(
     alloc: Global,
     row: &ByteRecord,
@@ -111,7 +112,7 @@ fn columns_of(
     read_columns(alloc, row, codes, &outputs)
 }
 
-// The cases that are left.
+// The remaining cases.
 fn read_rows(
     alloc: Global,
     records: &mut Records<'_>,
@@ -131,7 +132,7 @@ fn read_rows(
     Ok(cases)
 }
 
-// The case that the record with this number says.
+// Parses the record with this number.
 fn read_case(
     alloc: Global,
     row: &ByteRecord,
@@ -158,7 +159,7 @@ fn read_case(
     })
 }
 
-// The pairs of the cells below inputs, each of its input's type.
+// The pairs of the cells in columns of inputs, each amount of its input's type.
 fn read_pairs(
     alloc: Global,
     row: &ByteRecord,
@@ -178,7 +179,7 @@ fn read_pairs(
     Ok(Seq::from_vec(pairs))
 }
 
-// The pairs of the cells below inputs.
+// The pairs of the cells in columns of inputs, of any types.
 fn read_amounts(
     alloc: Global,
     row: &ByteRecord,
@@ -197,7 +198,7 @@ fn read_amounts(
     Ok(pairs)
 }
 
-// Adds the pair of a cell below this column, if it is one of amounts and the cell isn't empty.
+// Adds the pair of a cell, if it isn't empty and its column is of an input.
 fn add_amount(
     cell: &[u8],
     column: Column,
@@ -219,7 +220,7 @@ fn add_amount(
     }
 }
 
-// What the cells below outputs expect.
+// The expectations of the cells in columns of outputs.
 fn read_expected(
     alloc: Global,
     row: &ByteRecord,
@@ -243,7 +244,7 @@ fn read_expected(
     Ok(Seq::from_vec(expected))
 }
 
-// Adds what a cell below this column expects, if it is one of an output and the cell isn't empty.
+// Adds the expectation of a cell, if it isn't empty and its column is of an output.
 fn add_expected(
     cell: &[u8],
     column: Column,
@@ -265,7 +266,7 @@ fn add_expected(
     }
 }
 
-// Adds what a cell that isn't empty expects of the output with this number.
+// Adds the expectation of a non-empty cell for the output with this number.
 fn put_expected(
     cell: &[u8],
     output: u32,
@@ -300,7 +301,7 @@ fn push_stop(output: u32, expected: &mut Vec<(u32, Expected)>) -> Result<(), All
     Ok(())
 }
 
-// What a cell that isn't empty expects.
+// Parses the expectation of a non-empty cell.
 fn parsed_expectation(cell: &[u8], line: u32) -> Result<Expected, CasesFault>
     ensures { result ≡ parsed_expectation line cell.now }
 {
@@ -324,7 +325,8 @@ fn amount_expected(cell: &[u8], line: u32) -> Result<Expected, CasesFault>
     }
 }
 
-// The rows of cases, and what each expects, where so many notes stand before the names. Its only error is running out of memory.
+// The rows and the expectations of cases, with outputs numbered as in a face with `notes` notes.
+// Its only error is running out of memory.
 fn apart(alloc: Global, cases: Vec<Case>, notes: u32) -> Result<Cases, AllocError>
     requires { AllByRecursion (λ c. AllByRecursion (λ e. notes + e.0 < 2 ^ 32) c.expected) cases.items }
     ensures { IfOk result (λ made. made ≡ numbered_cases notes (cases_made cases.items)) }
@@ -341,7 +343,8 @@ fn apart(alloc: Global, cases: Vec<Case>, notes: u32) -> Result<Cases, AllocErro
     })
 }
 
-// What is expected of outputs with names, by their numbers among all outputs, where so many notes stand before the names.
+// Renumbers expectations: from the number among outputs with names to that among all outputs, after
+// `notes` notes.
 fn numbered(expected: Seq<(u32, Expected)>, notes: u32) -> Seq<(u32, Expected)>
     requires { AllByRecursion (λ e. notes + e.0 < 2 ^ 32) expected }
     ensures { result ≡ numbered notes expected }

@@ -1,4 +1,4 @@
-//! The columns of a table of cases: amounts of inputs, and what is expected of outputs.
+//! The columns of a table of cases: amounts of inputs, or expectations of outputs.
 ghost use Rattle.std.specs.Prelude.{◌≡◌, ◌<◌, ◌++◌, ◌∷◌, [], drop, length, not, IfOk, Ok, Err, List};
 ghost use Rattle.std.specs.List.{list_any};
 ghost use Rattle.csv.specs.Records.{fields_of};
@@ -19,23 +19,23 @@ use household::records::field_at;
 use household::{Codes, mark};
 use std::alloc::{AllocError, Global};
 
-/// What a column is for.
+/// The content of a column.
 #[derive(Clone, Copy, Debug, PartialEq, Eq)]
 pub enum Column {
     /// Amounts of the input with this number.
     Input(u32),
-    /// What is expected of the output with this number.
+    /// Expectations of the output with this number.
     Output(u32),
 }
 
-/// Which inputs and outputs stand in a column already.
+/// Which inputs and outputs already have a column.
 #[derive(Drop)]
 pub struct Seen {
     pub inputs: Vec<bool>,
     pub outputs: Vec<bool>,
 }
 
-/// The columns of a table of cases, by its first record, or the fault of the first field that has one.
+/// The columns of a table of cases, from its header, or the fault of the first faulty field.
 pub(crate) fn read_columns(
     alloc: Global,
     row: &ByteRecord,
@@ -50,7 +50,7 @@ pub(crate) fn read_columns(
     fill_columns(alloc, row, codes, outputs, &mut seen)
 }
 
-// No column was seen.
+// No input or output has a column.
 fn none_seen(alloc: Global, inputs: usize, outputs: usize) -> Result<Seen, AllocError>
     ensures inputs { IfOk result (λ seen. length seen.inputs.items ≡ inputs) }
     ensures outputs { IfOk result (λ seen. length seen.outputs.items ≡ outputs) }
@@ -86,7 +86,7 @@ fn fill_columns(
     Ok(columns)
 }
 
-// What a field of the first record says by itself.
+// Parses a field of the header alone.
 fn parsed_field(field: &[u8], codes: &Codes, outputs: &Outputs<'_>) -> Result<Column, CasesFault>
     ensures { result ≡ parsed_field codes.now (names_of outputs.now.outputs.now) field.now }
 {
@@ -108,7 +108,7 @@ fn input_declared(code: &[u8], codes: &Codes) -> Result<Column, CasesFault>
     }
 }
 
-// Marks what a column is for, and says whether it wasn't marked.
+// Marks a column's input or output, and returns whether it was unmarked before.
 fn see(seen: &mut Seen, column: Column) -> bool
     requires { IsBelow (length seen.old.inputs.items) (length seen.old.outputs.items) column }
     ensures fresh { (columns : List Column) → AreSeen seen.old columns → result ≡ not (list_any (is_same_column column) columns) }

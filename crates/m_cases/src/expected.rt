@@ -1,8 +1,8 @@
-//! What is expected of an output, and what one gets of it.
+//! Expected and actual values of outputs.
 
 use m_fixed::Value;
 
-/// What is expected of an output: that the answer has this value there, or that it is a stop.
+/// An expectation of an output: a value, or that the answer is a stop.
 #[derive(Clone, Copy, Debug, PartialEq, Eq)]
 pub enum Expected {
     Is(Value),

@@ -1,4 +1,4 @@
-//! Why a table of cases is refused.
+//! Errors of reading a table of cases.
 
 ghost use Rattle.std.specs.Prelude.{◌≡◌};
 ghost use Rattle.m_cases.specs.Cases.{case_fault};
@@ -7,26 +7,26 @@ ghost use Rattle.m_cases.specs.declared.fault.CasesFault.TheVariants.{Memory};
 use household::HouseholdFault;
 use std::alloc::{AllocError, AllocFailed};
 
-/// Why a table of cases is refused. The number is that of a record, from 1.
+/// Why a table of cases is rejected. The number is that of a record, from 1.
 #[derive(Clone, Copy, Debug, PartialEq, Eq)]
 pub enum CasesFault {
-    /// The first record doesn't begin with `name`.
+    /// There is no record, or the first field isn't `name`.
     BadHeader,
-    /// More rows than a table may have.
+    /// There are more rows than the limit of a table.
     TooManyRows,
-    /// A record that has no label, or not a field for each column.
+    /// The record has a wrong number of fields or an invalid label.
     BadRow(u32),
-    /// A field of the first record that is the code of no input.
+    /// A field of the header is the code of no input.
     UnknownCode(u32),
-    /// A field of the first record that is `=` and the name of no output.
+    /// A field of the header is `=` and the name of no output.
     UnknownOutput(u32),
-    /// An input or an output that stands a second time.
+    /// An input or an output has a second column.
     CodeTwice(u32),
-    /// A cell below an input that is no amount.
+    /// A cell in the column of an input isn't an amount, or is out of range.
     BadAmount(u32),
-    /// An amount that isn't of its input's type.
+    /// An amount isn't of its input's type.
     NotOfType(u32),
-    /// A cell below an output that is neither an amount nor `undefined`, `over` or `stop`.
+    /// A cell in the column of an output isn't an amount, `undefined`, `over` or `stop`.
     BadExpected(u32),
     /// Out of memory.
     Memory,

@@ -1,4 +1,4 @@
-//! What the reading of a table of cases comes to, said of its records.
+//! A law of tables of cases: their meaning by their records.
 ghost use Rattle.std.specs.Prelude.{◌≡◌, ℕ, List, Ok};
 ghost use Rattle.observables.specs.declared.inputs.Coded.{Coded};
 ghost use Rattle.m_cases.specs.CaseRows.{IsCaseTable};
@@ -6,8 +6,9 @@ ghost use Rattle.m_cases.specs.Cases.{cases_made, cases_of};
 ghost use Rattle.m_cases.specs.declared.cases.Case.{Case};
 ghost use Rattle.m_cases.specs.declared.cases.Cases.{Cases};
 
-/// Bytes say cases exactly where their records are one with the codes of inputs and the names of outputs, none twice, and then a label
-/// and a cell for each column for each case, and the cases are not too many. So bytes say their cases in one way.
+/// Bytes are these cases exactly if their records are a header of distinct codes of inputs and
+/// names of outputs, then for each case a label and a cell for each column, and the number of cases
+/// is within the limit. So the cases are unique.
 pub fn one_table_of_cases()
     ensures sound { (inputs : List Coded) (names : List (List ℕ)) (bytes : List ℕ) (made : Cases) → cases_of inputs names bytes ≡ Ok made
         → (cases : List Case) × (made ≡ cases_made cases) × IsCaseTable inputs names bytes cases }

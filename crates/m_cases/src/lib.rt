@@ -1,6 +1,11 @@
-//! Tables of cases: households, the expected values of their answers, and which expectations aren't met.
+//! Tables of cases: households, the expected values of their answers, and which expectations aren't
+//! met.
 //!
-//! This crate reads the bytes of a table as `household` does, and knows neither rules nor how an answer is computed.
+//! Uses the records, rows and index of codes of `household`. Knows nothing of rules or of how an
+//! answer is computed.
+//!
+//! Within the reader outputs are numbered among those with names; results have the numbers of the
+//! face, where the notes come first.
 #![tactic(auto)]
 
 mod cases;

@@ -1,4 +1,4 @@
-//! Which expectations are met, and the lines of those that aren't.
+//! Checks expectations, and reports those that aren't met.
 ghost use Rattle.std.specs.Prelude.{◌≡◌, ◌<◌, ◌+◌, ◌∷◌, [], IfOk, codes, length, slice_index_or};
 ghost use Rattle.std.specs.Ordering.{int_eq};
 ghost use Rattle.m_fixed.specs.Text.{printed};
@@ -15,8 +15,8 @@ use m_places::Name;
 use m_ports::{Failed, Sink, give_pieces};
 use observables::{Answer, Face, FaceOutput};
 
-/// Whether what is expected of the output with this number is met by an answer: a stop by each answer that stops, and a value by an
-/// answer that has it at that output. Takes no memory.
+/// Whether an answer meets the expectation of the output with this number: `stop` is met by every
+/// stop, and a value by an answer with that value. Takes no memory.
 pub fn met(expected: &Expected, output: u32, answer: &Answer) -> bool
     requires { HasOutput output answer.now }
     ensures { result ≡ is_met expected.now (got_of (answer_values answer.now) output) }
@@ -24,7 +24,7 @@ pub fn met(expected: &Expected, output: u32, answer: &Answer) -> bool
     is_met(expected, &got_of(answer, output as usize))
 }
 
-// What one gets of the output with this number: its value, or a stop.
+// The actual value of the output with this number, or a stop.
 fn got_of(answer: &Answer, output: usize) -> Expected
     requires { HasOutput output answer.now }
     ensures { result ≡ got_of (answer_values answer.now) output }
@@ -72,8 +72,9 @@ fn is_same_value(value: Value, other: Value) -> bool
     }
 }
 
-/// Writes a line for each expectation that an answer doesn't meet, in order, as `mismatch martin IRN expected 7 got 0`, and
-/// answers how many they are. On a failure a prefix of the lines was appended. It takes no memory.
+/// Writes one line for each expectation that isn't met, in order, as `mismatch martin IRN expected
+/// 7 got 0`, and returns their number. On a failure a prefix of the lines was appended. It takes no
+/// memory.
 pub fn print_mismatches<K: Sink>(
     face: &Face,
     label: &Name,
@@ -96,7 +97,7 @@ pub fn print_mismatches<K: Sink>(
     Ok(count)
 }
 
-// Writes the line of an expectation, if an answer doesn't meet it, and says whether it does.
+// Writes the line of an expectation that isn't met, and returns whether it is met.
 fn print_one<K: Sink>(
     face: &Face,
     label: &Name,
@@ -121,7 +122,7 @@ fn print_one<K: Sink>(
     Ok(false)
 }
 
-// The name of the output with this number; a note has none.
+// The name of the output with this number; empty for a note.
 fn name_at(outputs: &[FaceOutput], output: usize) -> &[u8]
     requires { output < length outputs.now }
     ensures { result.now ≡ slice_index_or (output_names outputs.now) output [] }
@@ -149,7 +150,7 @@ fn print_mismatch<K: Sink>(
     give_line(label.bytes(), name, expected, got, out)
 }
 
-// What is expected or what one gets, as it is printed. An amount is written into the room.
+// The text of an expected or actual value. An amount is written into `room`.
 fn text_in<'a>(value: &Expected, room: &'a mut [u8; 32]) -> &'a [u8]
     ensures { result.now ≡ expected_text value.now }
 {
@@ -194,7 +195,8 @@ fn give_line<'a, K: Sink>(
     )
 }
 
-/// Writes the last line: `cases 3 mismatches 1`. On a failure a prefix of it was appended. It takes no memory.
+/// Writes the last line, as `cases 3 mismatches 1`. On a failure a prefix of it was appended. It
+/// takes no memory.
 pub fn print_count<K: Sink>(cases: u32, mismatches: u64, out: &mut K) -> Result<(), Failed>
     ensures { Gives K.written K.faults out.old out.new result (count_line cases mismatches) }
 {

@@ -1,4 +1,4 @@
-//! The names of outputs, each found in one step.
+//! An index of the names of outputs.
 ghost use Rattle.std.specs.Prelude.{◌≡◌, ◌<◌, ◌^◌, ◌++◌, ◌∷◌, [], length, IfOk, OnOk, ℕ, List};
 ghost use Rattle.m_names.specs.Names.{index_of};
 ghost use Rattle.observables.specs.Outputs.{names_of};
@@ -8,7 +8,8 @@ use m_names::{Key, Names, NamesDigest};
 use observables::FaceOutput;
 use std::alloc::{AllocError, Global};
 
-/// The names of outputs, and the place of each among them where it stands first. Names that stand twice are kept once.
+/// The names of outputs, each with the position of its first occurrence. Duplicate names are kept
+/// once.
 #[derive(Drop)]
 pub(crate) struct Outputs<'a> {
     pub outputs: &'a [FaceOutput],
@@ -18,7 +19,7 @@ pub(crate) struct Outputs<'a> {
 }
 
 impl<'a> Outputs<'a> {
-    /// The names of these outputs. Its only error is running out of memory.
+    /// Indexes the names of these outputs. Its only error is running out of memory.
     pub(crate) fn new(alloc: Global, outputs: &'a [FaceOutput]) -> Result<Outputs<'a>, AllocError>
         requires { length outputs.now < 2 ^ 32 }
         ensures { IfOk result (λ known. known.outputs.now ≡ outputs.now) }
@@ -33,7 +34,7 @@ impl<'a> Outputs<'a> {
         })
     }
 
-    /// The place of a name among the names, from 0, where it stands first, if it is there. Takes no memory.
+    /// The position of the first occurrence of a name among the names, from 0. Takes no memory.
     pub(crate) fn find(&self, name: &[u8]) -> Option<u32>
         ensures { result ≡ index_of name.now (names_of self.now.outputs.now) }
     {
@@ -44,7 +45,7 @@ impl<'a> Outputs<'a> {
     }
 }
 
-// Adds the names of outputs to those that are known.
+// Adds the names of outputs to the index.
 fn put_names(
     alloc: Global,
     outputs: &[FaceOutput],
@@ -69,7 +70,7 @@ fn put_names(
     Ok(())
 }
 
-// Adds the name at this place, which is the next after all names so far.
+// Adds a name, which is at this position after all names so far.
 fn put_name(
     alloc: Global,
     name: &[u8],
@@ -87,7 +88,7 @@ fn put_name(
     Ok(())
 }
 
-// A key that is made of all names, so that nobody can choose them to collide.
+// A hash key made from all names, so that names can't be chosen to collide.
 fn key_of(outputs: &[FaceOutput]) -> Key {
     let mut digest = NamesDigest::new();
     for output in outputs {

@@ -1,4 +1,4 @@
--- Code of a program has its counts.
+-- The counts of code are those of its program.
 use Rattle.std.proofs.Common.{◌≡◌, ℕ, zero, suc, Bool, true, false, List, [], ◌∷◌, length, replicate, Option, None, Some, Result, Ok, Err, refl, sym, ap, ◌∙◌}
 use Rattle.std.proofs.Common.{subst, eqb}
 use Rattle.std.specs.Prelude.{IfOk, IsTrue, fold, if◌then◌else◌}
@@ -14,7 +14,7 @@ use Rattle.reg_machine.specs.Flow.{Counts, Listing, State, start, step, has_numb
 use Rattle.register_alloc.specs.Allocation.{IsAllocation}
 use Rattle.code_file.specs.Loading.{counts_agree}
 
--- what is known has so many outputs
+-- a known state has this number of outputs
 abbrev HasOutputs : ℕ → Option State → Type 0
 HasOutputs n None = Unit {0}
 HasOutputs n (Some s) = length s.outputs ≡ n
@@ -67,7 +67,7 @@ length-none (suc n) = ap suc (length-none n)
 reading-outputs : (code : Listing) → HasOutputs code.counts.outputs (reading code)
 reading-outputs code = fold-outputs code.counts.outputs code.counts (Some (start code.counts.outputs)) code.instrs (length-none code.counts.outputs)
 
--- outputs that were all given are as many
+-- if all outputs are given, there are as many of them
 given-more : (x : ℕ) (rest : Option (List ℕ)) (outputs : List (Option ℕ)) (xs : List ℕ) → ((ys : List ℕ) → rest ≡ Some ys → length ys ≡ length outputs)
     → option_map (λ ys. x ∷ ys) rest ≡ Some xs → length xs ≡ suc (length outputs)
 given-more x None outputs xs h e = cc
@@ -79,7 +79,7 @@ given-length [] (x ∷ xs) e = cc
 given-length (None ∷ outputs) xs e = cc
 given-length (Some x ∷ outputs) xs e = given-more x (all_given outputs) outputs xs (λ ys q. given-length outputs ys q) e
 
--- a program that is spelled has the inputs and as many outputs
+-- a program's counts of inputs and outputs
 record HasCounts (inputs outputs : ℕ) (flat : Flat) : Type 0 where
   inputs_are : flat.inputs ≡ inputs
   outputs_are : length flat.outputs ≡ outputs
@@ -102,7 +102,7 @@ read inputs n (Some s) flat h e = subst (λ m. HasCounts inputs m flat) h (ends 
 flow-counts : (code : Listing) (flat : Flat) → flow_of code ≡ Some flat → HasCounts code.counts.inputs code.counts.outputs flat
 flow-counts code flat e = read code.counts.inputs code.counts.outputs (reading code) flat (reading-outputs code) e
 
--- code of a program agrees with a face that shows it
+-- code of a program agrees with the program's face
 pub agrees : (face : Face) (flat : Flat) (code : Listing) → IsFaceOf face flat → IsAllocation flat (length face.labels) code
     → IsTrue (counts_agree code face.inputs face.labels face.outputs)
 agrees face flat code f a =
@@ -113,7 +113,7 @@ agrees face flat code f a =
     and_from (eqb (length face.inputs) code.counts.inputs) _ (eq-eqb _ _ inputs)
     (and_from (eqb (length face.labels) code.counts.labels) (eqb (length face.outputs) code.counts.outputs) (eq-eqb _ _ labels) (eq-eqb _ _ outputs))
 
--- the same of a call that may want memory
+-- the same for a call that may run out of memory
 pub agrees_ok : {E : Type 0} (face : Face) (flat : Flat) (labels : ℕ) (result : Result Listing E) → labels ≡ length face.labels → IsFaceOf face flat
     → IfOk result (IsAllocation flat labels)
     → IfOk result (λ code. IsTrue (counts_agree code face.inputs face.labels face.outputs))

@@ -1,4 +1,4 @@
--- The names of variables and the codes of inputs that are declared without a fault are different.
+-- Names of variables and codes of inputs are distinct, if declarations have no fault.
 use Rattle.std.proofs.Common.{◌≡◌, ◌∙◌, length, List, [], ◌∷◌, ◌++◌, ℕ, false, Option, None, Some, refl, sym, ap, subst, append_assoc}
 use Rattle.std.specs.Prelude.{IfSome}
 use Rattle.std.specs.List.{cons_option, filter_map}
@@ -30,18 +30,18 @@ parts : (a b : Option DeclareFault) → first_of a b ≡ None → (a ≡ None) �
 parts None b e = (refl, e)
 parts (Some f) b e = (cc, cc)
 
--- a code more, which is new
+-- one more code, which is new
 more : (code : Option (List ℕ)) (codes : List (List ℕ)) → AreDistinct codes → IfSome code (λ c. has c codes ≡ false)
     → AreDistinct (codes ++ cons_option code [])
 more None codes d h = subst AreDistinct (sym (append-nil codes)) d
 more (Some code) codes d h = AreDistinct-push code codes d h
 
--- a variable without a fault leaves what its declarations are called distinct
+-- a variable without a fault keeps the names of declarations distinct
 abbrev Stays : (List Declaration → List (List ℕ)) → Type 0
 Stays called = (d : Declared) (v : VariableItem) → variable_fault d v ≡ None → AreDistinct (called d.variables)
     → AreDistinct (called (with_variable d v).variables)
 
--- an item more
+-- one more item
 item_more : (called : List Declaration → List (List ℕ)) → Stays called → (d : Declared) (item : Item) → AreDistinct (called d.variables)
     → fault_at d item ≡ None → AreDistinct (called (with_item d item).variables)
 item_more called stays d (Variable v) distinct e = stays d v e distinct
@@ -75,7 +75,7 @@ pub distinct_codes : (texts : List Text) (application : List ℕ) (declared : De
 distinct_codes texts application declared base b =
     subst (λ (d : Declared). AreDistinct (codes_of d.variables)) (sym b.symbols) (items_more codes_of code_stays [] b.items tt b.declares.faultless)
 
--- the codes that a face shows are those that are declared
+-- the codes in a face are the declared ones
 one_code : (code : Option (List ℕ)) (kind : InputType) (inputs : List Coded) (codes : List (List ℕ)) → codes_shown inputs ≡ codes
     → codes_shown (cons_option (option_map (λ c. record { code = c; kind = kind }) code) inputs) ≡ cons_option code codes
 one_code None kind inputs codes e = e
@@ -89,12 +89,12 @@ stated_codes (v ∷ variables) = one_code (code_of v) (type_declared v.item.valu
 pub parsed_codes : (declared : Declared) → codes_shown (inputs_declared declared) ≡ codes_of declared.variables
 parsed_codes declared = stated_codes declared.variables
 
--- and as many as the inputs that are declared
+-- a face has as many inputs as are declared
 pub many_inputs : (declared : Declared) → length (inputs_declared declared) ≡ length (inputs_from 0 declared.variables)
 many_inputs declared = sym (length-map (inputs_declared declared) (λ (input : Coded). input.code)) ∙ ap length (parsed_codes declared)
     ∙ as_many_codes 0 declared.variables
 
--- so they are different
+-- so the codes in a face are distinct
 pub distinct_inputs : (texts : List Text) (application : List ℕ) (declared : Declared) (base : Base) → IsBaseOf texts application declared base
     → AreDistinct (codes_shown (inputs_declared declared))
 distinct_inputs texts application declared base b = subst AreDistinct (sym (parsed_codes declared)) (distinct_codes texts application declared base b)

@@ -36,6 +36,6 @@ texts_few (byte ∷ bytes) =
     (either (byte == carriage_return && begins_with_feed bytes) (suc (length bytes)) _ _ (omega (arith, more))
     (omega (arith, more, onto_few byte (lines_of bytes))))
 
--- a number counts the functions of a driver
+-- the number of a driver's functions
 pub functions_counted : (bytes : List ℕ) (driver : Driver) → IsDriver bytes driver → length bytes ≤ FILE_BYTES → length driver.functions < 2 ^ 32
 functions_counted bytes driver d within = omega (arith, functions_few d.spelled, lines_few d.lexed, texts_few bytes, within)

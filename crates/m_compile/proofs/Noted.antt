@@ -1,4 +1,4 @@
--- Outputs that are notes and then names, where the notes are of labels that tell verifications.
+-- Outputs: first notes of labels of verifications, then names.
 use Rattle.std.proofs.Common.{◌≡◌, ◌<◌, ℕ, zero, suc, true, List, [], ◌∷◌, ◌++◌, take, map, length, refl, sym, ap, subst, arith}
 use Rattle.std.specs.Prelude.{IsTrue, is_some}
 use Rattle.std.specs.List.{AllByRecursion}
@@ -10,24 +10,24 @@ use Rattle.observables.specs.declared.face.FaceOutput.TheVariants.{Named, Noted}
 use Rattle.observables.specs.Outputs.{names_of, notes_of, notes_stand_first, verif_at}
 use Rattle.observables.proofs.OutputLemmas.{named-first, names-named, notes-named}
 
--- they stand in the order of a face
+-- they are in the order of a face
 pub noted_first : (labels : List FaceLabel) (notes : List ℕ) (names : List (List ℕ)) → AllByRecursion (λ n. IsTrue (is_some (verif_at labels n))) notes
     → notes_stand_first labels (map Noted notes ++ map Named names) ≡ true
 noted_first labels [] names h = named-first labels names
 noted_first labels (n ∷ notes) names h = and_from (is_some (verif_at labels n)) (notes_stand_first labels (map Noted notes ++ map Named names)) h.0
     (noted_first labels notes names h.1)
 
--- the names among them
+-- their names
 pub names_noted : (notes : List ℕ) (names : List (List ℕ)) → names_of (map Noted notes ++ map Named names) ≡ names
 names_noted [] names = names-named names
 names_noted (n ∷ notes) names = names_noted notes names
 
--- and the notes
+-- their notes
 pub notes_noted : (notes : List ℕ) (names : List (List ℕ)) → notes_of (map Noted notes ++ map Named names) ≡ notes
 notes_noted [] names = notes-named names
 notes_noted (n ∷ notes) names = ap (λ rest. n ∷ rest) (notes_noted notes names)
 
--- a label of the base tells a verification
+-- a label of the base is one of a verification
 verif_there : (labels : List FaceLabel) (first : List Label) (n : ℕ) → take (length first) labels ≡ map Verif first → n < length first
     → IsTrue (is_some (verif_at labels n))
 verif_there labels [] n e h = absurd (omega (arith, h))

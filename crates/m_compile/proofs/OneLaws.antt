@@ -1,4 +1,4 @@
--- A source says one thing or has one fault, and not both; nor have its rule files.
+-- A source, or rule files alone, is valid in one way or has one fault, never both.
 use Rattle.std.proofs.Common.{◌≡◌, ◌<◌, ℕ, List, Option, Some, Result, Ok, Err, refl, ap, ◌∙◌, subst, arith}
 use Rattle.m_places.specs.declared.limits.TheConstants.{DRIVER_WEIGHT}
 use Rattle.m_places.specs.declared.source.Source.{Source}
@@ -48,7 +48,7 @@ rules_or_fault : (source : Source) {declared : Declared} {base : Base} {fault : 
     → IsRuleFault source.texts source.application fault → ⊥
 rules_or_fault source {declared} {base} {fault} a f = no_base_and_fault source.texts source.application declared base fault a.made a.no_cycle f
 
--- The driver that was written.
+-- The driver.
 core_moved : (driver other : Driver) (declared others : Declared) (core : Core) → driver ≡ other → declared ≡ others → IsCore driver declared core
     → IsCore other others core
 core_moved driver other declared others core e f c = subst (λ (k : Declared). IsCore other k core) f (subst (λ (d : Driver). IsCore d declared core) e c)
@@ -60,7 +60,7 @@ written_one declared _ _ _ (by_driver {bytes = bs} {core = c} d s k) (by_driver 
     let e = one_driver_of bs d d' s s' in
     ap Some (one_core d' declared c c' (subst (λ (x : Driver). IsCore x declared c) e k) k')
 
--- a driver that was written spells one over cells
+-- a driver parses, and its names resolve over the declarations
 written_spells : (declared : Declared) (driver : Option (List ℕ)) (written : Option Core) (bytes : List ℕ) → driver ≡ Some bytes
     → IsWritten declared driver written
     → (spelled : Driver) × (core : Core) × IsDriver bytes spelled × IsCore spelled declared core
@@ -99,7 +99,7 @@ one_validity source declared others base other written another requests wanted a
           ∙ b.requested),
     )
 
--- what costs too much is no valid source
+-- a source whose weight exceeds the limit isn't valid
 weight_same : {declared others : Declared} {base other : Base} {written another : Option Core} {requests wanted : List ℕ} → declared ≡ others → base ≡ other
     → written ≡ another → requests ≡ wanted
     → weight_of (running written requests declared) base ≡ weight_of (running another wanted others) other
@@ -121,7 +121,7 @@ no_valid_and_fault source declared base written requests _ v (of_weight {declare
     let light = v.light in
     absurd (omega (arith, light, less, same))
 
--- The faults of an earlier step stand before those of a later one.
+-- A fault of an earlier step excludes one of a later step.
 one_of_rules : {fault other : RuleFault} → AreOneRuleFault fault other → AreOneSourceFault (Rules fault) (Rules other)
 one_of_rules (the_same_rules e) = the_same (ap Rules e)
 one_of_rules both_rule_cycles = both_cycles
@@ -202,7 +202,7 @@ one_fault source _ other (of_core {declared = d} {base = b} {bytes = bs} {fault 
 one_fault source _ other (of_requests {declared = d} {base = b} {written = w} {fault = f} a x e) h = by_requests source d b w f other a x e h
 one_fault source _ other (of_weight {declared = d} {base = b} {written = w} {requests = r} a x e less) h = by_weight source d b w r other a x e less h
 
--- ---- rule files by themselves
+-- ---- rule files alone
 
 pub one_rules : (source : Source) (declared others : Declared) (base other : Base) → HasRules source declared base → HasRules source others other
     → (declared ≡ others) × (base ≡ other)

@@ -1,4 +1,4 @@
--- What a step's fault says of the source, and what the program of its rules is.
+-- Each step's fault is one of the source; and the program of valid rules.
 use Rattle.std.proofs.Common.{◌≡◌, ◌≢◌, ◌≤◌, ◌<◌, ◌^◌, ◌+◌, ◌++◌, ℕ, Bool, true, false, List, [], All, map, length, Option, None, Some, Result, Ok, Err, nat_lt}
 use Rattle.std.proofs.Common.{cond, refl, sym, ap, ◌∙◌, subst, arith}
 use Rattle.std.proofs.lemmas.Bool.{ltb-false}
@@ -72,13 +72,13 @@ rules_reported texts application (rules.Expand f) h k = of_files (h (λ e. cc))
 rules_reported texts application (rules.Resolve f) h k = of_files (h (λ e. cc))
 rules_reported texts application (rules.Cycle names) h k = of_files (h (λ e. cc))
 
--- it is one of the source, where the texts and the application are lent
+-- it is one of the source, for borrowed texts and application
 pub base_reported : (source : Source) (texts : List Text) (application : List ℕ) (fault : SourceFault) → texts ≡ source.texts → application ≡ source.application
     → IsBaseFault texts application fault → IsSourceFault source fault
 base_reported source texts application _ t a (of_files {fault = f} k) =
     of_rules (subst (λ (x : List Text). IsRuleFault x source.application f) t (subst (λ (x : List ℕ). IsRuleFault texts x f) a k))
 
--- the rules, where the texts and the application are lent
+-- the rules, for borrowed texts and application
 pub rules_made : (source : Source) (texts : List Text) (application : List ℕ) (declared : Declared) (base : Base) → texts ≡ source.texts
     → application ≡ source.application
     → IsBaseOf texts application declared base → HasNoCycle base → HasRules source declared base
@@ -88,7 +88,7 @@ rules_made source texts application declared base t a b n =
       no_cycle = n;
     }
 
--- the fault of the driver's lines
+-- the driver's syntax
 pub lines_reported : (declared : Declared) (bytes : List ℕ) (fault : DriverFault) → (fault ≢ lines.Memory → IsFault bytes fault) → driver_step fault ≢ Memory
     → IsDriverFault declared (Some bytes) (driver_step fault)
 lines_reported declared bytes lines.Memory h k = absurd (k refl)
@@ -96,7 +96,7 @@ lines_reported declared bytes (lines.DriverToken n) h k = of_lines (h (λ e. cc)
 lines_reported declared bytes (lines.DriverTooDeep n) h k = of_lines (h (λ e. cc))
 lines_reported declared bytes (lines.DriverSyntax n) h k = of_lines (h (λ e. cc))
 
--- the fault of the driver's names
+-- the driver's names
 pub names_reported : (declared : Declared) (bytes : List ℕ) (driver : Driver) (fault : CoreFault) → IsDriver bytes driver
     → (fault ≢ core.Memory → IsCoreFault driver declared fault) → core_step fault ≢ Memory
     → IsDriverFault declared (Some bytes) (core_step fault)
@@ -127,7 +127,7 @@ pub requested_reported : (source : Source) (declared : Declared) (base : Base) (
 requested_reported source declared base fault r (in_driver f) = driver_reported source declared base source.driver fault r refl f
 requested_reported source declared base _ r (in_requests d e) = of_requests r d e
 
--- no more is asked for than there may be
+-- the number of requests is within the limit
 few_when : (all cells : List ℕ) (many : Bool) → nat_lt REQUESTS (length all) ≡ many → cond many (Err TooManyRequests) (Ok all) ≡ Ok cells
     → length cells ≤ REQUESTS
 few_when all cells true m e = cc
@@ -154,7 +154,7 @@ heavy_reported : (source : Source) (declared : Declared) (base : Base) (written 
     → parsed_requests source.requests declared ≡ Ok wanted → IsHeavy (running written wanted declared) base fault → IsSourceFault source fault
 heavy_reported source declared base written wanted fault r d q (heavy w) = of_weight r d q w
 
--- the whole
+-- all steps together
 compiled_when : (source : Source) (declared : Declared) (base : Base) (wanted : List ℕ) (core : Core) (flat : Flat) (face : Face)
     (runnable : IsRunnable face flat) → HasRules source declared base → AreRequests declared source core wanted
     → IsProgram declared base core wanted flat face → (code : Listing) → IsAllocation flat (length face.labels) code
@@ -191,7 +191,7 @@ runnable_when source declared base wanted core flat face r p =
       nodes_fit = p.nodes_fit;
     }
 
--- there may be code of a program as small as this
+-- the number of labels fits 32 bits, since the program is small
 few_when_fit : (labels base : ℕ) → base ≤ PARTS → labels ≤ base + most_nodes → labels < 2 ^ 32
 few_when_fit labels base b l = omega (arith, b, l)
 
@@ -226,7 +226,7 @@ as_many_inputs : (declared : Declared) (stated : List Coded) (inputs : ℕ) → 
     → inputs ≡ length (inputs_from 0 declared.variables) → length stated ≡ inputs
 as_many_inputs declared stated inputs c i = ap length c ∙ many_inputs declared ∙ sym i
 
--- the outputs: the notes, and then the names of the cells that are asked for
+-- the outputs: the notes, then the names of the requested cells
 abbrev outputs_made : Declared → List ℕ → List ℕ → List FaceOutput
 outputs_made declared notes wanted = map Noted notes ++ map Named (map (cell_name declared) wanted)
 

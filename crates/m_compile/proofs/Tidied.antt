@@ -1,4 +1,4 @@
--- What the tidy form of a program keeps for its face.
+-- The tidy form of a program keeps the properties of its face.
 use Rattle.std.proofs.Common.{ℕ, zero, suc, ◌<◌, false, List, [], ◌∷◌, All, sym, subst, arith}
 use Rattle.std.specs.List.{AllByRecursion}
 use Rattle.m_fixed.specs.declared.amount.Value.{Value}
@@ -23,7 +23,8 @@ plain_values [] (v ∷ vs) h = absurd h
 plain_values (input ∷ inputs) [] h = tt
 plain_values (input ∷ inputs) (v ∷ vs) h = (plain_value input.kind v h.0, plain_values inputs vs h.1)
 
--- where the labels of old checks are low, those of new ones among them are
+-- the labels of new checks are below the bound, if those of old checks are and the new labels are
+-- among the old
 pub labels_kept : (n : ℕ) (old new : List Check) → All (λ check. check.label < n) old → HaveLabelsOf old new → AllByRecursion (λ check. check.label < n) new
 labels_kept n old [] low same = tt
 labels_kept n old (c ∷ cs) low same =
@@ -31,7 +32,7 @@ labels_kept n old (c ∷ cs) low same =
     let there = low first.0 (record { guard = 0; condition = 0; over_only = false; label = 0 }) first.1 in
     (subst (λ (m : ℕ). m < n) (sym first.2) there, labels_kept n old cs low (λ j q. same (suc j) (omega (arith, q))))
 
--- the same of each place
+-- the same, by position
 pub labels_all : (n : ℕ) (checks : List Check) → AllByRecursion (λ check. check.label < n) checks → All (λ check. check.label < n) checks
 labels_all n [] low k d l = absurd (omega (arith, l))
 labels_all n (c ∷ cs) low zero d l = low.0

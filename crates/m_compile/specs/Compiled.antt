@@ -1,4 +1,4 @@
--- What a source is compiled to.
+-- The result of compiling a source.
 use Rattle.std.specs.Prelude.{◌≡◌, ℕ, ◌<◌, ◌≤◌, List, Option, drop, length, map, take, Some}
 use Rattle.std.specs.List.{AllByRecursion}
 use Rattle.m_fixed.specs.declared.amount.Value.{Value}
@@ -25,18 +25,20 @@ use Rattle.m_compile.specs.declared.compiling.Compiled.{Compiled}
 use Rattle.m_compile.specs.Sources.{IsValid}
 use Rattle.m_compile.specs.Answers.{answer_to}
 
--- a program that can be run, which its face shows, whose inputs have different codes, and whose nodes are not too many
+-- a program that can be run: the face is its face, the codes of inputs are distinct, and its nodes
+-- are within the limit
 pub record IsRunnable (face : Face) (flat : Flat) : Type 0 where
   pub valid : IsFlat flat
   pub shown : IsFaceOf face flat
   pub distinct : AreDistinct (codes_of face.inputs)
   pub nodes_fit : length flat.nodes ≤ most_nodes
 
--- The source is valid, and it is compiled to this: for every list of values that the inputs may have, the answer of the tidy program, read
--- through its face, is the answer of the source. The face has the inputs with their types, the labels of the base's checks and after them
--- those of lines of the driver alone, and the names of what is asked for, each in its order, and each note is that of a check of the base.
--- A code file can spell all
--- words of the face. The code spells the tidy program, with a label for each of the face, in the registers and slots of its width.
+-- The source is valid and compiles to this. For every list of values that the inputs may have, the
+-- answer of the tidy program, read through its face, is that of the source. The face has the inputs
+-- with their types; the labels of the base's checks, then those of driver lines; and as outputs the
+-- notes, each of a check of the base, then the names of the requested cells. A code file can
+-- represent the face. The code implements the tidy program, with one label for each of the face,
+-- and uses the registers and slots of its width.
 pub record IsCompiled (source : Source) (compiled : Compiled) : Type 0 where
   pub declared : Declared
   pub base : Base

@@ -22,16 +22,16 @@ use Rattle.m_compile.specs.declared.fault.SourceFault.{SourceFault}
 use Rattle.m_compile.specs.declared.fault.SourceFault.TheVariants.{Rules, Driver as DriverIs, Core as CoreIs, Requests, DriverTooLarge}
 use Rattle.m_compile.specs.Sources.{HasRules, IsWritten, running}
 
--- the greatest number of 64 bits, which is told of a weight that is greater
+-- the greatest number of 64 bits, which is reported for every greater weight
 abbrev pub most_weight : ℕ
 most_weight = 18_446_744_073_709_551_615
 
--- what is told of a driver that costs too much over a base
+-- the reported weight of a driver over a base
 abbrev pub observation_weight : Core → Base → ℕ
 observation_weight core base = min (weight_of core base) most_weight
 
--- The steps in their order: the rule files, the lines of the driver, its names, the requests, the weight of the whole. A fault stands only where the steps
--- before its own have none.
+-- The steps in their order: rule files, driver syntax, driver names, requests, weight. Each fault
+-- requires that the earlier steps have none.
 pub data IsSourceFault (source : Source) : SourceFault → Type 0 where
   of_rules : {fault : RuleFault} → IsRuleFault source.texts source.application fault → IsSourceFault source (Rules fault)
   of_driver : {declared : Declared} {base : Base} {bytes : List ℕ} {fault : DriverFault} → HasRules source declared base
@@ -45,11 +45,12 @@ pub data IsSourceFault (source : Source) : SourceFault → Type 0 where
       → DRIVER_WEIGHT < weight_of (running written requests declared) base
       → IsSourceFault source (DriverTooLarge (observation_weight (running written requests declared) base))
 
--- The fault of rule files by themselves: that of the earliest step of theirs that has one.
+-- The fault of rule files alone: that of their earliest faulty step.
 pub data IsBaseFault (texts : List Text) (application : List ℕ) : SourceFault → Type 0 where
   of_files : {fault : RuleFault} → IsRuleFault texts application fault → IsBaseFault texts application (Rules fault)
 
--- Two faults are one where they are the same, or where both show a cycle of cells, or both a ring of functions, of which any true one may be shown.
+-- Two faults are equivalent if they are equal, or if both report a cycle of cells, or both a cycle
+-- of functions; any actual cycle may be reported.
 pub data AreOneSourceFault : SourceFault → SourceFault → Type 0 where
   the_same : {fault other : SourceFault} → fault ≡ other → AreOneSourceFault fault other
   both_cycles : {names others : List (List ℕ)} → AreOneSourceFault (Rules (Cycle names)) (Rules (Cycle others))

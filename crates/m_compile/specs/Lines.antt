@@ -1,4 +1,4 @@
--- The line of each fault of a source.
+-- The message of each fault of a source.
 use Rattle.std.specs.Prelude.{ℕ, List, Option, Some, None, map, slice_index_or, []}
 use Rattle.m_places.specs.declared.place.Place.{Place}
 use Rattle.m_places.specs.declared.source.Text.{Text}
@@ -29,7 +29,7 @@ use Rattle.tax_print.specs.declared.fault.NameFault.TheVariants as at_name
 use Rattle.m_compile.specs.declared.fault.SourceFault.{SourceFault}
 use Rattle.m_compile.specs.declared.fault.SourceFault.TheVariants as source
 
--- the name of the file that a place is in
+-- the name of the file of a place
 abbrev pub file_of : List Text → Place → List ℕ
 file_of texts place = slice_index_or (map (λ text. text.name) texts) place.file []
 
@@ -44,7 +44,7 @@ parse_line texts (parse.TooDeep p) = Some (place_line (file_of texts p) p at_pla
 parse_line texts (parse.Syntax p) = Some (place_line (file_of texts p) p at_place.Syntax)
 parse_line texts parse.Memory = None
 
--- of two declarations the later one has the fault
+-- of two declarations the fault is that of the later one
 abbrev pub declare_line : List Text → DeclareFault → Option (List ℕ)
 declare_line texts (declare.DeclaredTwice name earlier p) = Some (name_line (file_of texts p) p at_name.DeclaredTwice name)
 declare_line texts (declare.AliasTwice code earlier p) = Some (name_line (file_of texts p) p at_name.AliasTwice code)
@@ -96,8 +96,9 @@ request_fault_line (requests.BadRequest line) = Some (request_line line)
 request_fault_line requests.TooManyRequests = Some too_many_requests_line
 request_fault_line requests.Memory = None
 
--- The line of a fault of a source whose rule files are these; running out of memory has none. An unclosed text at byte 43 of the first of them,
--- `a.m`, has `refused a.m line 1 byte 43: open string`.
+-- The line that reports a fault of a source with these rule files; none for running out of memory.
+-- An unclosed text at byte 43 of the first file, `a.m`, is reported as `refused a.m line 1 byte 43:
+-- open string`.
 abbrev pub source_line : List Text → SourceFault → Option (List ℕ)
 source_line texts (source.Rules fault) = rule_line texts fault
 source_line texts (source.Driver fault) = driver_fault_line fault

@@ -1,4 +1,4 @@
-//! The base of rule files, as the first step of the compiler and by itself.
+//! Compiles rule files alone, or as the compiler's first step.
 
 ghost use Rattle.std.specs.Prelude.{◌≡◌, IfOk, length};
 ghost use Rattle.m_places.specs.Refusals.{Outcome};
@@ -18,8 +18,9 @@ use rule_base::{RuleBase, rule_base};
 use std::alloc::Global;
 use std::thread::Threads;
 
-/// Compiles rule files alone, without a driver or requests: the base of the application in them, in an order of its definitions, or
-/// the fault of the earliest step that has one. The files are read by several workers, whose order doesn't change the answer.
+/// Compiles rule files without a driver or requests: to the base of the application and an order of
+/// its definitions, or to the fault of the earliest step that has one. Several workers read the
+/// files; their scheduling doesn't change the result.
 pub fn compile_base<R: Threads + Sync>(
     rt: &R,
     alloc: Global,

@@ -1,4 +1,4 @@
-//! The steps of the compiler, one after the other.
+//! The steps of the compiler, in order.
 
 ghost use Rattle.std.specs.Prelude.{◌≡◌, ◌<◌, ◌≤◌, ◌^◌, All, IfOk, IfSome, IsTrue, Ok, length};
 ghost use Rattle.m_places.specs.Refusals.{Outcome};
@@ -35,22 +35,24 @@ use rule_base::RuleBase;
 use std::alloc::{AllocError, Global};
 use std::thread::Threads;
 
-/// What a source is compiled to.
+/// A compiled source.
 #[derive(Drop)]
 pub struct Compiled {
-    /// The inputs with their types, what stops and notes tell, and as outputs the notes and the names of what is asked for.
+    /// The inputs with their types; the labels, by which stops and notes are reported; and as
+    /// outputs the notes, then the names of the requested cells.
     pub face: Face,
     /// The program, in the tidy form.
     pub tidy: Tidy,
-    /// The program as register code, with a label for each of the face.
+    /// The program as register code, with one label for each of the face.
     pub code: Code,
 }
 
-/// Compiles a source, or tells the fault of its earliest step that has one: the rule files, the lines of the driver, its names,
-/// the requests, the weight.
+/// Compiles a source, or reports the fault of its earliest faulty step: rule files, driver syntax,
+/// driver names, requests, weight.
 ///
-/// For every list of values that the inputs may have by their types the program answers, read through its face, what the source
-/// says: the verifications that are noted and the values of what is asked for, or the first stop.
+/// For every list of values that the inputs may have by their types, the program's answer, read
+/// through its face, is that of the source: the verifications that are noted and the values of the
+/// requested cells, or the first stop.
 pub fn compile_with<R: Threads + Sync>(
     rt: &R,
     alloc: Global,
@@ -66,7 +68,8 @@ pub fn compile_with<R: Threads + Sync>(
     Ok(Compiled { face, tidy, code })
 }
 
-/// Compiles a source as `compile_with` does, and keeps its rules in their order, for who tells of both.
+/// Compiles a source as `compile_with` does, and also returns its rules in their order, for callers
+/// that report on both.
 pub fn compile_with_rules<R: Threads + Sync>(
     rt: &R,
     alloc: Global,
@@ -86,7 +89,7 @@ pub fn compile_with_rules<R: Threads + Sync>(
     Ok((made, compiled))
 }
 
-// What a source is compiled to over its rules in an order.
+// Compiles a source whose rules are given in an order.
 fn compiled_over(alloc: Global, source: &Source, made: &RuleBase) -> Result<Compiled, SourceFault>
     requires limits { SourceKeepsLimits source.now }
     requires rules { HasRules source.now made.now.symbols made.now.ordered.base }
@@ -102,7 +105,7 @@ fn compiled_over(alloc: Global, source: &Source, made: &RuleBase) -> Result<Comp
     Ok(Compiled { face, tidy, code })
 }
 
-// The rules of a source in an order.
+// The base of a source's rule files, in an order.
 fn rules_of<R: Threads + Sync>(
     rt: &R,
     alloc: Global,
@@ -124,7 +127,7 @@ fn rules_of<R: Threads + Sync>(
     Ok(made)
 }
 
-// The program of a source, with its face.
+// The tidy program of a source, with its face.
 fn ready<R: Threads + Sync>(
     rt: &R,
     alloc: Global,
@@ -137,7 +140,8 @@ fn ready<R: Threads + Sync>(
     program(alloc, source, &made)
 }
 
-// The code of a small program, which the face shows. Its only error is running out of memory.
+// The register code of a program, with one label for each of the face. The program is small enough,
+// so the only error is running out of memory.
 fn coded(alloc: Global, tidy: &Tidy, face: &Face) -> Result<Code, AllocError>
     requires shown { IsFaceOf face.now tidy.now }
     requires few { length face.now.labels < 2 ^ 32 }
@@ -148,7 +152,7 @@ fn coded(alloc: Global, tidy: &Tidy, face: &Face) -> Result<Code, AllocError>
     allocate(alloc, tidy, face.labels.as_slice().len() as u32)
 }
 
-// The program of what a source asks for over its rules in an order, with its face.
+// The tidy program of the requests over rules in an order, with its face.
 fn program(alloc: Global, source: &Source, made: &RuleBase) -> Result<(Tidy, Face), SourceFault>
     requires limits { SourceKeepsLimits source.now }
     requires rules { HasRules source.now made.now.symbols made.now.ordered.base }
@@ -162,7 +166,7 @@ fn program(alloc: Global, source: &Source, made: &RuleBase) -> Result<(Tidy, Fac
     faced(alloc, made, &core, requests.as_slice())
 }
 
-// What a source asks for, over what its rules declare: the driver that runs, and the cells of the requests.
+// The driver that runs, and the cells of the requests.
 fn core_and_requests(
     alloc: Global,
     source: &Source,
@@ -179,7 +183,7 @@ fn core_and_requests(
     Ok((core, requests))
 }
 
-// The driver over the cells of what is declared, if there is one.
+// The driver over the declared cells, if the source has one.
 fn written(
     alloc: Global,
     driver: &Option<Seq<u8>>,
@@ -195,7 +199,7 @@ fn written(
     }
 }
 
-// The driver of these bytes over the cells of what is declared.
+// Parses a driver and resolves its names.
 fn core_of(alloc: Global, bytes: &[u8], symbols: &Symbols) -> Result<Core, SourceFault>
     requires within { length bytes.now ≤ FILE_BYTES }
     requires placed { IsPlaced symbols.now }
@@ -206,7 +210,8 @@ fn core_of(alloc: Global, bytes: &[u8], symbols: &Symbols) -> Result<Core, Sourc
     Ok(core)
 }
 
-// The driver that runs: the one that was written, or one call of the rules. Its only error is running out of memory.
+// The driver that runs: the source's, or without one a single call of the rules. The only error is
+// running out of memory.
 fn running(
     alloc: Global,
     written: Option<Core>,

@@ -1,4 +1,4 @@
-//! What each fault of a source is told as. Nothing here takes memory.
+//! Maps each fault of a source to its message. Takes no memory.
 
 ghost use Rattle.std.specs.Prelude.{◌≡◌};
 ghost use Rattle.std.specs.Option.{option_map};
@@ -18,8 +18,8 @@ use mpp_lexer::DriverFault;
 use rule_base::RuleFault;
 use tax_print::{DriverFault as LineFault, DriverNameFault, Fault, NameFault, PlaceFault};
 
-/// What a fault of a source is told as, where these are its rule files: its line names the file, the line and the byte.
-/// Nothing is told of running out of memory.
+/// Maps a fault of a source with these rule files to its message, which names the file, the line
+/// and the byte; `None` for running out of memory.
 pub fn fault_entry<'a>(texts: &'a [Text], fault: &'a SourceFault) -> Option<Fault<'a>>
     ensures { option_map fault_line result ≡ source_line texts.now fault.now }
 {
@@ -164,28 +164,28 @@ fn requests_entry<'a>(fault: RequestFault) -> Option<Fault<'a>>
     }
 }
 
-// A fault in a line of the driver, and the name that it is about.
+// A fault in a line of the driver, with the name in question.
 fn of_name(line: u32, fault: DriverNameFault, name: &Name) -> Fault<'_>
     ensures { fault_line result ≡ driver_name_line line fault name.now }
 {
     Fault::DriverName(line, fault, name.bytes())
 }
 
-// A fault at a place in one of the files.
+// A fault at a place in a rule file.
 fn at_place(texts: &[Text], place: Place, fault: PlaceFault) -> Fault<'_>
     ensures { fault_line result ≡ place_line (file_of texts.now place) place fault }
 {
     Fault::AtPlace(file_of(texts, place), place, fault)
 }
 
-// A fault at a place in one of the files, and the name that it is about.
+// A fault at a place in a rule file, with the name in question.
 fn at_name<'a>(texts: &'a [Text], place: Place, fault: NameFault, name: &'a Name) -> Fault<'a>
     ensures { fault_line result ≡ name_line (file_of texts.now place) place fault name.now }
 {
     Fault::AtName(file_of(texts, place), place, fault, name.bytes())
 }
 
-// The name of the file that a place is in.
+// The name of the file of a place.
 fn file_of(texts: &[Text], place: Place) -> &[u8]
     ensures { result.now ≡ file_of texts.now place }
 {

@@ -1,4 +1,4 @@
-//! What a program shows of itself.
+//! Faces of programs.
 
 ghost use Rattle.std.specs.Prelude.{◌≡◌, ◌<◌, ◌++◌, [], All, IfOk, OnOk, IsTrue, is_some, length, map};
 ghost use Rattle.std.specs.List.{AllByRecursion, cons_option};
@@ -14,8 +14,9 @@ use m_symbols::{Symbols, Variable, cell_names};
 use observables::{Coded, Face, FaceLabel, FaceOutput, InputType, type_of};
 use std::alloc::{AllocError, Global};
 
-/// The face of a program with these labels over what is declared: all inputs, the labels, and first the notes, by the numbers
-/// of their labels, and then the names of the cells that are asked for. Its only error is running out of memory.
+/// The face of a program with these labels: all declared inputs; the labels; and as outputs the
+/// notes, by the numbers of their labels, then the names of the requested cells. Its only error is
+/// running out of memory.
 pub(crate) fn face_of(
     alloc: Global,
     symbols: &Symbols,
@@ -38,8 +39,8 @@ pub(crate) fn face_of(
     })
 }
 
-/// The inputs that are declared, in order: what a program over these declarations shows as its inputs. Its only error is running out
-/// of memory.
+/// The declared inputs, in order: those of the face of any program over these declarations. Its
+/// only error is running out of memory.
 pub fn inputs_of(alloc: Global, symbols: &Symbols) -> Result<Seq<Coded>, AllocError>
     ensures { IfOk result (λ inputs. inputs ≡ inputs_declared symbols.now) }
 {
@@ -65,7 +66,7 @@ fn add_input(alloc: Global, variable: &Variable, inputs: &mut Vec<Coded>) -> Res
     Ok(())
 }
 
-// The type of an input by the word after `type`: without one it may have each amount.
+// The type of an input for the word after `type`. Without the word it is any amount.
 fn type_declared(word: &Option<Name>) -> InputType
     ensures { result ≡ type_declared word.now }
 {
@@ -75,7 +76,7 @@ fn type_declared(word: &Option<Name>) -> InputType
     }
 }
 
-// The outputs: the notes, and then the names of the cells that are asked for.
+// The outputs: the notes, then the names of the requested cells.
 fn outputs_of(
     alloc: Global,
     symbols: &Symbols,
@@ -91,7 +92,7 @@ fn outputs_of(
     Ok(Seq::from_vec(outputs))
 }
 
-// An output for each note, in order.
+// One output for each note, in order.
 fn noted(alloc: Global, notes: &[u32]) -> Result<Vec<FaceOutput>, AllocError>
     ensures { IfOk result (λ outputs. outputs.items ≡ map Noted notes.now) }
 {
@@ -102,7 +103,7 @@ fn noted(alloc: Global, notes: &[u32]) -> Result<Vec<FaceOutput>, AllocError>
     Ok(outputs)
 }
 
-// Adds an output for each name, in order.
+// Adds one output for each name, in order.
 fn add_names(names: Seq<Name>, outputs: &mut Vec<FaceOutput>) -> Result<(), AllocError>
     ensures { OnOk result (outputs.new.items ≡ outputs.old.items ++ map Named names) }
 {

@@ -1,4 +1,4 @@
-//! Why a source is refused.
+//! Faults of a source.
 
 ghost use Rattle.std.specs.Prelude.{◌≡◌};
 ghost use Rattle.m_compile.specs.declared.fault.SourceFault.TheVariants.{Memory};
@@ -11,21 +11,22 @@ use mpp_lexer::DriverFault;
 use rule_base::RuleFault;
 use std::alloc::{AllocError, AllocFailed};
 
-/// Why a source is refused: the fault of the earliest step that has one. A fault of a step is never that step's running out of
-/// memory, which is the one `Memory` of this type.
+/// Why a source is rejected: the fault of its earliest faulty step. `Memory` is the only variant
+/// for running out of memory; the faults of steps inside the others are never that.
 #[derive(Drop)]
 pub enum SourceFault {
     /// The rule files have no base.
     Rules(RuleFault),
-    /// The lines of the driver spell none.
+    /// The driver doesn't parse.
     Driver(DriverFault),
-    /// A name of the driver has a fault, or its functions call each other in a ring.
+    /// A name in the driver has a fault, or its functions are recursive.
     Core(CoreFault),
-    /// A line of the requests is bad, or there are too many.
+    /// A line of the requests is bad, or there are too many requests.
     Requests(RequestFault),
-    /// The whole costs too much: its weight, or 18446744073709551615 where that is greater.
+    /// The weight of the whole exceeds the limit; a weight over 64 bits is reported as
+    /// 18446744073709551615.
     DriverTooLarge(u64),
-    /// There was no memory.
+    /// Out of memory.
     Memory,
 }
 

@@ -1,6 +1,8 @@
-//! The compiler: from a source, as bytes, to a tidy program and its register code, or the error of the earliest faulty step.
+//! The compiler: from a source, as bytes, to a tidy program and its register code, or the error of
+//! the earliest faulty step.
 //!
-//! It runs the steps in order, and maps each error to its line. It knows nothing of files on a disk, of the command line or of households.
+//! Uses the crates of the steps, which it runs in order, and maps each of their errors to its
+//! message. Knows nothing of files on a disk, of the command line or of households.
 #![tactic(auto)]
 
 mod base;

@@ -1,4 +1,4 @@
--- The lines that came, and what they say.
+-- Invariants of the reader.
 use Rattle.std.specs.Prelude.{◌≡◌, ℕ, List, [], ◌++◌, length, codes, Some, true, IsTrue}
 use Rattle.std.specs.List.{AllByRecursion}
 use Rattle.observables.specs.declared.inputs.Coded.{Coded}
@@ -18,7 +18,7 @@ use Rattle.code_file.specs.Text.{lines, slots_line, input_line, label_line, outp
 use Rattle.code_file.specs.inner.Faces.{IsRightInput, IsRightLabel, IsRightOutput}
 use Rattle.code_file.specs.Reading.{Entry, code_start, Draft, blank, AreDue, draft_of, IsEntry, IsShort, entry_line, due}
 
--- so many lines came and say this, and the rest stands after them
+-- the bytes are n valid lines, after which the state is d, and `rest`
 pub record Came (bytes : List ℕ) (d : Draft) (n : ℕ) (rest : List ℕ) : Type 0 where
   pub entries : List Entry
   pub text : bytes ≡ lines entry_line entries ++ rest
@@ -26,19 +26,19 @@ pub record Came (bytes : List ℕ) (d : Draft) (n : ℕ) (rest : List ℕ) : Typ
   pub is : draft_of entries ≡ d
   pub count : length entries ≡ n
 
--- in a face, and after `code`
+-- the state within a face, and after `code`
 abbrev pub face_so_far : ℕ → List Coded → List FaceLabel → List FaceOutput → Draft
 face_so_far slots inputs labels outputs = record { part = 2; slots = slots; inputs = inputs; labels = labels; outputs = outputs; instrs = [] }
 
 abbrev pub code_so_far : ℕ → Face → List Instr → Draft
 code_so_far slots face instrs = record { part = 3; slots = slots; inputs = face.inputs; labels = face.labels; outputs = face.outputs; instrs = instrs }
 
--- a face's text, and what stands after it
+-- the text of a face up to its outputs, followed by `rest`
 abbrev pub face_text : ℕ → List Coded → List FaceLabel → List FaceOutput → List ℕ → List ℕ
 face_text slots inputs labels outputs rest =
     codes "mcode 1\n" ++ (slots_line slots ++ (lines input_line inputs ++ (lines label_line labels ++ (lines output_line outputs ++ rest))))
 
--- a face whose words may stand in a code file
+-- a face that is valid in a code file
 pub record IsRightFace (slots : ℕ) (inputs : List Coded) (labels : List FaceLabel) (outputs : List FaceOutput) : Type 0 where
   pub slots_fit : IsShort slots
   pub right_inputs : AllByRecursion IsRightInput inputs
@@ -47,25 +47,25 @@ pub record IsRightFace (slots : ℕ) (inputs : List Coded) (labels : List FaceLa
   pub right_outputs : AllByRecursion IsRightOutput outputs
   pub first : notes_stand_first labels outputs ≡ true
 
--- the text of a face and code so far, and what stands after it
+-- the text of a face and of code so far, followed by `rest`
 abbrev pub text_so_far : ℕ → Face → List Instr → List ℕ → List ℕ
 text_so_far slots face instrs rest = face_text slots face.inputs face.labels face.outputs (codes "code\n" ++ (lines instr_line instrs ++ rest))
 
--- nothing but `code` may come next
+-- only `code` may come next
 abbrev pub EndsFace : Draft → List ℕ → Type 0
 EndsFace d rest = (entry : Entry) (behind : List ℕ) → rest ≡ entry_line entry ++ behind → IsEntry entry → IsTrue (due entry d) → entry ≡ code_start
 
--- the listing of a face's code
+-- the listing of code with this face
 abbrev pub code_with : ℕ → Face → List Instr → Listing
 code_with slots face instrs = code_of (length face.inputs) slots (length face.labels) (length face.outputs) instrs
 
--- code so far with which nothing is wrong
+-- valid code so far, and the state after its instructions
 pub record IsCodeSoFar (slots : ℕ) (face : Face) (code : Listing) : Type 0 where
   pub is : code ≡ code_with slots face code.instrs
   pub state : State
   pub read : reading code ≡ Some state
 
--- what is wrong with an instruction, as a fault of its line
+-- an invalid instruction, as a fault of its line
 abbrev pub fault_of : Wrong → ℕ → CodeFault
 fault_of Number line = BadLine line
 fault_of Order line = BadOrder line

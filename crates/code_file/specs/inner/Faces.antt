@@ -1,4 +1,4 @@
--- What the lines of a face spell, as they are read from left to right. A line is without its line feed here.
+-- The parser of the lines of a face, from left to right. Lines are without their line feed here.
 use Rattle.std.specs.Prelude.{◌≡◌, ℕ, ◌+◌, ◌-◌, ◌*◌, ◌==◌, ◌<◌, nat_lt, nat_le, Bool, true, false, ◌&&◌, ◌||◌, List, [], ◌∷◌, ◌++◌, length, codes, take}
 use Rattle.std.specs.Prelude.{slice_index_or, not, Option, Some, None, is_some, if◌then◌else◌}
 use Rattle.std.specs.Option.{option_and_then, option_map}
@@ -21,22 +21,23 @@ use Rattle.code_file.specs.Printable.{IsFreeWord, IsPrintableVerif, IsPrintableL
 use Rattle.code_file.specs.Reading.{IsFittingLabel, IsFittingOutput}
 use Rattle.code_file.specs.inner.Spelled.{cut, number, short}
 
--- ---- what is read
+-- ---- results of parsing
 
--- What a line spells, where that is right: nothing, where the line spells nothing right.
+-- the result of parsing a line: the element, if it is valid; nothing if the line denotes none that
+-- is
 abbrev pub IsRead : {X : Type 0} → (List ℕ → Option X) → (X → Type 0) → List ℕ → Option X → Type 0
 IsRead of Is line None = (x : _) → of line ≡ Some x → Is x → ⊥
 IsRead of Is line (Some x) = (of line ≡ Some x) × Is x
 
--- Nothing right whose line stands at the start of a text.
+-- no valid element has its line at the start of the text
 abbrev pub IsNoFront : {X : Type 0} → (X → List ℕ) → (X → Type 0) → List ℕ → Type 0
 IsNoFront line Is text = (x : _) (behind : List ℕ) → Is x → text ≡ line x ++ behind → ⊥
 
--- The right thing whose line stands at the start of a text, and what stands after that line.
+-- the valid element whose line is at the start of the text, and the bytes after that line
 abbrev pub IsFront : {X : Type 0} → (X → List ℕ) → (X → Type 0) → List ℕ → X → List ℕ → Type 0
 IsFront line Is text x behind = (text ≡ line x ++ behind) × Is x
 
--- an input, a label and an output whose words may stand in a code file
+-- an input, a label and an output that are valid in a code file
 abbrev pub IsRightInput : Coded → Type 0
 IsRightInput input = IsFreeWord input.code
 
@@ -51,18 +52,18 @@ IsRightOutput output = IsPrintableOutput output × IsFittingOutput output
 
 -- ---- slots and inputs
 
--- the count of slots
+-- the slot count
 abbrev pub slots_by : List ℕ × List ℕ → Option ℕ
 slots_by p = if bytes_eq p.0 (codes "slots") then short p.1 else None
 
 abbrev pub slots_of : List ℕ → Option ℕ
 slots_of line = option_and_then slots_by (cut 32 line)
 
--- the type that a word after a code says
+-- the type for the word after a code
 abbrev pub kind_named : List ℕ → Option InputType
 kind_named word = if bytes_eq word (codes "whole") then Some Whole else if bytes_eq word (codes "truth") then Some Truth else None
 
--- an input by its code and, if there is one, the word of its type
+-- an input with this code and type
 abbrev pub coded : List ℕ → InputType → Coded
 coded code kind = record { code = code; kind = kind }
 
@@ -97,7 +98,8 @@ abbrev pub error_kind : List ℕ → Option ErrorKind
 error_kind word = if bytes_eq word (codes "anomalie") then Some Anomalie else if bytes_eq word (codes "discordance") then Some Discordance else if bytes_eq word
     (codes "informative") then Some Informative else None
 
--- the words of a verification's label: its number, its error's name and kind, and the digits of its error's text
+-- the fields of a verification's label: its number, its error's name and kind, and the error's text
+-- in hexadecimal
 pub record VerifWords : Type 0 where
   pub number : List ℕ
   pub error : List ℕ
@@ -110,7 +112,7 @@ words_by number error p = option_map (λ kind. record { number = number; error =
 abbrev pub verif_words : List ℕ → Option VerifWords
 verif_words text = option_and_then (λ p. option_and_then (λ q. option_and_then (words_by p.0 q.0) (cut 32 q.1)) (cut 32 p.1)) (cut 32 text)
 
--- the label of these words with this text
+-- the label of these fields with this text
 abbrev pub label_with : VerifWords → List ℕ → Label
 label_with words text = record { verif = words.number; error = words.error; kind = words.kind; text = text }
 
@@ -124,7 +126,7 @@ abbrev pub label_kind : List ℕ × List ℕ → Option FaceLabel
 label_kind p = if bytes_eq p.0 (codes "driver") then option_map DriverLine (short p.1) else if bytes_eq p.0 (codes "verif") then option_map Verif (verif_of p.1)
     else None
 
--- what stands after `label`: a word, and what stands after that
+-- after `label`: the next word and the rest
 abbrev pub behind_label : List ℕ × List ℕ → Option (List ℕ × List ℕ)
 behind_label p = if bytes_eq p.0 (codes "label") then cut 32 p.1 else None
 
@@ -146,7 +148,7 @@ output_of line = option_and_then output_by (cut 32 line)
 abbrev pub is_no_small : ℕ → Bool
 is_no_small b = nat_lt b 97 || nat_lt 122 b
 
--- whether this stands after `[` in the name of a table's cell: `12]`
+-- whether a text can follow `[` in the name of a table's cell: `12]`
 abbrev pub index_by : Option (List ℕ × List ℕ) → Bool
 index_by None = false
 index_by (Some p) = (length p.1 == 0) && is_some (number 1024 p.0)
@@ -154,38 +156,38 @@ index_by (Some p) = (length p.1 == 0) && is_some (number 1024 p.0)
 abbrev pub is_index : List ℕ → Bool
 is_index text = index_by (cut 93 text)
 
--- ---- lines one after the other
+-- ---- runs of lines
 
--- As many lines of right things as stand at the start of a text, and what stands after them.
+-- The longest run of lines of valid elements at the start of a text, and the bytes after it.
 pub record IsRun {X : Type 0} (line : X → List ℕ) (Is : X → Type 0) (text : List ℕ) (xs : List X) (behind : List ℕ) : Type 0 where
   pub whole : text ≡ lines line xs ++ behind
   pub right : AllByRecursion Is xs
   pub ends : IsNoFront line Is behind
 
--- whether an output may stand after others of which the notes stand first, where this says whether one of them is a name
+-- whether an output may follow others; the Bool is whether one of them has a name
 abbrev pub may_follow : List FaceLabel → Bool → FaceOutput → Bool
 may_follow labels named (Named name) = true
 may_follow labels named (Noted number) = not named && is_some (verif_at labels number)
 
--- whether an output is a name
+-- whether an output has a name
 abbrev pub is_name : FaceOutput → Bool
 is_name (Named name) = true
 is_name (Noted number) = false
 
--- whether the last of some outputs is a name
+-- whether the last output has a name
 abbrev pub ends_named : List FaceOutput → Bool
 ends_named [] = false
 ends_named (output ∷ []) = is_name output
 ends_named (output ∷ next ∷ outputs) = ends_named (next ∷ outputs)
 
--- As many lines of outputs as may stand at the start of a text.
+-- The longest valid run of lines of outputs at the start of a text.
 pub record AreOutputs (labels : List FaceLabel) (text : List ℕ) (outputs : List FaceOutput) (behind : List ℕ) : Type 0 where
   pub whole : text ≡ lines output_line outputs ++ behind
   pub right : AllByRecursion IsRightOutput outputs
   pub first : notes_stand_first labels outputs ≡ true
   pub ends : IsNoFront output_line (λ output. IsRightOutput output × (notes_stand_first labels (outputs ++ output ∷ []) ≡ true)) behind
 
--- the first input whose code stands before it
+-- k is the first input whose code an earlier one has
 pub record IsAgain (codes : List (List ℕ)) (k : ℕ) : Type 0 where
   pub within : k < length codes
   pub distinct : AreDistinct (take k codes)

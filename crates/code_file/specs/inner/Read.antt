@@ -1,9 +1,9 @@
--- What is known of an instruction that was read, by the types of its numbers and of its literal.
+-- What the types guarantee about an instruction that was read.
 use Rattle.reg_machine.specs.declared.instr.Instr.{Instr}
 use Rattle.reg_machine.specs.declared.instr.Instr.TheVariants.{Take, Lit, Do, Store, Load, Check, Output}
 use Rattle.code_file.specs.Reading.{IsShort, IsLiteral}
 
--- numbers other than those of registers fit 32 bits, and a literal is an amount or none
+-- operands other than registers fit 32 bits, and a literal that is a number is an amount
 abbrev pub IsReadInstr : Instr → Type 0
 IsReadInstr (Take r n) = IsShort n
 IsReadInstr (Lit r v) = IsLiteral v

@@ -1,4 +1,4 @@
--- What a line spells, as it is read from left to right. A line is without its line feed here.
+-- The parser of lines of instructions, from left to right. Lines are without their line feed here.
 use Rattle.std.specs.Prelude.{ℕ, zero, suc, ℤ, pos, negsuc, ◌+◌, ◌-◌, ◌*◌, ◌==◌, nat_lt, Bool, true, false, ◌&&◌, List, [], ◌∷◌, length, codes, Option, Some}
 use Rattle.std.specs.Prelude.{None, if◌then◌else◌}
 use Rattle.std.specs.Option.{option_and_then, option_map}
@@ -15,34 +15,34 @@ use Rattle.reg_machine.specs.declared.instr.Instr.{Instr}
 use Rattle.reg_machine.specs.declared.instr.Instr.TheVariants.{Take, Lit, Do, Store, Load, Check, Output}
 use Rattle.code_file.specs.Text.{op_word}
 
--- a byte before the first of two parts
+-- a byte put before the first part
 abbrev pub in_front : ℕ → List ℕ × List ℕ → List ℕ × List ℕ
 in_front b parts = (b ∷ parts.0, parts.1)
 
--- what stands before the first such byte and what after it, if there is one
+-- the parts before and after the first separator, if there is one
 abbrev pub cut : ℕ → List ℕ → Option (List ℕ × List ℕ)
 cut mark [] = None
 cut mark (b ∷ bs) = if b == mark then Some ([], bs) else option_map (in_front b) (cut mark bs)
 
--- what two things make, where both are there
+-- a function of two optional values
 abbrev pub both : {A B C : Type 0} → (A → B → C) → Option A → Option B → Option C
 both f None b = None
 both f (Some a) None = None
 both f (Some a) (Some b) = Some (f a b)
 
--- the same of three
+-- a function of three optional values
 abbrev pub all_three : {A B C D : Type 0} → (A → B → C → D) → Option A → Option B → Option C → Option D
 all_three f None b c = None
 all_three f (Some a) b c = both (f a) b c
 
 -- ---- numbers
 
--- the number of these digits after those of n, where it is below a bound
+-- the number of these digits after those of n, if it is below the bound
 abbrev pub number_after : ℕ → ℕ → List ℕ → Option ℕ
 number_after below n [] = Some n
 number_after below n (b ∷ bs) = if is_digit b && nat_lt (n * 10 + (b - 48)) below then number_after below (n * 10 + (b - 48)) bs else None
 
--- the number of one digit or more without needless zeros, where it is below a bound
+-- the number of a decimal text without leading zeros, if it is below the bound
 abbrev pub number : ℕ → List ℕ → Option ℕ
 number below [] = None
 number below (b ∷ bs) = if (b == 48) && nat_lt 0 (length bs) then None else number_after below 0 (b ∷ bs)
@@ -54,12 +54,12 @@ register text = number 16 text
 abbrev pub short : List ℕ → Option ℕ
 short text = number 4_294_967_296 text
 
--- so many below zero, where they are some
+-- the negative number of this size; 0 has none
 abbrev pub below_zero : ℕ → Option ℤ
 below_zero zero = None
 below_zero (suc n) = Some (negsuc n)
 
--- whole millionths, with `-` before a negative number
+-- an amount in whole millionths, with `-` before a negative one
 abbrev pub millionths : List ℕ → Option ℤ
 millionths [] = None
 millionths (b ∷ bs) = if b == 45 then option_and_then below_zero (number (suc most) bs) else option_map pos (number (suc most) (b ∷ bs))
@@ -75,12 +75,12 @@ abbrev pub operators : List Op
 operators = Add ∷ Sub ∷ Mul ∷ Max ∷ Min ∷ Choose ∷ Div ∷ Or ∷ And ∷ Gt ∷ Ge ∷ Lt ∷ Le ∷ Eq ∷ Ne ∷ Not ∷ Neg ∷ Present ∷ Arr ∷ Inf ∷ Positive ∷ PositiveOrNull
     ∷ Null ∷ Abs ∷ TruthOf ∷ At ∷ []
 
--- the first of some operators that has this word
+-- the first of these operators with this word
 abbrev pub op_among : List Op → List ℕ → Option Op
 op_among [] word = None
 op_among (op ∷ ops) word = if bytes_eq word (op_word op) then Some op else op_among ops word
 
--- the arguments of an operator of arity n: those past it are the first
+-- the operator instruction with these arguments, for arity n; arguments past it repeat the first
 abbrev pub arguments : Op → ℕ → ℕ → List ℕ → Option Instr
 arguments op n r text =
     if n == 1
@@ -100,7 +100,7 @@ operation p = option_and_then (λ r. option_and_then (done_by r) (cut 32 p.1)) (
 abbrev pub check : Bool → List ℕ → List ℕ → Option Instr
 check over_only first text = option_and_then (λ p. all_three (λ g c label. Check g c over_only label) (register first) (register p.0) (short p.1)) (cut 32 text)
 
--- an instruction with two things after its word, or a check
+-- the instruction with this word, other than `do`
 abbrev pub plain : List ℕ → List ℕ → List ℕ → Option Instr
 plain word first second =
     if bytes_eq word (codes "in") then both Take (register first) (short second)
@@ -112,10 +112,10 @@ plain word first second =
     else if bytes_eq word (codes "co") then check true first second
     else None
 
--- the instruction of a word and what stands after it
+-- the instruction of a word and the rest of its line
 abbrev pub instr_by : List ℕ → List ℕ × List ℕ → Option Instr
 instr_by word p = if bytes_eq word (codes "do") then operation p else plain word p.0 p.1
 
--- the instruction that a line spells
+-- the instruction of a line
 abbrev pub instr_of : List ℕ → Option Instr
 instr_of line = option_and_then (λ p. option_and_then (instr_by p.0) (cut 32 p.1)) (cut 32 line)

@@ -1,4 +1,4 @@
--- Inputs whose codes and types are kept apart.
+-- Inputs as separate lists of codes and types.
 use Rattle.std.specs.Prelude.{ℕ, List, [], ◌∷◌}
 use Rattle.observables.specs.declared.inputs.Coded.{Coded}
 use Rattle.observables.specs.declared.inputs.InputType.{InputType}

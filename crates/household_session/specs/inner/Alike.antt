@@ -1,4 +1,4 @@
--- A session replies to lines that are too long alike.
+-- The reply of a session to a line that is too long doesn't depend on its bytes.
 use Rattle.std.proofs.Common.{◌≡◌, ℕ, ◌<◌, List, ◌∷◌, ◌++◌, length, refl, sym, ap, ◌∙◌}
 use Rattle.std.proofs.lemmas.Bool.{lt-leb}
 use Rattle.m_places.specs.declared.limits.TheConstants.{SESSION_LINE_BYTES}
@@ -6,7 +6,7 @@ use Rattle.household_session.specs.Commands.{too_long, session_command}
 use Rattle.household_session.specs.Replies.{command_reply, command_values, lines_replies, replies_to}
 use Rattle.household_session.specs.Sessions.{Sitting, showing_of}
 
--- what is too long asks for nothing that can be done
+-- a line that is too long is an error
 too_long_is : (bytes : List ℕ) → SESSION_LINE_BYTES < length bytes → session_command bytes ≡ too_long
 too_long_is bytes long = rw (lt-leb (length bytes) SESSION_LINE_BYTES long) refl
 

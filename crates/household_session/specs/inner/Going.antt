@@ -1,4 +1,4 @@
--- What is known of a session's loop on its way.
+-- Invariants of the loop.
 use Rattle.std.specs.Prelude.{◌≡◌, ◌⊎◌, ℕ, ◌<◌, ◌≤◌, List, ◌++◌, length, take, Option, Result, Ok, Err}
 use Rattle.std.specs.Io.KnownBytes.{prepend_known, append_known, IsAtEnd}
 use Rattle.m_ports.specs.Counts.{Rose}
@@ -9,8 +9,9 @@ use Rattle.household_session.specs.declared.pieces.TheConstants.{MOST_HELD}
 use Rattle.household_session.specs.declared.turns.ServeEnd.{ServeEnd}
 use Rattle.household_session.specs.declared.turns.ServeEnd.TheVariants.{Done, ReadFault, WriteFault, TooLong}
 
--- Some text was written, and no fault was counted. Whatever comes after, the session as it was replies to the bytes before as
--- this text and as the session as it is replies to the bytes that are left; and so with the lines that have their line feed.
+-- A text was written, without a fault. Whatever the input's further bytes, the initial session's
+-- replies to all bytes are this text, followed by the current session's replies to the bytes left;
+-- the same holds for the lines that have their line feed.
 pub record Goes {K : Type 0} (written : K → Option (List ℕ)) (faults : K → ℕ) (old now : K) (start telling : Telling) (before left : List ℕ) : Type 0 where
   pub text : List ℕ
   pub whole : (rest : List ℕ) → whole_of start (before ++ rest) ≡ text ++ whole_of telling (left ++ rest)
@@ -18,19 +19,19 @@ pub record Goes {K : Type 0} (written : K → Option (List ℕ)) (faults : K →
   pub appended : written now ≡ append_known (written old) text
   pub faultless : faults now ≡ faults old
 
--- A write failed: what was written is a prefix of this text.
+-- A write failed, and a prefix of this text was written.
 pub record BreaksOff {K : Type 0} (written : K → Option (List ℕ)) (faults : K → ℕ) (old now : K) (text : List ℕ) : Type 0 where
   pub rose : Rose (faults old) (faults now)
   pub prefix : AppendsPrefix (written old) (written now) text
 
--- the last line, without its line feed, has its reply, or its write failed
+-- the last line, without its line feed, was replied to, or its write failed
 abbrev pub Finished : {K : Type 0} (written : K → Option (List ℕ)) (faults : K → ℕ) (old now : K) (start : Telling) (held : List ℕ) → ServeEnd → Type 0
 Finished written faults old now start held Done = (written now ≡ append_known (written old) (whole_of start held)) × (faults now ≡ faults old)
 Finished written faults old now start held WriteFault = BreaksOff written faults old now (whole_of start held)
 Finished written faults old now start held ReadFault = ⊥
 Finished written faults old now start held TooLong = ⊥
 
--- A piece was taken, and the lines that it ends have their replies.
+-- A piece was read, and the lines that it completes were replied to.
 pub record Took {S K : Type 0} (left : S → Option (List ℕ)) (source_faults : S → ℕ) (written : K → Option (List ℕ)) (faults : K → ℕ)
     (source_old source_now : S) (old now : K) (start telling : Telling) (held kept : List ℕ) (most count : ℕ) : Type 0 where
   pub piece : List ℕ
@@ -42,8 +43,8 @@ pub record Took {S K : Type 0} (left : S → Option (List ℕ)) (source_faults :
   pub goes : Goes written faults old now start telling (held ++ piece) kept
   pub unended : IsUnended kept
 
--- A turn that ended the loop: the input ended or a read failed, and nothing was taken; or a write failed, after at most so many bytes were taken or at the
--- input's end.
+-- The turn ended the loop: the input ended or a read failed, and nothing was read; or a write
+-- failed, after at most `most` bytes were read or at the end of the input.
 abbrev pub Stopped : {S K : Type 0} (left : S → Option (List ℕ)) (source_faults : S → ℕ) (written : K → Option (List ℕ)) (faults : K → ℕ)
     (source_old source_now : S) (old now : K) (start : Telling) (held : List ℕ) (most : ℕ) → ServeEnd → Type 0
 Stopped left source_faults written faults source_old source_now old now start held most Done =
@@ -58,7 +59,7 @@ Stopped left source_faults written faults source_old source_now old now start he
     ⊎ ((left source_now ≡ left source_old) × IsAtEnd (left source_now) × BreaksOff written faults old now (whole_of start held)))
 Stopped left source_faults written faults source_old source_now old now start held most TooLong = ⊥
 
--- what a turn did, where the room is this then
+-- the effect of a turn, with this buffer after it
 abbrev pub Turned : {S K : Type 0} (left : S → Option (List ℕ)) (source_faults : S → ℕ) (written : K → Option (List ℕ)) (faults : K → ℕ)
     (source_old source_now : S) (old now : K) (start telling : Telling) (held room : List ℕ) (most : ℕ) → Result (ℕ × ℕ) ServeEnd → Type 0
 Turned left source_faults written faults source_old source_now old now start telling held room most (Ok r) =

@@ -1,4 +1,4 @@
--- What a worker has by which it computes rows.
+-- The state of a worker.
 use Rattle.std.specs.Prelude.{◌≡◌, ℕ, List, length, Vec}
 use Rattle.std.specs.declared.alloc.Global.{Global}
 use Rattle.m_fixed.specs.declared.amount.Value.{Value}
@@ -7,7 +7,8 @@ use Rattle.m_batch.specs.declared.room.TheConstants.{BLOCK}
 use Rattle.m_batch.specs.declared.places.Places.{Places}
 use Rattle.m_batch.specs.inner.Places.{ArePlaced, AreRows}
 
--- the inputs of the rows have places, and a block has a list of values for each row, with as many values as places
+-- the inputs of the rows have places, and a block has for each row a list with one value for each
+-- place
 pub record IsReady (inputs : ℕ) (places : Places) (block : List (Vec Value Global)) (rows : List Row) : Type 0 where
   pub placed : ArePlaced inputs places rows
   pub many : length block ≡ BLOCK

@@ -1,4 +1,4 @@
--- Runs that go on after a stop, and the rows of a room as such runs.
+-- Runs that continue after a stop, and the rows of a room as such runs.
 use Rattle.std.specs.Prelude.{◌≡◌, ℕ, ◌<◌, List, length, fold, slice_index_or, Option, None, Vec}
 use Rattle.std.specs.declared.alloc.Global.{Global}
 use Rattle.m_fixed.specs.declared.amount.Value.{Value}
@@ -12,14 +12,14 @@ use Rattle.m_batch.specs.declared.room.Room.{Room}
 use Rattle.m_batch.specs.inner.Rows.{row_at, row_inputs, row_of}
 use Rattle.m_batch.specs.inner.Rooms.{kept, check_stop}
 
--- A run that goes on after a stop: what it holds is no matter then, and the first stop is kept.
+-- A run that continues after a stop. Its values are irrelevant then; the first stop is kept.
 pub record Ran : Type 0 where
   pub registers : List Value
   pub slots : List Value
   pub outputs : List Value
   pub stop : Option Stop
 
--- where an instruction stops
+-- the stop of an instruction, if it stops
 abbrev pub stop_in : List Value → Packed → Option Stop
 stop_in registers (Take r n) = None
 stop_in registers (Lit r k) = None
@@ -29,7 +29,7 @@ stop_in registers (Load r k) = None
 stop_in registers (Check g r over_only label) = check_stop (at registers g) (at registers r) over_only label
 stop_in registers (Output k r) = None
 
--- one instruction, whether or not the run has stopped
+-- executes an instruction, whether or not the run has stopped
 abbrev pub run_on : List Value → List Value → Ran → Packed → Ran
 run_on inputs pool ran packed = record {
   registers = registers_behind inputs pool ran.registers ran.slots packed;
@@ -41,11 +41,11 @@ run_on inputs pool ran packed = record {
 abbrev pub ran_from : List Value → List Value → Ran → List Packed → Ran
 ran_from inputs pool ran packed = fold (run_on inputs pool) ran packed
 
--- the answer of a run's end
+-- the answer at the end of a run
 abbrev pub ran_answer : Ran → Answer
 ran_answer ran = answer_of ran.stop ran.outputs
 
--- what a room holds of row r
+-- the run of row r in a room
 abbrev pub ran_of : ℕ → Room → Ran
 ran_of r room = record {
   registers = row_of r room.registers.items;
@@ -54,15 +54,15 @@ ran_of r room = record {
   stop = slice_index_or room.stops.items r None;
 }
 
--- the rows of a room after an instruction are those before it, with the instruction done
+-- the rows of a room after an instruction are those before it with the instruction executed
 abbrev pub IsStep : List ℕ → List (Vec Value Global) → List Value → Packed → Room → Room → Type 0
 IsStep numbers rows pool packed old new = (r : ℕ) → r < length rows → ran_of r new ≡ run_on (row_inputs numbers (row_at rows r)) pool (ran_of r old) packed
 
--- THE INVARIANT: each row of the room is that row's run, stopped or not.
+-- The invariant: each row of the room is that row's run, stopped or not.
 abbrev pub AreRun : List ℕ → List (Vec Value Global) → List Value → List Packed → Room → Room → Type 0
 AreRun numbers rows pool packed old new = (r : ℕ) → r < length rows → ran_of r new ≡ ran_from (row_inputs numbers (row_at rows r)) pool (ran_of r old) packed
 
--- the same of the answers, which is all that is known where the instructions weren't run to their end
+-- the same for answers alone, which holds also if the instructions weren't all executed
 abbrev pub AreAnswered : List ℕ → List (Vec Value Global) → List Value → List Packed → Room → Room → Type 0
 AreAnswered numbers rows pool packed old new = (r : ℕ) → r < length rows
     → ran_answer (ran_of r new) ≡ ran_answer (ran_from (row_inputs numbers (row_at rows r)) pool (ran_of r old) packed)

@@ -1,4 +1,4 @@
--- Columns: for each register, slot and output its values in the rows of a block.
+-- Columns: the values of a register, slot or output in the rows of a block.
 use Rattle.std.specs.Prelude.{◌≡◌, ℕ, ◌<◌, ◌≤◌, Bool, List, length, slice_index_or, Vec, Option, Some, None, if◌then◌else◌}
 use Rattle.std.specs.declared.alloc.Global.{Global}
 use Rattle.m_fixed.specs.declared.amount.Value.{Value}
@@ -8,7 +8,7 @@ use Rattle.reg_machine.specs.declared.instr.TheConstants.{REGISTERS}
 use Rattle.m_batch.specs.declared.room.TheConstants.{BLOCK}
 use Rattle.m_batch.specs.declared.room.Room.{Room}
 
--- each column has room for a block
+-- each column has a value for each row of a block
 abbrev pub AreWide : List (Vec Value Global) → Type 0
 AreWide columns = (k : ℕ) (d : Vec Value Global) → k < length columns → BLOCK ≤ length (slice_index_or columns k d).items
 
@@ -28,6 +28,6 @@ abbrev pub kept : Option Stop → Option Stop → Option Stop
 kept (Some stop) later = Some stop
 kept None later = later
 
--- the stop of a check with these values of its guard and condition
+-- the stop of a check for these values of its guard and condition
 unfoldable pub check_stop : Value → Value → Bool → ℕ → Option Stop
 check_stop guard condition over_only label = if is_one guard then stop_of over_only label condition else None

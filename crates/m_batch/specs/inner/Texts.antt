@@ -1,4 +1,4 @@
--- What a worker has printed.
+-- The printed text of a worker.
 use Rattle.std.specs.Prelude.{◌≡◌, ℕ, List, Option, IfSome}
 use Rattle.household.specs.declared.table.Row.{Row}
 use Rattle.observables.specs.declared.answer.Answer.{Answer}
@@ -7,12 +7,12 @@ use Rattle.m_batch.specs.Batch.{answers_of}
 use Rattle.m_batch.specs.Printing.{counted_to_end, printed_count, printed_text}
 use Rattle.m_batch.specs.declared.texts.PartText.{PartText}
 
--- a text that holds what is printed of rows with these answers, and how much is counted of them
+-- the text of rows with these answers, and their count
 pub record IsTextOf (text : ℕ → Row → Answer → List ℕ) (count : ℕ → Row → Answer → ℕ) (at : ℕ) (rows : List Row) (answers : List Answer)
     (made : PartText) : Type 0 where
   pub text_is : made.text.bytes ≡ printed_text text at rows answers
   pub count_is : made.count ≡ counted_to_end (printed_count count at rows answers)
 
--- the same of the answers of code, where there is such a text
+-- the same for the answers of code, if there is such a text
 abbrev pub MayBeTextOf : (ℕ → Row → Answer → List ℕ) → (ℕ → Row → Answer → ℕ) → Listing → ℕ → List Row → Option PartText → Type 0
 MayBeTextOf text count code at rows made = IfSome made (IsTextOf text count at rows (answers_of code rows))

@@ -1,4 +1,4 @@
--- Codes of inputs: they are free words, and no two are equal.
+-- Codes of inputs are distinct free words.
 use Rattle.std.proofs.Common.{◌≡◌, ◌<◌, ℕ, zero, suc, true, false, List, [], ◌∷◌, length, get_or, refl, sym, ap, ◌∙◌, arith}
 use mathlib.Core.Bool.{◌||◌}
 use Rattle.std.specs.List.{AllByRecursion}
@@ -13,7 +13,7 @@ use Rattle.m_compile.proofs.words.Declared.{IsGood, all_filtered}
 pub codes_free : (vs : List Variable) → AllByRecursion (λ (v : Variable). IsGood v.item) vs → AllByRecursion IsFreeWord (codes_of vs)
 codes_free vs a = all_filtered code_of (λ (v : Variable). IsGood v.item) IsFreeWord (λ v h. h.0.1) vs a
 
--- a name that stands at a place is there
+-- a name at a position is a member
 there : (n : List ℕ) (ns : List (List ℕ)) (i : ℕ) → i < length ns → n ≡ get_or ns i [] → has n ns ≡ true
 there n [] i h e = absurd (omega (arith, h))
 there n (m ∷ ns) zero h e = ap (λ x. bytes_eq n x || has n ns) (sym e) ∙ ap (λ b. b || has n ns) (itself n)

@@ -1,4 +1,4 @@
--- Words of what is declared, and sizes of tables.
+-- Words of declarations, and sizes of tables.
 use Rattle.std.proofs.Common.{◌≡◌, ◌≤◌, ℕ, ◌+◌, Bool, true, false, cond, List, [], ◌∷◌, ◌++◌, Option, Some, None, refl}
 use Rattle.std.specs.Prelude.{IfSome, nat_lt, ◌==◌}
 use Rattle.std.specs.List.{AllByRecursion, filter_map, cons_option}
@@ -34,7 +34,7 @@ both_all P Q (x ∷ xs) h k = ((h.0, k.0), both_all P Q xs h.1 k.1)
 
 -- ---- sizes
 
--- a table has few cells
+-- the size of a table is within the limit
 abbrev pub IsSmallTable : VariableItem → Type 0
 IsSmallTable v = IfSome (variable_size v) (λ size. size ≤ TABLE_CELLS)
 
@@ -75,7 +75,7 @@ items_small earlier (i ∷ later) e =
 
 -- ---- variables and errors
 
--- what is known of a declaration
+-- the properties of a declaration
 abbrev pub IsGood : VariableItem → Type 0
 IsGood v = IsWordedVariable v × IsSmallTable v
 

@@ -30,7 +30,7 @@ use Rattle.m_compile.proofs.words.Names.{cell_named}
 use Rattle.m_compile.proofs.words.Requested.{requests_known}
 use Rattle.m_compile.proofs.words.Labels.{all_numbered, base_printable}
 
--- ---- labels: those of the base, and lines after them
+-- ---- labels: those of the base, then those of driver lines
 
 of_base : (labels : List Label) → AllByRecursion IsPrintableVerif labels → AllByRecursion IsPrintableLabel (map Verif labels)
 of_base [] a = tt
@@ -63,7 +63,7 @@ cells_all : (declared : Declared) (cells : List ℕ) (most : ℕ) → ((c : ℕ)
 cells_all declared [] most h a = tt
 cells_all declared (c ∷ cells) most h a = (h c a.0, cells_all declared cells most h a.1)
 
--- ---- the whole
+-- ---- all together
 
 pub printable_face : (texts : List Text) (application : List ℕ) (given : Option (List ℕ)) (declared : Declared) (base : Base) (requests : List ℕ) (face : Face)
     → IsBaseOf texts application declared base → parsed_requests given declared ≡ Ok requests

@@ -1,4 +1,4 @@
--- Words of items, as their tokens spell them.
+-- Words of items, by the spellings of their tokens.
 use Rattle.std.proofs.Common.{ℕ, List, [], ◌∷◌, ◌++◌, length}
 use Rattle.std.specs.Prelude.{IfSome}
 use Rattle.std.specs.List.{AllByRecursion}
@@ -23,8 +23,8 @@ use Rattle.rule_base.specs.Files.{SayAll, no_files, a_file}
 use Rattle.code_file.specs.Printable.{IsFreeWord, IsPlainName}
 use Rattle.m_compile.proofs.words.Tokens.{AreSpelled, lexed_spelled, behind_spelled, word_free, name_plain, IsWholeNumber, whole_number}
 
--- what is known of an item by its tokens: names are plain, codes are free words, a verification has a number of few digits, and an error
--- has four or five texts
+-- the words of an item: names are plain, codes are free words, a verification has a number of at
+-- most nine digits, and an error has four or five texts
 abbrev pub IsWordedVariable : VariableItem → Type 0
 IsWordedVariable v = IsPlainName v.name × IfSome (variable_code v) IsFreeWord
 
@@ -38,7 +38,7 @@ IsWorded (Verif v) = IsWholeNumber v.number
 IsWorded (Error e) = IsWordedError e
 IsWorded (Silent p) = Unit {0}
 
--- attributes, which may be none
+-- optional attributes
 chain_behind : {xs : List Attribute} {ts mid rest : List Token} → Behind mid ts → Chain a_word attribute SpellsNumber xs mid rest → Behind rest ts
 chain_behind b ended = b
 chain_behind b (further o d c) = chain_behind (number_on (skip b) d) c

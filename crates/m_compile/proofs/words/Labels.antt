@@ -1,4 +1,5 @@
--- Labels of a base: a number of few digits, an error with a plain name, and a text that isn't empty.
+-- Labels of a base: a number of at most nine digits, an error with a plain name, and a text that
+-- isn't empty.
 use Rattle.std.proofs.Common.{◌≡◌, ◌≢◌, ◌≤◌, ℕ, zero, suc, Bool, true, false, cond, List, [], ◌∷◌, ◌++◌, map, filter, length, Option, Some, None, Ok, inl, inr}
 use Rattle.std.proofs.Common.{refl, subst, arith, slice_get}
 use Rattle.std.specs.List.{AllByRecursion, flat_map}

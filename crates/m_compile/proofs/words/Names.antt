@@ -1,4 +1,4 @@
--- Names of cells: each is a plain name, or one with the number of a table's cell.
+-- Names of cells: each is a plain name, or one with an index.
 use Rattle.std.proofs.Common.{◌≡◌, ◌≤◌, ◌<◌, ◌+◌, ◌-◌, ℕ, zero, suc, Bool, true, false, nat_lt, List, [], ◌∷◌, ◌++◌, length, get_or, Option, Some, None, refl}
 use Rattle.std.proofs.Common.{inl, inr, sym, ap, ◌∙◌, subst, arith, slice_get, replicate, length-append}
 use Rattle.std.specs.Prelude.{IfSome}
@@ -21,7 +21,7 @@ text_named : (size : Option ℕ) (name : List ℕ) (k cells : ℕ) → IsPlainNa
 text_named None name k cells p s e h = inl p
 text_named (Some size) name k cells p s e h = inr (name, k, p, omega (arith, s, e, h), refl)
 
--- ---- cells of the first variable, and those after
+-- ---- cells of the first variable, and of the others
 
 pub get_more : (n number : ℕ) (rest : List ℕ) (i : ℕ) → i < n → get_or (replicate n number ++ rest) i 0 ≡ number
 get_more zero number rest i h = absurd (omega (arith, h))
@@ -34,7 +34,8 @@ get_behind (suc n) number rest zero h = absurd (omega (arith, h))
 get_behind (suc n) number rest (suc i) h = let e : i - n ≡ suc i - suc n = omega (arith, h) in get_behind n number rest i (omega (arith, h))
     ∙ ap (λ k. get_or rest k 0) e
 
--- what a cell's variable is, where the first has the number `number` and its first cell is `first`
+-- the variable of a cell, where the first variable has the number `number` and its first cell is
+-- `first`
 record Owned (vs : List Variable) (number first cell : ℕ) : Type 0 where
   pub number_on : number ≤ get_or (owners_from number vs) cell 0
   pub named : IsCellName (option_map_or (printed_cell (first + cell)) (slice_get vs (get_or (owners_from number vs) cell 0 - number)) [])
@@ -82,7 +83,7 @@ owned (v ∷ items) first number cell a h =
     by first number cell v rest (nat_lt cell (variable_cells v)) refl a.0
     (λ low. owned items (first + variable_cells v) (number + 1) (cell - variable_cells v) a.1 (omega (arith, h, n, r, low)))
 
--- the name of a cell of what is declared
+-- the name of a declared cell
 pub cell_named : (items : List VariableItem) (declared : Declared) (cell : ℕ) → declared.variables ≡ placed_from 0 items → AllByRecursion IsGood items
     → cell < length (owners_from 0 declared.variables) → IsCellName (cell_name declared cell)
 cell_named items declared cell e a h =

@@ -1,4 +1,4 @@
--- The cells that are asked for are cells of what is declared.
+-- The requested cells are declared ones.
 use Rattle.std.proofs.Common.{◌≡◌, ◌≤◌, ◌<◌, ◌+◌, ◌==◌, ℕ, zero, suc, Bool, true, false, cond, nat_lt, List, [], ◌∷◌, ◌++◌, length, Option, Some, None, Result}
 use Rattle.std.proofs.Common.{Ok, Err, refl, subst, arith, slice_get}
 use Rattle.std.specs.Prelude.{IfSome, codes}
@@ -60,7 +60,7 @@ lines_known declared number before cells (line ∷ lines) p b e =
     by declared number before cells lines (request_cell declared line) (length line == 0) (request_known declared line p) b
     (λ more m g. lines_known declared (number + 1) more cells lines p m g) e
 
--- ---- what rules give back
+-- ---- the cells that rules return
 
 range_known : (first n most : ℕ) → first + n ≤ most → AllByRecursion (λ c. c < most) (range_with_len first n)
 range_known first zero most h = tt

@@ -1,4 +1,4 @@
--- Words of tokens: they are free, and a name has no small letter.
+-- Words of tokens are free, and a name has no letter from a to z.
 use Rattle.std.proofs.Common.{◌≡◌, ◌≤◌, ◌<◌, ℕ, Bool, true, false, cond, nat_lt, nat_le, List, [], ◌∷◌, length, Some, None, refl, inl, inr, subst, arith}
 use mathlib.Core.Bool.{◌||◌, ◌&&◌}
 use Rattle.std.specs.List.{AllByRecursion, list_all}
@@ -19,7 +19,7 @@ use Rattle.code_file.specs.Printable.{IsFreeWord, IsPlainName, IsNoSmallLetter}
 
 -- ---- tokens
 
--- what is known of a token by its spelling
+-- the properties of a token's spelling
 abbrev pub IsSpelled : Kind → Type 0
 IsSpelled (Word w) = IsFreeWord w
 IsSpelled (Number z n) = Unit {0}
@@ -27,7 +27,7 @@ IsSpelled (Text inside) = Unit {0}
 IsSpelled (Key k) = Unit {0}
 IsSpelled (Sign s) = Unit {0}
 
--- something is known of the kind of each token
+-- a property of the kind of each token
 abbrev pub EachKind : (Kind → Type 0) → List Token → Type 0
 EachKind P tokens = AllByRecursion (λ t. P t.kind) tokens
 

@@ -1,4 +1,4 @@
--- The last steps by themselves: from rules in an order and what is asked for to a program with its face.
+-- The last steps alone: from rules in an order and requests to a program with its face.
 use Rattle.std.specs.Prelude.{◌≡◌, ℕ, ◌+◌, ◌<◌, ◌≤◌, ◌^◌, List, Option, length, map, take, drop, Some, Ok, Err}
 use Rattle.std.specs.List.{AllByRecursion}
 use Rattle.m_places.specs.declared.limits.TheConstants.{DRIVER_WEIGHT, REQUESTS}
@@ -37,26 +37,26 @@ use Rattle.m_compile.specs.Sources.{IsWritten, running}
 use Rattle.m_compile.specs.Faults.{observation_weight}
 use Rattle.m_compile.specs.Compiled.{IsCompiled, IsRunnable}
 
--- Why a driver is refused over what is declared: its lines, or else its names. Where there is none there is no fault.
+-- The fault of a driver over declarations: one of syntax, or else of names. No driver has no fault.
 pub data IsDriverFault (declared : Declared) : Option (List ℕ) → SourceFault → Type 0 where
   of_lines : {bytes : List ℕ} {fault : DriverFault} → IsFault bytes fault → IsDriverFault declared (Some bytes) (DriverIs fault)
   of_names : {bytes : List ℕ} {fault : CoreFault} (driver : Driver) → IsDriver bytes driver → IsCoreFault driver declared fault
       → IsDriverFault declared (Some bytes) (CoreIs fault)
 
--- what a source asks for, over what its rules declare: this driver runs, and these cells are asked for
+-- over these declarations this driver runs, and these cells are requested
 pub record AreRequests (declared : Declared) (source : Source) (core : Core) (requests : List ℕ) : Type 0 where
   pub written : Option Core
   pub driven : IsWritten declared source.driver written
   pub requested : parsed_requests source.requests declared ≡ Ok requests
   pub runs : core ≡ running written requests declared
 
--- Why that can't be told: the fault of the driver, or else that of the requests.
+-- The fault of a source's driver, or else that of its requests.
 pub data IsRequestsFault (declared : Declared) (source : Source) : SourceFault → Type 0 where
   in_driver : {fault : SourceFault} → IsDriverFault declared source.driver fault → IsRequestsFault declared source fault
   in_requests : {written : Option Core} {fault : RequestFault} → IsWritten declared source.driver written → parsed_requests source.requests declared ≡ Err fault
       → IsRequestsFault declared source (Requests fault)
 
--- what a driver over rules in an order is compiled to, where these cells are asked for
+-- the program of a driver over rules in an order, for these requested cells
 pub record IsProgram (declared : Declared) (base : Base) (core : Core) (requests : List ℕ) (flat : Flat) (face : Face) : Type 0 where
   pub light : weight_of core base ≤ DRIVER_WEIGHT
   pub valid : IsFlat flat
@@ -78,13 +78,14 @@ pub record IsProgram (declared : Declared) (base : Base) (core : Core) (requests
 abbrev pub compiled_of : Flat → Face → Listing → Compiled
 compiled_of flat face code = record { face = face; tidy = flat; code = code }
 
--- What a source is compiled to, but for code: with any code of the program it is all, and there is such code, since the program is small.
+-- A compiled source without its code. Any code of the program completes it, and there is such code,
+-- since the program is small enough.
 pub record IsReady (source : Source) (flat : Flat) (face : Face) : Type 0 where
   pub few_labels : length face.labels < 2 ^ 32
   pub small : IsSmall flat (length face.labels)
   pub runnable : IsRunnable face flat
   pub compiled : (code : Listing) → IsAllocation flat (length face.labels) code → IsCompiled source (compiled_of flat face code)
 
--- a driver that costs too much
+-- a driver whose weight exceeds the limit
 pub data IsHeavy (core : Core) (base : Base) : SourceFault → Type 0 where
   heavy : DRIVER_WEIGHT < weight_of core base → IsHeavy core base (DriverTooLarge (observation_weight core base))

@@ -1,4 +1,4 @@
--- The fault of a source that the fault of a step is: the step's running out of memory is the one of all.
+-- The fault of a source for the fault of a step. A step's running out of memory becomes `Memory`.
 use Rattle.rule_base.specs.declared.fault.RuleFault.{RuleFault}
 use Rattle.rule_base.specs.declared.fault.RuleFault.TheVariants as rules
 use Rattle.m_symbols.specs.declared.request_fault.RequestFault.{RequestFault}
