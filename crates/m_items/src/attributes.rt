@@ -3,7 +3,7 @@ ghost use Rattle.std.specs.Prelude.{◌≡◌, ◌<◌, ◌≤◌, ◌∷◌, []
 ghost use Rattle.m_items.specs.DeclarationGrammar.{word_without, pair_with};
 ghost use Rattle.m_items.specs.inner.DeclarationReading.{GivesBy, amount_at, number_at, lists, lists_at, with_one_more};
 
-use crate::cursor::Cursor;
+use crate::cursor::ItemCursor;
 use crate::item_fault::ItemFault;
 use m_fixed::Amount;
 use m_lexer::Sign;
@@ -43,7 +43,7 @@ fn negated(amount: Amount) -> Amount
 
 /// [ "-" ] NUMBER
 #[tactic(auto, unfolding(crate::specs::inner::DeclarationReading::amount_at))]
-pub fn take_signed(cursor: &mut Cursor<'_>) -> Option<Amount>
+pub fn take_signed(cursor: &mut ItemCursor<'_>) -> Option<Amount>
     ensures reads { MatchOption result (amount_at cursor.old ≡ None) (λ z. amount_at cursor.old ≡ Some (z, cursor.new)) }
     ensures shorter { OnSome result (length cursor.new < length cursor.old) }
 {
@@ -56,7 +56,7 @@ pub fn take_signed(cursor: &mut Cursor<'_>) -> Option<Amount>
 
 // [ "=" [ "-" ] NUMBER ]
 #[tactic(auto, unfolding(crate::specs::inner::DeclarationReading::number_at))]
-fn take_number(cursor: &mut Cursor<'_>) -> Option<Option<Amount>>
+fn take_number(cursor: &mut ItemCursor<'_>) -> Option<Option<Amount>>
     ensures reads { MatchOption result (number_at cursor.old ≡ None) (λ z. number_at cursor.old ≡ Some (z, cursor.new)) }
     ensures no_longer { OnSome result (length cursor.new ≤ length cursor.old) }
 {
@@ -68,7 +68,7 @@ fn take_number(cursor: &mut Cursor<'_>) -> Option<Option<Amount>>
 }
 
 /// { WORD [ "=" [ "-" ] NUMBER ] }
-pub fn read_attributes(alloc: Global, cursor: &mut Cursor<'_>) -> Result<AttributeLists, ItemFault>
+pub fn read_attributes(alloc: Global, cursor: &mut ItemCursor<'_>) -> Result<AttributeLists, ItemFault>
     ensures reads { GivesBy lists result (lists_at cursor.old) cursor.new }
     ensures no_longer { OnOk result (length cursor.new ≤ length cursor.old) }
 {

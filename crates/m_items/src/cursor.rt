@@ -20,11 +20,11 @@ use std::marker::Model;
 /// Each `take_` takes the next token if it is of its kind, and otherwise leaves the cursor
 /// unchanged.
 #[derive(Drop)]
-pub struct Cursor<'a> {
+pub struct ItemCursor<'a> {
     left: &'a [Token],
 }
 
-impl<'a> Model for Cursor<'a> {
+impl<'a> Model for ItemCursor<'a> {
     ghost use Rattle.std.specs.Prelude.{List};
     ghost use Rattle.m_lexer.specs.declared.token.Token.{Token};
 
@@ -33,12 +33,12 @@ impl<'a> Model for Cursor<'a> {
     ghost view = { λ c. c.left.now };
 }
 
-impl<'a> Cursor<'a> {
+impl<'a> ItemCursor<'a> {
     /// A cursor before the first of these tokens.
-    pub fn new(tokens: &'a [Token]) -> Cursor<'a>
+    pub fn new(tokens: &'a [Token]) -> ItemCursor<'a>
         ensures { result ≡ tokens.now }
     {
-        Cursor { left: tokens }
+        ItemCursor { left: tokens }
     }
 
     /// The number of remaining tokens.
@@ -48,7 +48,7 @@ impl<'a> Cursor<'a> {
         self.left.len()
     }
 
-    /// The remaining tokens. `Cursor::new` of them is a second cursor at the same position.
+    /// The remaining tokens. `ItemCursor::new` of them is a second cursor at the same position.
     pub fn left(&self) -> &'a [Token]
         ensures { result.now ≡ self.now }
     {

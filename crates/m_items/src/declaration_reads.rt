@@ -4,7 +4,7 @@ ghost use Rattle.m_places.specs.Refusals.{Outcome};
 ghost use Rattle.m_items.specs.declared.item_fault.ItemFault.TheVariants.{Memory};
 ghost use Rattle.m_items.specs.Standing.{DeclarationAt, NoDeclaration, ApplicationsStand, NoApplications};
 
-use crate::cursor::Cursor;
+use crate::cursor::ItemCursor;
 use crate::declarations::declaration;
 use crate::item_fault::ItemFault;
 use crate::lists::applications;
@@ -21,7 +21,7 @@ use std::alloc::Global;
 pub fn read_declaration(alloc: Global, tokens: &[Token]) -> Result<(Item, usize), ItemFault>
     ensures outcome { Outcome Memory result (λ read. DeclarationAt tokens.now read.0 read.1) (λ fault. NoDeclaration tokens.now) }
 {
-    let mut cursor = Cursor::new(tokens);
+    let mut cursor = ItemCursor::new(tokens);
     let item = declaration(alloc, &mut cursor)?;
     Ok((item, tokens.len() - cursor.len()))
 }
@@ -35,7 +35,7 @@ pub fn read_declaration(alloc: Global, tokens: &[Token]) -> Result<(Item, usize)
 pub fn read_applications(alloc: Global, tokens: &[Token]) -> Result<(Seq<Name>, usize), ItemFault>
     ensures outcome { Outcome Memory result (λ read. ApplicationsStand tokens.now read.0 read.1) (λ fault. NoApplications tokens.now) }
 {
-    let mut cursor = Cursor::new(tokens);
+    let mut cursor = ItemCursor::new(tokens);
     let names = applications(alloc, &mut cursor)?;
     if cursor.is_at_sign(Sign::Comma) {
         return Err(ItemFault::NoItem);

@@ -2,7 +2,7 @@
 ghost use Rattle.std.specs.Prelude.{◌≡◌, ◌<◌, length, OnOk};
 ghost use Rattle.m_items.specs.inner.DeclarationReading.{Gives, application_at, chaining_at, named_at, declared_at, declaration_at};
 
-use crate::cursor::Cursor;
+use crate::cursor::ItemCursor;
 use crate::error::read_error;
 use crate::item_fault::ItemFault;
 use crate::lists::applications;
@@ -14,7 +14,7 @@ use std::alloc::Global;
 
 // WORD ";"
 #[tactic(auto, unfolding(crate::specs::inner::DeclarationReading::application_at))]
-fn read_application(cursor: &mut Cursor<'_>, place: Place) -> Result<Item, ItemFault>
+fn read_application(cursor: &mut ItemCursor<'_>, place: Place) -> Result<Item, ItemFault>
     ensures reads { Gives result (application_at place cursor.old) cursor.new }
     ensures shorter { OnOk result (length cursor.new < length cursor.old) }
 {
@@ -29,7 +29,7 @@ fn read_application(cursor: &mut Cursor<'_>, place: Place) -> Result<Item, ItemF
 
 // WORD apps ";"
 #[tactic(auto, unfolding(crate::specs::inner::DeclarationReading::chaining_at))]
-fn read_chaining(alloc: Global, cursor: &mut Cursor<'_>, place: Place) -> Result<Item, ItemFault>
+fn read_chaining(alloc: Global, cursor: &mut ItemCursor<'_>, place: Place) -> Result<Item, ItemFault>
     ensures reads { Gives result (chaining_at place cursor.old) cursor.new }
     ensures shorter { OnOk result (length cursor.new < length cursor.old) }
 {
@@ -47,7 +47,7 @@ fn read_chaining(alloc: Global, cursor: &mut Cursor<'_>, place: Place) -> Result
 #[tactic(auto, unfolding(crate::specs::inner::DeclarationReading::named_at))]
 fn read_named(
     alloc: Global,
-    cursor: &mut Cursor<'_>,
+    cursor: &mut ItemCursor<'_>,
     name: &Name,
     place: Place,
 ) -> Result<Item, ItemFault>
@@ -68,7 +68,7 @@ fn read_named(
 
 // A variable or an error.
 #[tactic(auto, unfolding(crate::specs::inner::DeclarationReading::declared_at))]
-fn read_declared(alloc: Global, cursor: &mut Cursor<'_>) -> Result<Item, ItemFault>
+fn read_declared(alloc: Global, cursor: &mut ItemCursor<'_>) -> Result<Item, ItemFault>
     ensures reads { Gives result (declared_at cursor.old) cursor.new }
     ensures shorter { OnOk result (length cursor.new < length cursor.old) }
 {
@@ -84,7 +84,7 @@ fn read_declared(alloc: Global, cursor: &mut Cursor<'_>) -> Result<Item, ItemFau
 /// A variable, an error, or an `application` or `enchaineur` item. After an error the position of
 /// the cursor is unspecified.
 #[tactic(auto, unfolding(crate::specs::inner::DeclarationReading::declaration_at))]
-pub fn declaration(alloc: Global, cursor: &mut Cursor<'_>) -> Result<Item, ItemFault>
+pub fn declaration(alloc: Global, cursor: &mut ItemCursor<'_>) -> Result<Item, ItemFault>
     ensures reads { Gives result (declaration_at cursor.old) cursor.new }
     ensures shorter { OnOk result (length cursor.new < length cursor.old) }
 {

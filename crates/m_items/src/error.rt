@@ -2,7 +2,7 @@
 ghost use Rattle.std.specs.Prelude.{◌≡◌, ◌<◌, length, OnOk};
 ghost use Rattle.m_items.specs.inner.DeclarationReading.{Gives, is_four_or_five, error_at};
 
-use crate::cursor::Cursor;
+use crate::cursor::ItemCursor;
 use crate::item_fault::ItemFault;
 use crate::lists::{Listed, read_list};
 use m_ast::{ErrorItem, Item};
@@ -22,7 +22,7 @@ fn is_four_or_five(count: usize) -> bool
 #[tactic(auto, unfolding(crate::specs::inner::DeclarationReading::error_at))]
 pub fn read_error(
     alloc: Global,
-    cursor: &mut Cursor<'_>,
+    cursor: &mut ItemCursor<'_>,
     name: &Name,
     place: Place,
     kind: ErrorKind,

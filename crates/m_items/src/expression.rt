@@ -3,7 +3,7 @@ ghost use Rattle.std.specs.Prelude.{◌≡◌, ◌<◌, length, OnOk};
 ghost use Rattle.m_items.specs.inner.DeclarationReading.{Gives};
 ghost use Rattle.m_items.specs.inner.RuleReading.{item_fault_of, term_at, headed_at};
 
-use crate::cursor::Cursor;
+use crate::cursor::ItemCursor;
 use crate::item_fault::ItemFault;
 use m_ast::{Header, Term};
 use m_terms::{TermFault, read_header, read_term};
@@ -19,7 +19,7 @@ fn item_fault(fault: TermFault) -> ItemFault
 }
 
 /// A term that is followed by a token that may follow one.
-pub fn term(alloc: Global, cursor: &mut Cursor<'_>) -> Result<Term, ItemFault>
+pub fn term(alloc: Global, cursor: &mut ItemCursor<'_>) -> Result<Term, ItemFault>
     ensures reads { Gives result (term_at cursor.old) cursor.new }
     ensures shorter { OnOk result (length cursor.new < length cursor.old) }
 {
@@ -33,7 +33,7 @@ pub fn term(alloc: Global, cursor: &mut Cursor<'_>) -> Result<Term, ItemFault>
 }
 
 /// A header that is followed by a colon.
-pub fn header(alloc: Global, cursor: &mut Cursor<'_>) -> Result<Header, ItemFault>
+pub fn header(alloc: Global, cursor: &mut ItemCursor<'_>) -> Result<Header, ItemFault>
     ensures reads { Gives result (headed_at cursor.old) cursor.new }
     ensures shorter { OnOk result (length cursor.new < length cursor.old) }
 {

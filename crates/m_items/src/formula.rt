@@ -3,7 +3,7 @@ ghost use Rattle.std.specs.Prelude.{◌≡◌, ◌<◌, ◌≤◌, [], ◌∷◌
 ghost use Rattle.m_items.specs.inner.DeclarationReading.{Gives, GivesBy};
 ghost use Rattle.m_items.specs.inner.RuleReading.{GivesOne, loop_at, loops_at, index_at, slot_at, set_at, formula_at, one_or_more_at};
 
-use crate::cursor::Cursor;
+use crate::cursor::ItemCursor;
 use crate::expression::{header, term};
 use crate::item_fault::ItemFault;
 use crate::whole::whole_value;
@@ -14,7 +14,7 @@ use std::alloc::{AllocError, Global};
 
 // header ":"
 #[tactic(auto, unfolding(crate::specs::inner::RuleReading::loop_at))]
-fn read_loop(alloc: Global, cursor: &mut Cursor<'_>) -> Result<Header, ItemFault>
+fn read_loop(alloc: Global, cursor: &mut ItemCursor<'_>) -> Result<Header, ItemFault>
     ensures reads { Gives result (loop_at cursor.old) cursor.new }
     ensures shorter { OnOk result (length cursor.new < length cursor.old) }
 {
@@ -26,7 +26,7 @@ fn read_loop(alloc: Global, cursor: &mut Cursor<'_>) -> Result<Header, ItemFault
 }
 
 // { "pour" header ":" }
-fn read_loops(alloc: Global, cursor: &mut Cursor<'_>) -> Result<Vec<Header>, ItemFault>
+fn read_loops(alloc: Global, cursor: &mut ItemCursor<'_>) -> Result<Vec<Header>, ItemFault>
     ensures reads { GivesBy (λ v. v.items) result (loops_at cursor.old) cursor.new }
     ensures shorter { OnOk result (length cursor.new ≤ length cursor.old) }
 {
@@ -40,7 +40,7 @@ fn read_loops(alloc: Global, cursor: &mut Cursor<'_>) -> Result<Vec<Header>, Ite
 
 // "X" | WHOLE
 #[tactic(auto, unfolding(crate::specs::inner::RuleReading::index_at))]
-fn take_index(cursor: &mut Cursor<'_>) -> Result<Slot, ItemFault>
+fn take_index(cursor: &mut ItemCursor<'_>) -> Result<Slot, ItemFault>
     ensures reads { Gives result (index_at cursor.old) cursor.new }
     ensures shorter { OnOk result (length cursor.new < length cursor.old) }
 {
@@ -55,7 +55,7 @@ fn take_index(cursor: &mut Cursor<'_>) -> Result<Slot, ItemFault>
 
 // [ "[" ( "X" | WHOLE ) "]" ]
 #[tactic(auto, unfolding(crate::specs::inner::RuleReading::slot_at))]
-fn take_slot(cursor: &mut Cursor<'_>) -> Result<Slot, ItemFault>
+fn take_slot(cursor: &mut ItemCursor<'_>) -> Result<Slot, ItemFault>
     ensures reads { Gives result (slot_at cursor.old) cursor.new }
     ensures shorter { OnOk result (length cursor.new ≤ length cursor.old) }
 {
@@ -71,7 +71,7 @@ fn take_slot(cursor: &mut Cursor<'_>) -> Result<Slot, ItemFault>
 
 // "=" expr ";"
 #[tactic(auto, unfolding(crate::specs::inner::RuleReading::set_at))]
-fn read_set(alloc: Global, cursor: &mut Cursor<'_>) -> Result<Term, ItemFault>
+fn read_set(alloc: Global, cursor: &mut ItemCursor<'_>) -> Result<Term, ItemFault>
     ensures reads { Gives result (set_at cursor.old) cursor.new }
     ensures shorter { OnOk result (length cursor.new < length cursor.old) }
 {
@@ -87,7 +87,7 @@ fn read_set(alloc: Global, cursor: &mut Cursor<'_>) -> Result<Term, ItemFault>
 
 // { "pour" header ":" } target "=" expr ";"
 #[tactic(auto, unfolding(crate::specs::inner::RuleReading::formula_at))]
-fn read_formula(alloc: Global, cursor: &mut Cursor<'_>) -> Result<Formula, ItemFault>
+fn read_formula(alloc: Global, cursor: &mut ItemCursor<'_>) -> Result<Formula, ItemFault>
     ensures reads { Gives result (formula_at cursor.old) cursor.new }
     ensures shorter { OnOk result (length cursor.new < length cursor.old) }
 {
@@ -109,11 +109,11 @@ fn read_formula(alloc: Global, cursor: &mut Cursor<'_>) -> Result<Formula, ItemF
 
 // The formula at the cursor, or `None` with the cursor unchanged. It is read at a second cursor, so
 // that a formula that doesn't parse ends the list without an error, and reading is linear.
-fn try_formula(alloc: Global, cursor: &mut Cursor<'_>) -> Result<Option<Formula>, AllocError>
+fn try_formula(alloc: Global, cursor: &mut ItemCursor<'_>) -> Result<Option<Formula>, AllocError>
     ensures reads { GivesOne result (formula_at cursor.old) cursor.old cursor.new }
     ensures shorter { IfOk result (λ o. IfSome o (λ f. length cursor.new < length cursor.old)) }
 {
-    let mut ahead = Cursor::new(cursor.left());
+    let mut ahead = ItemCursor::new(cursor.left());
     match read_formula(alloc, &mut ahead) {
         Ok(formula) => {
             *cursor = ahead;
@@ -126,7 +126,7 @@ fn try_formula(alloc: Global, cursor: &mut Cursor<'_>) -> Result<Option<Formula>
 
 /// A formula, and every further one that follows.
 #[tactic(auto, unfolding(crate::specs::inner::RuleReading::one_or_more_at))]
-pub fn read_formulas(alloc: Global, cursor: &mut Cursor<'_>) -> Result<Vec<Formula>, ItemFault>
+pub fn read_formulas(alloc: Global, cursor: &mut ItemCursor<'_>) -> Result<Vec<Formula>, ItemFault>
     ensures reads { GivesBy (λ v. v.items) result (one_or_more_at formula_at cursor.old) cursor.new }
     ensures shorter { OnOk result (length cursor.new < length cursor.old) }
 {

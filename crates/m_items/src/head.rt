@@ -3,7 +3,7 @@ ghost use Rattle.std.specs.Prelude.{◌≡◌, ◌<◌, ◌≤◌, length, OnOk}
 ghost use Rattle.m_items.specs.inner.DeclarationReading.{Gives};
 ghost use Rattle.m_items.specs.inner.RuleReading.{behind_words, head_at};
 
-use crate::cursor::Cursor;
+use crate::cursor::ItemCursor;
 use crate::item_fault::ItemFault;
 use crate::lists::applications;
 use m_lexer::{Key, Sign};
@@ -21,7 +21,7 @@ pub struct Head {
 }
 
 /// Takes the words before the number.
-pub fn skip_words(cursor: &mut Cursor<'_>)
+pub fn skip_words(cursor: &mut ItemCursor<'_>)
     ensures words { cursor.new ≡ behind_words cursor.old }
     ensures shorter { length cursor.new ≤ length cursor.old }
 {
@@ -30,7 +30,7 @@ pub fn skip_words(cursor: &mut Cursor<'_>)
 
 /// KEY { WORD } WHOLE ":" apps ";"
 #[tactic(auto, unfolding(crate::specs::inner::RuleReading::head_at))]
-pub fn read_head(alloc: Global, cursor: &mut Cursor<'_>, key: Key) -> Result<Head, ItemFault>
+pub fn read_head(alloc: Global, cursor: &mut ItemCursor<'_>, key: Key) -> Result<Head, ItemFault>
     ensures reads { Gives result (head_at key cursor.old) cursor.new }
     ensures shorter { OnOk result (length cursor.new < length cursor.old) }
 {

@@ -4,7 +4,7 @@ ghost use Rattle.m_items.specs.inner.DeclarationReading.{Gives};
 ghost use Rattle.m_items.specs.inner.RuleReading.{GivesOne};
 ghost use Rattle.m_items.specs.inner.Reading.{item_at, items_at};
 
-use crate::cursor::Cursor;
+use crate::cursor::ItemCursor;
 use crate::declarations::declaration;
 use crate::item_fault::ItemFault;
 use crate::rule::read_rule;
@@ -15,7 +15,7 @@ use std::alloc::{AllocError, Global};
 
 // An item.
 #[tactic(auto, unfolding(crate::specs::inner::Reading::item_at))]
-fn read_item(alloc: Global, cursor: &mut Cursor<'_>) -> Result<Item, ItemFault>
+fn read_item(alloc: Global, cursor: &mut ItemCursor<'_>) -> Result<Item, ItemFault>
     ensures reads { Gives result (item_at cursor.old) cursor.new }
     ensures shorter { OnOk result (length cursor.new < length cursor.old) }
 {
@@ -31,11 +31,11 @@ fn read_item(alloc: Global, cursor: &mut Cursor<'_>) -> Result<Item, ItemFault>
 }
 
 // The item at the cursor, or `None` with the cursor unchanged.
-fn try_item(alloc: Global, cursor: &mut Cursor<'_>) -> Result<Option<Item>, AllocError>
+fn try_item(alloc: Global, cursor: &mut ItemCursor<'_>) -> Result<Option<Item>, AllocError>
     ensures reads { GivesOne result (item_at cursor.old) cursor.old cursor.new }
     ensures shorter { IfOk result (λ o. IfSome o (λ i. length cursor.new < length cursor.old)) }
 {
-    let mut ahead = Cursor::new(cursor.left());
+    let mut ahead = ItemCursor::new(cursor.left());
     match read_item(alloc, &mut ahead) {
         Ok(item) => {
             *cursor = ahead;
@@ -48,7 +48,7 @@ fn try_item(alloc: Global, cursor: &mut Cursor<'_>) -> Result<Option<Item>, Allo
 
 /// Every item that follows. The cursor stops before the first token that belongs to none.
 #[tactic(auto, unfolding(crate::specs::inner::Reading::items_at))]
-pub fn read_items(alloc: Global, cursor: &mut Cursor<'_>) -> Result<Vec<Item>, AllocError>
+pub fn read_items(alloc: Global, cursor: &mut ItemCursor<'_>) -> Result<Vec<Item>, AllocError>
     ensures { IfOk result (λ v. items_at cursor.old ≡ (v.items, cursor.new)) }
 {
     let mut items = Vec::new(alloc);

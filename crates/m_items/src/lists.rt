@@ -3,7 +3,7 @@ ghost use Rattle.std.specs.Prelude.{◌≡◌, ◌<◌, length, Some, None, OnOk
 ghost use Rattle.m_lexer.specs.inner.Chains.{open_at};
 ghost use Rattle.m_items.specs.inner.DeclarationReading.{Gives, GivesBy, between, part, list_at, applications_at};
 
-use crate::cursor::Cursor;
+use crate::cursor::ItemCursor;
 use crate::item_fault::ItemFault;
 use m_lexer::{Key, Sign};
 use m_places::{Name, Seq};
@@ -29,7 +29,7 @@ fn between(listed: Listed) -> Sign
 }
 
 // One element.
-fn read_part(alloc: Global, cursor: &mut Cursor<'_>, listed: Listed) -> Result<Name, ItemFault>
+fn read_part(alloc: Global, cursor: &mut ItemCursor<'_>, listed: Listed) -> Result<Name, ItemFault>
     ensures reads { Gives result (open_at (part listed) cursor.old) cursor.new }
     ensures shorter { OnOk result (length cursor.new < length cursor.old) }
 {
@@ -46,7 +46,7 @@ fn read_part(alloc: Global, cursor: &mut Cursor<'_>, listed: Listed) -> Result<N
 /// One element or more.
 pub fn read_list(
     alloc: Global,
-    cursor: &mut Cursor<'_>,
+    cursor: &mut ItemCursor<'_>,
     listed: Listed,
 ) -> Result<Vec<Name>, ItemFault>
     ensures reads { GivesBy (λ v. v.items) result (list_at listed cursor.old) cursor.new }
@@ -66,7 +66,7 @@ pub fn read_list(
 /// "application" ":" WORD { "," WORD }: as many applications as follow. After an error the position
 /// of the cursor is unspecified.
 #[tactic(auto, unfolding(crate::specs::inner::DeclarationReading::applications_at))]
-pub fn applications(alloc: Global, cursor: &mut Cursor<'_>) -> Result<Seq<Name>, ItemFault>
+pub fn applications(alloc: Global, cursor: &mut ItemCursor<'_>) -> Result<Seq<Name>, ItemFault>
     ensures reads { Gives result (applications_at cursor.old) cursor.new }
     ensures shorter { OnOk result (length cursor.new < length cursor.old) }
 {

@@ -6,7 +6,7 @@ ghost use Rattle.m_items.specs.declared.fault.ParseFault.TheVariants.{Memory};
 ghost use Rattle.m_items.specs.Grammar.{SpellsItems};
 ghost use Rattle.m_items.specs.Faults.{IsShallow, IsParseFault};
 
-use crate::cursor::Cursor;
+use crate::cursor::ItemCursor;
 use crate::fault::ParseFault;
 use crate::items::read_items;
 use m_ast::Item;
@@ -30,7 +30,7 @@ pub fn parse(alloc: Global, tokens: &[Token]) -> Result<Seq<Item>, ParseFault>
     if let Some(place) = depth_fault(tokens) {
         return Err(ParseFault::TooDeep(place));
     }
-    let mut cursor = Cursor::new(tokens);
+    let mut cursor = ItemCursor::new(tokens);
     let items = read_items(alloc, &mut cursor)?;
     match cursor.next() {
         None => Ok(Seq::from_vec(items)),

@@ -3,7 +3,7 @@ ghost use Rattle.std.specs.Prelude.{◌≡◌, ◌<◌, ◌≤◌, length, OnOk}
 ghost use Rattle.m_items.specs.inner.DeclarationReading.{Gives};
 ghost use Rattle.m_items.specs.inner.RuleReading.{chaining_at, rule_at};
 
-use crate::cursor::Cursor;
+use crate::cursor::ItemCursor;
 use crate::formula::read_formulas;
 use crate::head::read_head;
 use crate::item_fault::ItemFault;
@@ -14,7 +14,7 @@ use std::alloc::Global;
 
 // [ "enchaineur" ":" WORD ";" ]
 #[tactic(auto, unfolding(crate::specs::inner::RuleReading::chaining_at))]
-fn take_chaining(cursor: &mut Cursor<'_>) -> Result<bool, ItemFault>
+fn take_chaining(cursor: &mut ItemCursor<'_>) -> Result<bool, ItemFault>
     ensures reads { Gives result (chaining_at cursor.old) cursor.new }
     ensures shorter { OnOk result (length cursor.new ≤ length cursor.old) }
 {
@@ -36,7 +36,7 @@ fn take_chaining(cursor: &mut Cursor<'_>) -> Result<bool, ItemFault>
 /// A rule, with every formula that follows its head. After an error the position of the cursor is
 /// unspecified.
 #[tactic(auto, unfolding(crate::specs::inner::RuleReading::rule_at))]
-pub fn read_rule(alloc: Global, cursor: &mut Cursor<'_>) -> Result<RuleItem, ItemFault>
+pub fn read_rule(alloc: Global, cursor: &mut ItemCursor<'_>) -> Result<RuleItem, ItemFault>
     ensures reads { Gives result (rule_at cursor.old) cursor.new }
     ensures shorter { OnOk result (length cursor.new < length cursor.old) }
 {

@@ -5,7 +5,7 @@ ghost use Rattle.m_items.specs.DeclarationGrammar.{variable};
 ghost use Rattle.m_items.specs.inner.DeclarationReading.{Gives, lists, type_at, end_at, cells_at, size_at, input_at, computed_at, constant_at};
 
 use crate::attributes::{AttributeLists, read_attributes, take_signed};
-use crate::cursor::Cursor;
+use crate::cursor::ItemCursor;
 use crate::item_fault::ItemFault;
 use crate::whole::whole_value;
 use m_ast::{Item, Role, VariableItem};
@@ -15,7 +15,7 @@ use std::alloc::{AllocError, Global};
 
 // [ "type" WORD ]
 #[tactic(auto, unfolding(crate::specs::inner::DeclarationReading::type_at))]
-fn read_type(alloc: Global, cursor: &mut Cursor<'_>) -> Result<Option<Name>, ItemFault>
+fn read_type(alloc: Global, cursor: &mut ItemCursor<'_>) -> Result<Option<Name>, ItemFault>
     ensures reads { Gives result (type_at cursor.old) cursor.new }
     ensures no_longer { OnOk result (length cursor.new ≤ length cursor.old) }
 {
@@ -30,7 +30,7 @@ fn read_type(alloc: Global, cursor: &mut Cursor<'_>) -> Result<Option<Name>, Ite
 
 // ":" TEXT [ "type" WORD ] ";"
 #[tactic(auto, unfolding(crate::specs::inner::DeclarationReading::end_at))]
-fn read_end(alloc: Global, cursor: &mut Cursor<'_>) -> Result<Option<Name>, ItemFault>
+fn read_end(alloc: Global, cursor: &mut ItemCursor<'_>) -> Result<Option<Name>, ItemFault>
     ensures reads { Gives result (end_at cursor.old) cursor.new }
     ensures shorter { OnOk result (length cursor.new < length cursor.old) }
 {
@@ -49,7 +49,7 @@ fn read_end(alloc: Global, cursor: &mut Cursor<'_>) -> Result<Option<Name>, Item
 
 // "[" WHOLE "]"
 #[tactic(auto, unfolding(crate::specs::inner::DeclarationReading::cells_at))]
-fn take_cells(cursor: &mut Cursor<'_>) -> Option<Option<u32>>
+fn take_cells(cursor: &mut ItemCursor<'_>) -> Option<Option<u32>>
     ensures reads { MatchOption result (cells_at cursor.old ≡ None) (λ n. cells_at cursor.old ≡ Some (n, cursor.new)) }
     ensures shorter { OnSome result (length cursor.new < length cursor.old) }
 {
@@ -65,7 +65,7 @@ fn take_cells(cursor: &mut Cursor<'_>) -> Option<Option<u32>>
 
 // [ "tableau" "[" WHOLE "]" ]
 #[tactic(auto, unfolding(crate::specs::inner::DeclarationReading::size_at))]
-fn take_size(cursor: &mut Cursor<'_>) -> Option<Option<u32>>
+fn take_size(cursor: &mut ItemCursor<'_>) -> Option<Option<u32>>
     ensures reads { MatchOption result (size_at cursor.old ≡ None) (λ n. size_at cursor.old ≡ Some (n, cursor.new)) }
     ensures no_longer { OnSome result (length cursor.new ≤ length cursor.old) }
 {
@@ -101,7 +101,7 @@ fn variable(
 #[tactic(auto, unfolding(crate::specs::inner::DeclarationReading::input_at))]
 pub fn read_input(
     alloc: Global,
-    cursor: &mut Cursor<'_>,
+    cursor: &mut ItemCursor<'_>,
     name: &Name,
     place: Place,
 ) -> Result<Item, ItemFault>
@@ -124,7 +124,7 @@ pub fn read_input(
 #[tactic(auto, unfolding(crate::specs::inner::DeclarationReading::computed_at))]
 pub fn read_computed(
     alloc: Global,
-    cursor: &mut Cursor<'_>,
+    cursor: &mut ItemCursor<'_>,
     name: &Name,
     place: Place,
 ) -> Result<Item, ItemFault>
@@ -146,7 +146,7 @@ pub fn read_computed(
 #[tactic(auto, unfolding(crate::specs::inner::DeclarationReading::constant_at))]
 pub fn read_constant(
     alloc: Global,
-    cursor: &mut Cursor<'_>,
+    cursor: &mut ItemCursor<'_>,
     name: &Name,
     place: Place,
 ) -> Result<Item, ItemFault>

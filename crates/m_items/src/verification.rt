@@ -3,7 +3,7 @@ ghost use Rattle.std.specs.Prelude.{◌≡◌, ◌<◌, length, IfOk, OnOk, IfSo
 ghost use Rattle.m_items.specs.inner.DeclarationReading.{Gives, GivesBy};
 ghost use Rattle.m_items.specs.inner.RuleReading.{GivesOne, error_at, check_at, verification_at, one_or_more_at};
 
-use crate::cursor::Cursor;
+use crate::cursor::ItemCursor;
 use crate::expression::term;
 use crate::head::{read_head, skip_words};
 use crate::item_fault::ItemFault;
@@ -14,7 +14,7 @@ use std::alloc::{AllocError, Global};
 
 // "alors" "erreur" WORD { WORD } ";"
 #[tactic(auto, unfolding(crate::specs::inner::RuleReading::error_at))]
-fn read_error(alloc: Global, cursor: &mut Cursor<'_>) -> Result<Name, ItemFault>
+fn read_error(alloc: Global, cursor: &mut ItemCursor<'_>) -> Result<Name, ItemFault>
     ensures reads { Gives result (error_at cursor.old) cursor.new }
     ensures shorter { OnOk result (length cursor.new < length cursor.old) }
 {
@@ -36,7 +36,7 @@ fn read_error(alloc: Global, cursor: &mut Cursor<'_>) -> Result<Name, ItemFault>
 
 // "si" expr "alors" "erreur" WORD { WORD } ";"
 #[tactic(auto, unfolding(crate::specs::inner::RuleReading::check_at))]
-fn read_check(alloc: Global, cursor: &mut Cursor<'_>) -> Result<CheckItem, ItemFault>
+fn read_check(alloc: Global, cursor: &mut ItemCursor<'_>) -> Result<CheckItem, ItemFault>
     ensures reads { Gives result (check_at cursor.old) cursor.new }
     ensures shorter { OnOk result (length cursor.new < length cursor.old) }
 {
@@ -53,11 +53,11 @@ fn read_check(alloc: Global, cursor: &mut Cursor<'_>) -> Result<CheckItem, ItemF
 }
 
 // The check at the cursor, or `None` with the cursor unchanged.
-fn try_check(alloc: Global, cursor: &mut Cursor<'_>) -> Result<Option<CheckItem>, AllocError>
+fn try_check(alloc: Global, cursor: &mut ItemCursor<'_>) -> Result<Option<CheckItem>, AllocError>
     ensures reads { GivesOne result (check_at cursor.old) cursor.old cursor.new }
     ensures shorter { IfOk result (λ o. IfSome o (λ c. length cursor.new < length cursor.old)) }
 {
-    let mut ahead = Cursor::new(cursor.left());
+    let mut ahead = ItemCursor::new(cursor.left());
     match read_check(alloc, &mut ahead) {
         Ok(check) => {
             *cursor = ahead;
@@ -70,7 +70,7 @@ fn try_check(alloc: Global, cursor: &mut Cursor<'_>) -> Result<Option<CheckItem>
 
 // A check, and every further one that follows.
 #[tactic(auto, unfolding(crate::specs::inner::RuleReading::one_or_more_at))]
-fn read_checks(alloc: Global, cursor: &mut Cursor<'_>) -> Result<Vec<CheckItem>, ItemFault>
+fn read_checks(alloc: Global, cursor: &mut ItemCursor<'_>) -> Result<Vec<CheckItem>, ItemFault>
     ensures reads { GivesBy (λ v. v.items) result (one_or_more_at check_at cursor.old) cursor.new }
     ensures shorter { OnOk result (length cursor.new < length cursor.old) }
 {
@@ -86,7 +86,7 @@ fn read_checks(alloc: Global, cursor: &mut Cursor<'_>) -> Result<Vec<CheckItem>,
 /// A verification, with every check that follows its head. After an error the position of the
 /// cursor is unspecified.
 #[tactic(auto, unfolding(crate::specs::inner::RuleReading::verification_at))]
-pub fn read_verification(alloc: Global, cursor: &mut Cursor<'_>) -> Result<VerifItem, ItemFault>
+pub fn read_verification(alloc: Global, cursor: &mut ItemCursor<'_>) -> Result<VerifItem, ItemFault>
     ensures reads { Gives result (verification_at cursor.old) cursor.new }
     ensures shorter { OnOk result (length cursor.new < length cursor.old) }
 {

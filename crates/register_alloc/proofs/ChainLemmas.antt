@@ -3,7 +3,7 @@ use Rattle.std.proofs.Common.{◌≡◌, ◌≢◌, ℕ, zero, suc, ◌+◌, ◌
 use Rattle.flat_code.specs.declared.program.Flat.{Flat}
 use Rattle.reg_machine.specs.Flow.{Listing}
 use Rattle.register_alloc.specs.inner.Sound.{Sound, given_part}
-use Rattle.register_alloc.specs.inner.Chain.{IsNext}
+use Rattle.register_alloc.specs.inner.OutputChain.{IsNext}
 use Rattle.register_alloc.proofs.OutputLemmas.{part-other}
 
 -- outputs of other nodes are passed over

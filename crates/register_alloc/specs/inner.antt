@@ -1,5 +1,5 @@
 -- What the contracts of inner functions speak of. That of `allocate` needs none of it.
-pub mod Chain
+pub mod OutputChain
 pub mod Index
 pub mod Last
 pub mod Tables

@@ -1,13 +1,13 @@
 //! The outputs of each node, one after the other.
 
 ghost use Rattle.std.specs.Prelude.{◌≡◌, ℕ, suc, ◌<◌, ◌≤◌, ◌+◌, IfOk, All, length, slice_index};
-ghost use Rattle.register_alloc.specs.inner.Chain.{IsChain, IsNext};
+ghost use Rattle.register_alloc.specs.inner.OutputChain.{IsChain, IsNext};
 
 use std::alloc::{AllocError, Global};
 
 /// Places in a list of outputs: of each node the first, and of each output the next one of its node.
 #[derive(Drop)]
-pub struct Chain {
+pub struct OutputChain {
     pub firsts: Vec<usize>,
     pub nexts: Vec<usize>,
 }
@@ -25,7 +25,7 @@ fn link(firsts: &mut Vec<usize>, nexts: &mut Vec<usize>, outputs: &[u32], place:
 }
 
 /// The chain of outputs of n nodes.
-pub fn chain_of(alloc: Global, outputs: &[u32], nodes: usize) -> Result<Chain, AllocError>
+pub fn chain_of(alloc: Global, outputs: &[u32], nodes: usize) -> Result<OutputChain, AllocError>
     requires { All (λ x. x < nodes) outputs.now }
     ensures { IfOk result (λ chain. IsChain outputs.now nodes 0 chain.firsts.items chain.nexts.items) }
 {
@@ -36,5 +36,5 @@ pub fn chain_of(alloc: Global, outputs: &[u32], nodes: usize) -> Result<Chain, A
         left -= 1;
         link(&mut firsts, &mut nexts, outputs, left);
     }
-    Ok(Chain { firsts, nexts })
+    Ok(OutputChain { firsts, nexts })
 }

@@ -4,11 +4,11 @@ ghost use Rattle.std.specs.Prelude.{◌≡◌, ℕ, suc, ◌<◌, ◌≤◌, ◌
 ghost use Rattle.flat_code.specs.Entries.{node_at};
 ghost use Rattle.register_alloc.specs.Width.{reads, check_reads};
 ghost use Rattle.register_alloc.specs.inner.Valid.{IsValid};
-ghost use Rattle.register_alloc.specs.inner.Chain.{IsNext};
+ghost use Rattle.register_alloc.specs.inner.OutputChain.{IsNext};
 ghost use Rattle.register_alloc.specs.inner.Last.{IsLast};
 ghost use Rattle.register_alloc.specs.inner.Sound.{live_at, IsSettled};
 
-use crate::chain::{Chain, chain_of};
+use crate::chain::{OutputChain, chain_of};
 use crate::moment::Moment;
 use flat_code::{Check, Flat, Node};
 use std::alloc::{AllocError, Global};
@@ -20,13 +20,13 @@ pub struct Task<'a> {
     flat: &'a Flat,
     by_node: Vec<usize>,
     by_check: Vec<usize>,
-    chain: Chain,
+    chain: OutputChain,
 }
 
 impl<'a> Model for Task<'a> {
     ghost use Rattle.flat_code.specs.declared.program.Flat.{Flat};
     ghost use Rattle.register_alloc.specs.inner.Last.{AreLast};
-    ghost use Rattle.register_alloc.specs.inner.Chain.{IsChain};
+    ghost use Rattle.register_alloc.specs.inner.OutputChain.{IsChain};
     ghost use Rattle.std.specs.Prelude.{length};
 
     ghost Value = { Flat };

@@ -4,7 +4,7 @@ use Rattle.std.proofs.Common.{arith}
 use Rattle.std.proofs.lemmas.Bool.{eq-eqb, ne_eqb}
 use Rattle.std.proofs.lemmas.List.{drop_more}
 use Rattle.value_sheet.specs.Edges.{sourced}
-use Rattle.value_sheet.specs.inner.Chain.{IsNext}
+use Rattle.value_sheet.specs.inner.EdgeChain.{IsNext}
 
 sourced_own : (per p e s : ℕ) (sources : List ℕ) → s ≡ p → sourced per p e (s ∷ sources) ≡ e / per ∷ sourced per p (e + 1) sources
 sourced_own per p e s sources is = ap (λ b. cond b (e / per ∷ sourced per p (e + 1) sources) (sourced per p (e + 1) sources)) (eq-eqb s p is)

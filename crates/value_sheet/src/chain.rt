@@ -1,13 +1,13 @@
 //! The edges of each source, one after the other: what rows are made from.
 ghost use Rattle.std.specs.Prelude.{◌≡◌, ◌+◌, ◌<◌, ◌^◌, IfOk, OnOk, length, ◌++◌, slice_index};
 ghost use Rattle.value_sheet.specs.Edges.{sourced};
-ghost use Rattle.value_sheet.specs.inner.Chain.{IsChain};
+ghost use Rattle.value_sheet.specs.inner.EdgeChain.{IsChain};
 
 use std::alloc::{AllocError, Global};
 
 /// Of each source its first edge, and of each edge the next one of its source; the number of edges where there is none.
 #[derive(Drop)]
-pub(crate) struct Chain {
+pub(crate) struct EdgeChain {
     pub(crate) firsts: Vec<u32>,
     pub(crate) nexts: Vec<u32>,
 }
@@ -27,7 +27,7 @@ fn link(firsts: &mut Vec<u32>, nexts: &mut Vec<u32>, sources: &[u32], edge: usiz
 }
 
 /// The chain of edges with these sources; an edge whose source isn't below the count is in none.
-pub(crate) fn chain_of(alloc: Global, sources: &[u32], count: usize) -> Result<Chain, AllocError>
+pub(crate) fn chain_of(alloc: Global, sources: &[u32], count: usize) -> Result<EdgeChain, AllocError>
     requires { length sources.now < 2 ^ 32 }
     ensures { IfOk result (λ chain. IsChain sources.now count 0 chain.firsts.items chain.nexts.items) }
 {
@@ -38,7 +38,7 @@ pub(crate) fn chain_of(alloc: Global, sources: &[u32], count: usize) -> Result<C
         left -= 1;
         link(&mut firsts, &mut nexts, sources, left);
     }
-    Ok(Chain { firsts, nexts })
+    Ok(EdgeChain { firsts, nexts })
 }
 
 /// Appends what the edges of a source lead to.

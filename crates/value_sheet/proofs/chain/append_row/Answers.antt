@@ -1,5 +1,5 @@
 use Rattle.std.proofs.Common.{◌+◌, ◌++◌, get_or, ap, sym, subst, arith}
-use Rattle.value_sheet.specs.inner.Chain.{IsNext}
+use Rattle.value_sheet.specs.inner.EdgeChain.{IsNext}
 use Rattle.value_sheet.proofs.ChainLemmas.{sourced_next, row_more}
 use Rattle.value_sheet.proofs.chain.append_row.Goals as goal
 

@@ -1,5 +1,5 @@
 use Rattle.std.proofs.Common.{◌≤◌, length}
-use Rattle.value_sheet.specs.inner.Chain.{IsChain}
+use Rattle.value_sheet.specs.inner.EdgeChain.{IsChain}
 use Rattle.value_sheet.proofs.chain.chain_of.Given as goal
 
 abbrev pub invariant-loop-left : goal.invariant-loop-left

@@ -3,7 +3,7 @@ use Rattle.std.proofs.lemmas.List.{length_push}
 use Rattle.reg_machine.specs.declared.instr.Instr.TheVariants.{Output}
 use Rattle.reg_machine.specs.Flow.{loads_of, Listing}
 use Rattle.register_alloc.specs.inner.Tables.{look}
-use Rattle.register_alloc.specs.inner.Chain.{IsNext}
+use Rattle.register_alloc.specs.inner.OutputChain.{IsNext}
 use Rattle.register_alloc.specs.inner.Sound.{count_some, given_part}
 use Rattle.register_alloc.proofs.SoundLemmas.{sound-gave, right-gave, loads-gave}
 use Rattle.register_alloc.proofs.OutputLemmas.{count-gave, part-least}
