@@ -10,7 +10,7 @@ use Rattle.m_terms.specs.Grammar.{SpellsInner}
 use Rattle.m_terms.specs.Terms.{SpellsTerm}
 use Rattle.m_terms.proofs.Passes.{Behind, over, next, Passes, first_passes}
 use Rattle.m_terms.proofs.HeaderLaws.{header_passes}
-use Rattle.m_terms.proofs.TermLaws.{inner_passes, expr_passes}
+use Rattle.m_terms.proofs.TermCompletes.{inner_passes, expr_passes}
 use Rattle.m_items.specs.Tokens.{word}
 use Rattle.m_items.proofs.DeclarationPassLaws.{applications_passes}
 use Rattle.m_items.specs.Many.{Many, no_more, one_more, OneOrMore, one}

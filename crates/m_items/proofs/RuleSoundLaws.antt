@@ -19,7 +19,8 @@ use Rattle.m_lexer.specs.inner.Chains.{choose}
 use Rattle.m_terms.specs.inner.Reading.{begins_by, inner_at}
 use Rattle.m_lexer.proofs.ChainSound.{Each, absent, here, bind_each, choose_each, each_from, open_each, Sound, chain_sound}
 use Rattle.m_terms.proofs.HeaderLaws.{header_sound}
-use Rattle.m_terms.proofs.TermLaws.{inner_sound, expr_sound}
+use Rattle.m_terms.proofs.TermLaws.{expr_sound}
+use Rattle.m_terms.proofs.TermCompletes.{inner_sound}
 use Rattle.m_items.specs.Tokens.{word, placed_word, whole, key_place, SpellsSign, SpellsKey, SpellsKeyAt}
 use Rattle.m_items.proofs.DeclarationSoundLaws.{applications_sound}
 use Rattle.m_items.specs.Many.{Many, no_more, one_more, OneOrMore, one}

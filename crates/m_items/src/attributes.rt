@@ -68,7 +68,10 @@ fn take_number(cursor: &mut ItemCursor<'_>) -> Option<Option<Amount>>
 }
 
 /// { WORD [ "=" [ "-" ] NUMBER ] }
-pub fn read_attributes(alloc: Global, cursor: &mut ItemCursor<'_>) -> Result<AttributeLists, ItemFault>
+pub fn read_attributes(
+    alloc: Global,
+    cursor: &mut ItemCursor<'_>,
+) -> Result<AttributeLists, ItemFault>
     ensures reads { GivesBy lists result (lists_at cursor.old) cursor.new }
     ensures no_longer { OnOk result (length cursor.new ≤ length cursor.old) }
 {

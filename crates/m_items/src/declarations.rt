@@ -29,7 +29,11 @@ fn read_application(cursor: &mut ItemCursor<'_>, place: Place) -> Result<Item, I
 
 // WORD apps ";"
 #[tactic(auto, unfolding(crate::specs::inner::DeclarationReading::chaining_at))]
-fn read_chaining(alloc: Global, cursor: &mut ItemCursor<'_>, place: Place) -> Result<Item, ItemFault>
+fn read_chaining(
+    alloc: Global,
+    cursor: &mut ItemCursor<'_>,
+    place: Place,
+) -> Result<Item, ItemFault>
     ensures reads { Gives result (chaining_at place cursor.old) cursor.new }
     ensures shorter { OnOk result (length cursor.new < length cursor.old) }
 {

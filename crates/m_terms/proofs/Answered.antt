@@ -25,7 +25,8 @@ use Rattle.m_lexer.proofs.ChainSound.{Each, absent, here}
 use Rattle.m_terms.proofs.Passes.{Behind, behind_drop, behind_shorter}
 use Rattle.m_lexer.proofs.ChainComplete.{open_complete}
 use Rattle.m_terms.proofs.HeaderLaws.{grip_of, Loose, header_sound, header_passes, header_complete}
-use Rattle.m_terms.proofs.TermLaws.{tightness, Below, inner_sound, inner_passes, inner_complete, expr_sound, expr_passes, expr_complete}
+use Rattle.m_terms.proofs.TermLaws.{tightness, Below, expr_sound, expr_complete}
+use Rattle.m_terms.proofs.TermCompletes.{inner_sound, inner_passes, inner_complete, expr_passes}
 
 -- an error of the inner reader, propagated
 pub failed : {A B : Type 0} {p : Option A} (good : B → Type 0) {bad : Type 0} (result : Result B TermFault) (e : TermFault) → IsErrAnd result (λ x. x ≡ e)

@@ -7,5 +7,6 @@ pub mod Complete
 pub mod HeaderLaws
 pub mod MemberLaws
 pub mod TermLaws
+pub mod TermCompletes
 pub mod Answered
 pub mod Shallow

@@ -84,7 +84,7 @@ module _ (operator : Token → Option Op) (R : Syntax → List Token → List To
       ) refl
 
 -- Which tokens continue a term at each level.
-multiplies : (k : Kind) (b : Op) → multiplication_of k ≡ Some b → tightness k < 6
+pub multiplies : (k : Kind) (b : Op) → multiplication_of k ≡ Some b → tightness k < 6
 multiplies (Sign signs.Star) b e = lit< tt
 multiplies (Sign signs.Slash) b e = lit< tt
 multiplies _ b e = absurd (cc)
@@ -94,7 +94,7 @@ multiplies_not (Sign signs.Star) h = absurd (omega arith)
 multiplies_not (Sign signs.Slash) h = absurd (omega arith)
 multiplies_not _ h = refl
 
-adds : (k : Kind) (b : Op) → addition_of k ≡ Some b → tightness k < 5
+pub adds : (k : Kind) (b : Op) → addition_of k ≡ Some b → tightness k < 5
 adds (Sign signs.Plus) b e = lit< tt
 adds (Sign signs.Minus) b e = lit< tt
 adds _ b e = absurd (cc)
@@ -104,7 +104,7 @@ adds_not (Sign signs.Plus) h = absurd (omega arith)
 adds_not (Sign signs.Minus) h = absurd (omega arith)
 adds_not _ h = refl
 
-compares : (k : Kind) (b : Op) → comparison_of k ≡ Some b → tightness k < 4
+pub compares : (k : Kind) (b : Op) → comparison_of k ≡ Some b → tightness k < 4
 compares (Sign signs.Equal) b e = lit< tt
 compares (Sign signs.NotEqual) b e = lit< tt
 compares (Sign signs.Less) b e = lit< tt
@@ -122,7 +122,7 @@ compares_not (Sign signs.Greater) h = absurd (omega arith)
 compares_not (Sign signs.GreaterEqual) h = absurd (omega arith)
 compares_not _ h = refl
 
-conjoins : (k : Kind) (b : Op) → conjunction_of k ≡ Some b → tightness k < 3
+pub conjoins : (k : Kind) (b : Op) → conjunction_of k ≡ Some b → tightness k < 3
 conjoins (Key keys.Et) b e = lit< tt
 conjoins _ b e = absurd (cc)
 
@@ -130,7 +130,7 @@ conjoins_not : (k : Kind) → tightness k < 2 → conjunction_of k ≡ None
 conjoins_not (Key keys.Et) h = absurd (omega arith)
 conjoins_not _ h = refl
 
-disjoins : (k : Kind) (b : Op) → disjunction_of k ≡ Some b → tightness k < 2
+pub disjoins : (k : Kind) (b : Op) → disjunction_of k ≡ Some b → tightness k < 2
 disjoins (Key keys.Ou) b e = lit< tt
 disjoins _ b e = absurd (cc)
 
@@ -138,23 +138,23 @@ disjoins_not : (k : Kind) → tightness k < 1 → disjunction_of k ≡ None
 disjoins_not (Key keys.Ou) h = absurd (omega arith)
 disjoins_not _ h = refl
 
-multiplication_closed : (ts : List Token) → Below 5 ts → open_at multiplication ts ≡ None
+pub multiplication_closed : (ts : List Token) → Below 5 ts → open_at multiplication ts ≡ None
 multiplication_closed [] h = refl
 multiplication_closed (t ∷ ts) h = rw (multiplies_not t.kind h) refl
 
-addition_closed : (ts : List Token) → Below 4 ts → open_at addition ts ≡ None
+pub addition_closed : (ts : List Token) → Below 4 ts → open_at addition ts ≡ None
 addition_closed [] h = refl
 addition_closed (t ∷ ts) h = rw (adds_not t.kind h) refl
 
-comparison_closed : (ts : List Token) → Below 3 ts → open_at comparison ts ≡ None
+pub comparison_closed : (ts : List Token) → Below 3 ts → open_at comparison ts ≡ None
 comparison_closed [] h = refl
 comparison_closed (t ∷ ts) h = rw (compares_not t.kind h) refl
 
-conjunction_closed : (ts : List Token) → Below 2 ts → open_at conjunction ts ≡ None
+pub conjunction_closed : (ts : List Token) → Below 2 ts → open_at conjunction ts ≡ None
 conjunction_closed [] h = refl
 conjunction_closed (t ∷ ts) h = rw (conjoins_not t.kind h) refl
 
-disjunction_closed : (ts : List Token) → Below 1 ts → open_at disjunction ts ≡ None
+pub disjunction_closed : (ts : List Token) → Below 1 ts → open_at disjunction ts ≡ None
 disjunction_closed [] h = refl
 disjunction_closed (t ∷ ts) h = rw (disjoins_not t.kind h) refl
 
@@ -170,20 +170,20 @@ non_no : (k : Kind) → tightness k < 3 → kind_is_key keys.Non k ≡ None
 non_no (Key keys.Non) h = absurd (omega arith)
 non_no _ h = refl
 
-bracket_closed : (ts : List Token) → Below 6 ts → mark_at (OfSign signs.OpenBracket) ts ≡ None
+pub bracket_closed : (ts : List Token) → Below 6 ts → mark_at (OfSign signs.OpenBracket) ts ≡ None
 bracket_closed [] h = refl
 bracket_closed (t ∷ ts) h = rw (bracket_no t.kind h) refl
 
-dans_closed : (ts : List Token) → Below 3 ts → mark_at (OfKey keys.Dans) ts ≡ None
+pub dans_closed : (ts : List Token) → Below 3 ts → mark_at (OfKey keys.Dans) ts ≡ None
 dans_closed [] h = refl
 dans_closed (t ∷ ts) h = rw (dans_no t.kind h) refl
 
-non_closed : (ts : List Token) → Below 3 ts → mark_at (OfKey keys.Non) ts ≡ None
+pub non_closed : (ts : List Token) → Below 3 ts → mark_at (OfKey keys.Non) ts ≡ None
 non_closed [] h = refl
 non_closed (t ∷ ts) h = rw (non_no t.kind h) refl
 
 -- no function is the word `non`
-function_no_non : (k : AKey) (f : Op × Bool) → function_of k ≡ Some f → kind_is_key keys.Non (Key k) ≡ None
+pub function_no_non : (k : AKey) (f : Op × Bool) → function_of k ≡ Some f → kind_is_key keys.Non (Key k) ≡ None
 function_no_non keys.Non f e = absurd (cc)
 function_no_non _ f e = refl
 
@@ -318,143 +318,3 @@ module _ (E : Syntax → List Token → List Token → Type 0) (e : List Token �
   pub expr_sound : Sound (SpellsExpr E) (expr_at e)
   expr_sound = gathered_sound disjunction (SpellsConjunction E) (conjunction_at e)
       (gathered_sound conjunction (SpellsNegation E) (negation_at e) negation_sound)
-
--- A spelling takes at least one token.
-module _ (E : Syntax → List Token → List Token → Type 0) (passes : Passes E) where
-  prim_passes : Passes (SpellsPrim E)
-  prim_passes _ _ _ number = next
-  prim_passes _ _ _ word = next
-  prim_passes _ _ _ own = next
-  prim_passes _ _ _ (read d) = later (later (skip (passes _ _ _ d)))
-  prim_passes _ _ _ (brackets d) = later (skip (passes _ _ _ d))
-  prim_passes _ _ _ (either a b c) = later (over (skip (passes _ _ _ a)) (over (skip (passes _ _ _ b)) (skip (passes _ _ _ c))))
-  prim_passes _ _ _ (only a b) = later (over (skip (passes _ _ _ a)) (skip (passes _ _ _ b)))
-  prim_passes _ _ _ (called i d) = later (later (skip (passes _ _ _ d)))
-  prim_passes _ _ _ (called_two i a b) = later (later (over (skip (passes _ _ _ a)) (skip (passes _ _ _ b))))
-  prim_passes _ _ _ (looped h d) = later (later (over (skip (header_passes _ _ _ h)) (skip (passes _ _ _ d))))
-
-  factor_passes : Passes (SpellsFactor E)
-  factor_passes _ _ _ (plain d) = prim_passes _ _ _ d
-  factor_passes _ _ _ (minus d) = later (prim_passes _ _ _ d)
-
-  product_passes : Passes (SpellsProduct E)
-  product_passes = gathered_passes multiplication (SpellsFactor E) factor_passes
-
-  sum_passes : Passes (SpellsSum E)
-  sum_passes = gathered_passes addition (SpellsProduct E) product_passes
-
-  relation_passes : Passes (SpellsRelation E)
-  relation_passes _ _ _ (alone d) = sum_passes _ _ _ d
-  relation_passes _ _ _ (compared d i f) = over (skip (sum_passes _ _ _ d)) (sum_passes _ _ _ f)
-  relation_passes _ _ _ (inside d m) = over (skip (skip (sum_passes _ _ _ d))) (skip (list_passes _ _ _ m))
-  relation_passes _ _ _ (outside d m) = over (skip (skip (skip (sum_passes _ _ _ d)))) (skip (list_passes _ _ _ m))
-
-  negation_passes : Passes (SpellsNegation E)
-  negation_passes _ _ _ (affirmed d) = relation_passes _ _ _ d
-  negation_passes _ _ _ (negated d) = later (relation_passes _ _ _ d)
-
-  conjunction_passes : Passes (SpellsConjunction E)
-  conjunction_passes = gathered_passes conjunction (SpellsNegation E) negation_passes
-
-  pub expr_passes : Passes (SpellsExpr E)
-  expr_passes = gathered_passes disjunction (SpellsConjunction E) conjunction_passes
-
-  -- Completeness: every spelling is read.
-  module _ (e : List Token → Option (Syntax × List Token)) (complete : Complete (Below 1) E e) where
-    until_complete : (m : Mark) (p : Place) {t : Syntax} {ts rest : List Token} → E t ts (token m p ∷ rest) → Below 1 (token m p ∷ rest)
-        → is m (token m p) ≡ Some tt → until_at e m ts ≡ Some (t, rest)
-    unfolding until_at
-    until_complete m p d h i = rw (complete _ _ _ d h, i) refl
-
-    prim_complete : Complete (Below 6) (SpellsPrim E) (prim_at e)
-    unfolding prim_of named_at word_at other_word_at choice_at other_at call_at called_at called_two_at loop_at
-    prim_complete _ _ _ number h = refl
-    prim_complete _ _ _ word h = rw (bracket_closed _ h) refl
-    prim_complete _ _ _ own h = refl
-    prim_complete _ _ _ (read d) h = rw (until_complete (OfSign signs.CloseBracket) _ d (lit< tt) refl) refl
-    prim_complete _ _ _ (brackets d) h = until_complete (OfSign signs.CloseParen) _ d (lit< tt) refl
-    prim_complete _ _ _ (either a b c) h = rw (
-      until_complete (OfKey keys.Alors) _ a (lit< tt) refl,
-      complete _ _ _ b (lit< tt),
-      until_complete
-          (OfKey keys.Finsi) _ c (lit< tt) refl,
-    ) refl
-    prim_complete _ _ _ (only a b) h = rw (until_complete (OfKey keys.Alors) _ a (lit< tt) refl, complete _ _ _ b (lit< tt)) refl
-    prim_complete _ _ _ (called i d) h = rw (i, until_complete (OfSign signs.CloseParen) _ d (lit< tt) refl) refl
-    prim_complete _ _ _ (called_two i a b) h = rw (
-      i,
-      until_complete (OfSign signs.Comma) _ a (lit< tt) refl,
-      until_complete (OfSign signs.CloseParen) _ b
-          (lit< tt) refl,
-    ) refl
-    prim_complete _ _ _ (looped g d) h = rw (header_complete _ _ _ g (lit< tt), until_complete (OfSign signs.CloseParen) _ d (lit< tt) refl) refl
-
-    prim_no_minus : {t : Syntax} {ts rest : List Token} → SpellsPrim E t ts rest → mark_at (OfSign signs.Minus) ts ≡ None
-    prim_no_minus number = refl
-    prim_no_minus _ = refl
-
-    factor_complete : Complete (Below 6) (SpellsFactor E) (factor_at e)
-    unfolding factor_at
-    factor_complete _ _ _ (plain d) h = rw (prim_no_minus d) (prim_complete _ _ _ d h)
-    factor_complete _ _ _ (minus d) h = rw (prim_complete _ _ _ d h) refl
-
-    product_complete : Complete (Below 5) (SpellsProduct E) (product_at e)
-    product_complete = gathered_complete multiplication (SpellsFactor E) (factor_at e) 5 factor_passes factor_complete (λ t b ts i. multiplies t.kind b i)
-        multiplication_closed
-
-    sum_complete : Complete (Below 4) (SpellsSum E) (sum_at e)
-    sum_complete = gathered_complete addition (SpellsProduct E) (product_at e) 4 product_passes product_complete (λ t b ts i. adds t.kind b i) addition_closed
-
-    relation_complete : Complete (Below 3) (SpellsRelation E) (relation_at e)
-    unfolding relation_at membership_at inside_at outside_at members_at
-    relation_complete _ _ _ (alone d) h = rw (sum_complete _ _ _ d (omega arith), comparison_closed _ h, dans_closed _ h, non_closed _ h) refl
-    relation_complete _ _ _ (compared {t = t} d i f) h = rw (sum_complete _ _ _ d (compares t.kind _ i), i, sum_complete _ _ _ f (omega arith)) refl
-    relation_complete _ _ _ (inside d m) h = rw (sum_complete _ _ _ d (lit< tt), list_complete _ _ _ m (lit< tt)) refl
-    relation_complete _ _ _ (outside d m) h = rw (sum_complete _ _ _ d (lit< tt), list_complete _ _ _ m (lit< tt)) refl
-
-    prim_no_non : {t : Syntax} {ts rest : List Token} → SpellsPrim E t ts rest → mark_at (OfKey keys.Non) ts ≡ None
-    prim_no_non (called {k = k} i d) = rw (function_no_non k _ i) refl
-    prim_no_non (called_two {k = k} i a b) = rw (function_no_non k _ i) refl
-    prim_no_non _ = refl
-
-    factor_no_non : {t : Syntax} {ts rest : List Token} → SpellsFactor E t ts rest → mark_at (OfKey keys.Non) ts ≡ None
-    factor_no_non (plain d) = prim_no_non d
-    factor_no_non (minus d) = refl
-
-    sum_no_non : {t : Syntax} {ts rest : List Token} → SpellsSum E t ts rest → mark_at (OfKey keys.Non) ts ≡ None
-    sum_no_non (gather (gather d c e) f g) = factor_no_non d
-
-    relation_no_non : {t : Syntax} {ts rest : List Token} → SpellsRelation E t ts rest → mark_at (OfKey keys.Non) ts ≡ None
-    relation_no_non (alone d) = sum_no_non d
-    relation_no_non (compared d i f) = sum_no_non d
-    relation_no_non (inside d m) = sum_no_non d
-    relation_no_non (outside d m) = sum_no_non d
-
-    negation_complete : Complete (Below 3) (SpellsNegation E) (negation_at e)
-    unfolding negation_at
-    negation_complete _ _ _ (affirmed d) h = rw (relation_no_non d) (relation_complete _ _ _ d h)
-    negation_complete _ _ _ (negated d) h = rw (relation_complete _ _ _ d h) refl
-
-    conjunction_complete : Complete (Below 2) (SpellsConjunction E) (conjunction_at e)
-    conjunction_complete = gathered_complete conjunction (SpellsNegation E) (negation_at e) 2 negation_passes negation_complete
-        (λ t b ts i. conjoins t.kind b i) conjunction_closed
-
-    pub expr_complete : Complete (Below 1) (SpellsExpr E) (expr_at e)
-    expr_complete = gathered_complete disjunction (SpellsConjunction E) (conjunction_at e) 1 conjunction_passes conjunction_complete
-        (λ t b ts i. disjoins t.kind b i) disjunction_closed
-
--- The recursion, by induction on how many levels may be opened.
-pub inner_sound : (d : ℕ) → Sound (SpellsInner d) (inner_at d)
-unfolding SpellsInner inner_at
-inner_sound zero = λ ts. absent
-inner_sound (suc d) = expr_sound (SpellsInner d) (inner_at d) (inner_sound d)
-
-pub inner_passes : (d : ℕ) → Passes (SpellsInner d)
-unfolding SpellsInner
-inner_passes zero = λ x ts rest h. absurd h
-inner_passes (suc d) = expr_passes (SpellsInner d) (inner_passes d)
-
-pub inner_complete : (d : ℕ) → Complete (Below 1) (SpellsInner d) (inner_at d)
-unfolding SpellsInner inner_at
-inner_complete zero = λ x ts rest h. absurd h
-inner_complete (suc d) = expr_complete (SpellsInner d) (inner_passes d) (inner_at d) (inner_complete d)

@@ -6,7 +6,7 @@ ghost use Rattle.mpp_parser.specs.Grammar.{comparison, addition, multiplication,
 ghost use Rattle.m_lexer.specs.inner.Chains.{open_at};
 ghost use Rattle.mpp_parser.specs.inner.Reading.{sign_at, key_at, number_at, index_at, word_at, operator_of};
 
-use crate::expression::DriverLevel;
+use crate::expression::Prec;
 use crate::keyword::{Keyword, keyword_of};
 use m_fixed::{Amount, Op};
 use m_places::Name;
@@ -16,11 +16,11 @@ use std::marker::Model;
 
 /// The remaining tokens. Contracts see it as their list.
 #[derive(Drop)]
-pub struct DriverCursor<'a> {
+pub struct Pieces<'a> {
     left: &'a [DriverPiece],
 }
 
-impl<'a> Model for DriverCursor<'a> {
+impl<'a> Model for Pieces<'a> {
     ghost use Rattle.std.specs.Prelude.{List};
     ghost use Rattle.mpp_lexer.specs.declared.piece.DriverPiece.{DriverPiece};
 
@@ -29,12 +29,12 @@ impl<'a> Model for DriverCursor<'a> {
     ghost view = { λ c. c.left.now };
 }
 
-impl<'a> DriverCursor<'a> {
+impl<'a> Pieces<'a> {
     /// A cursor at the first of these tokens.
-    pub fn new(tokens: &'a [DriverPiece]) -> DriverCursor<'a>
+    pub fn new(tokens: &'a [DriverPiece]) -> Pieces<'a>
         ensures { result ≡ tokens.now }
     {
-        DriverCursor { left: tokens }
+        Pieces { left: tokens }
     }
 
     /// Whether no token is left.
@@ -104,15 +104,15 @@ impl<'a> DriverCursor<'a> {
     }
 
     /// Takes an operator of a level.
-    pub fn take_operator(&mut self, level: DriverLevel) -> Option<Op>
+    pub fn take_operator(&mut self, level: Prec) -> Option<Op>
         ensures operator { Takes result (λ o. o) (open_at (operator_of level) self.old) self.old self.new }
         ensures shorter { OnSome result (length self.new < length self.old) }
     {
         match level {
-            DriverLevel::Or => self.take_key_operator(Keyword::Or, Op::Or),
-            DriverLevel::And => self.take_key_operator(Keyword::And, Op::And),
-            DriverLevel::Sum => self.take_addition(),
-            DriverLevel::Product => self.take_multiplication(),
+            Prec::Or => self.take_key_operator(Keyword::Or, Op::Or),
+            Prec::And => self.take_key_operator(Keyword::And, Op::And),
+            Prec::Sum => self.take_addition(),
+            Prec::Product => self.take_multiplication(),
         }
     }
 

@@ -5,7 +5,7 @@ ghost use Rattle.mpp_parser.specs.Depths.{open_behind, opens_too_many, FirstTooD
 ghost use Rattle.mpp_parser.specs.inner.Outers.{left_outers};
 
 use crate::blocks::LineCursor;
-use crate::cursor::DriverCursor;
+use crate::cursor::Pieces;
 use m_places::limits::{BRACKET_DEPTH, DRIVER_LEVEL};
 use mpp_lexer::{DriverPiece, DriverSign, Line};
 use std::alloc::{AllocError, Global};
@@ -49,7 +49,7 @@ fn opens_too_many(tokens: &[DriverPiece]) -> bool
     ensures { result ≡ opens_too_many 0 tokens.now }
 {
     let mut brackets = 0;
-    let mut left = DriverCursor::new(tokens);
+    let mut left = Pieces::new(tokens);
     while let Some(token) = left.next() {
         brackets = open_behind(brackets, token);
         if brackets > BRACKET_DEPTH {

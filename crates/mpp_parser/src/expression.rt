@@ -9,7 +9,7 @@ ghost use Rattle.mpp_parser.specs.Grammar.{unary, binary, cast_of, tax_benefit};
 ghost use Rattle.mpp_parser.specs.inner.Reading.{GivesBy, until_at, enclosed_at, cell_at, cell_rest_at, kind_at, numbers_at, word_prim_at, prim_at};
 ghost use Rattle.mpp_parser.specs.inner.Reading.{factor_at, sum_at, relation_at, negation_at, part_at, operator_of, links_at, gathered_at, inner_at, term_at};
 
-use crate::cursor::DriverCursor;
+use crate::cursor::Pieces;
 use crate::keyword::{Keyword, keyword_of};
 use crate::term::{CellName, DLink, DNode, DTerm, Kind, term_made};
 use crate::unread::Unread;
@@ -21,7 +21,7 @@ use std::alloc::{AllocError, Global};
 
 /// The levels of left-associative operators, from the loosest to the tightest.
 #[derive(Clone, Copy, Debug, PartialEq, Eq)]
-pub enum DriverLevel {
+pub enum Prec {
     Or,
     And,
     Sum,
@@ -77,7 +77,7 @@ fn cast(alloc: Global, cell: CellName) -> Result<Box<DTerm>, AllocError>
 #[tactic(auto, unfolding(crate::specs::inner::Reading::cell_rest_at, crate::specs::inner::Reading::bracket_at))]
 pub fn read_cell_rest(
     alloc: Global,
-    cursor: &mut DriverCursor<'_>,
+    cursor: &mut Pieces<'_>,
     name: &Name,
 ) -> Result<CellName, Unread>
     ensures reads { GivesBy (λ c. c) result (cell_rest_at name.now cursor.old) cursor.new }
@@ -101,7 +101,7 @@ pub fn read_cell_rest(
 
 /// WORD [ "[" WHOLE "]" ]
 #[tactic(auto, unfolding(crate::specs::inner::Reading::cell_at))]
-pub fn read_cell(alloc: Global, cursor: &mut DriverCursor<'_>) -> Result<CellName, Unread>
+pub fn read_cell(alloc: Global, cursor: &mut Pieces<'_>) -> Result<CellName, Unread>
     ensures reads { GivesBy (λ c. c) result (cell_at cursor.old) cursor.new }
     ensures shorter { OnOk result (length cursor.new < length cursor.old) }
 {
@@ -113,7 +113,7 @@ pub fn read_cell(alloc: Global, cursor: &mut DriverCursor<'_>) -> Result<CellNam
 
 // NUMBER { "," NUMBER }
 #[tactic(auto, unfolding(crate::specs::inner::Reading::numbers_at))]
-fn read_numbers(alloc: Global, cursor: &mut DriverCursor<'_>) -> Result<Vec<Amount>, Unread>
+fn read_numbers(alloc: Global, cursor: &mut Pieces<'_>) -> Result<Vec<Amount>, Unread>
     ensures reads { GivesBy (λ v. v.items) result (numbers_at cursor.old) cursor.new }
     ensures shorter { OnOk result (length cursor.new < length cursor.old) }
 {
@@ -151,7 +151,7 @@ fn is_benefit(word: &Name) -> bool
 
 /// "taxbenefit" | WORD "=" NUMBER { "," NUMBER }
 #[tactic(auto, unfolding(crate::specs::inner::Reading::kind_at, crate::specs::inner::Reading::benefit_of))]
-pub fn read_kind(alloc: Global, cursor: &mut DriverCursor<'_>) -> Result<Kind, Unread>
+pub fn read_kind(alloc: Global, cursor: &mut Pieces<'_>) -> Result<Kind, Unread>
     ensures reads { GivesBy (λ k. k) result (kind_at cursor.old) cursor.new }
     ensures shorter { OnOk result (length cursor.new < length cursor.old) }
 {
@@ -171,7 +171,7 @@ pub fn read_kind(alloc: Global, cursor: &mut DriverCursor<'_>) -> Result<Kind, U
 
 // "(" cell ")"
 #[tactic(auto, unfolding(crate::specs::inner::Reading::enclosed_at))]
-fn read_enclosed_cell(alloc: Global, cursor: &mut DriverCursor<'_>) -> Result<CellName, Unread>
+fn read_enclosed_cell(alloc: Global, cursor: &mut Pieces<'_>) -> Result<CellName, Unread>
     ensures reads { GivesBy (λ c. c) result (enclosed_at cell_at cursor.old) cursor.new }
     ensures shorter { OnOk result (length cursor.new < length cursor.old) }
 {
@@ -187,7 +187,7 @@ fn read_enclosed_cell(alloc: Global, cursor: &mut DriverCursor<'_>) -> Result<Ce
 
 // "(" kind ")"
 #[tactic(auto, unfolding(crate::specs::inner::Reading::enclosed_at))]
-fn read_enclosed_kind(alloc: Global, cursor: &mut DriverCursor<'_>) -> Result<Kind, Unread>
+fn read_enclosed_kind(alloc: Global, cursor: &mut Pieces<'_>) -> Result<Kind, Unread>
     ensures reads { GivesBy (λ k. k) result (enclosed_at kind_at cursor.old) cursor.new }
     ensures shorter { OnOk result (length cursor.new < length cursor.old) }
 {
@@ -203,7 +203,7 @@ fn read_enclosed_kind(alloc: Global, cursor: &mut DriverCursor<'_>) -> Result<Ki
 
 // After a word: a cell, or "present", "cast" or "exists" with brackets
 #[tactic(auto, unfolding(crate::specs::inner::Reading::word_prim_at))]
-fn read_word_prim(alloc: Global, cursor: &mut DriverCursor<'_>, word: &Name) -> Result<Box<DTerm>, Unread>
+fn read_word_prim(alloc: Global, cursor: &mut Pieces<'_>, word: &Name) -> Result<Box<DTerm>, Unread>
     ensures reads { GivesBy (λ t. t.value) result (word_prim_at word.now (keyword_of word.now) cursor.old) cursor.new }
     ensures shorter { OnOk result (length cursor.new ≤ length cursor.old) }
 {
@@ -231,20 +231,20 @@ fn read_word_prim(alloc: Global, cursor: &mut DriverCursor<'_>, word: &Name) -> 
 
 // A term in brackets, in which at most `depth` further brackets are nested.
 #[cycle(read)]
-fn read_inner(alloc: Global, cursor: &mut DriverCursor<'_>, depth: u32) -> Result<Box<DTerm>, Unread>
+fn read_inner(alloc: Global, cursor: &mut Pieces<'_>, depth: u32) -> Result<Box<DTerm>, Unread>
     ensures reads { GivesBy (λ t. t.value) result (inner_at depth cursor.old) cursor.new }
     ensures shorter { OnOk result (length cursor.new < length cursor.old) }
 {
     if depth == 0 {
         return Err(Unread::NotSpelled);
     }
-    read_level(alloc, cursor, depth - 1, DriverLevel::Or)
+    read_level(alloc, cursor, depth - 1, Prec::Or)
 }
 
 // A term and ")".
 #[cycle(read)]
 #[tactic(auto, unfolding(crate::specs::inner::Reading::until_at))]
-fn read_brackets(alloc: Global, cursor: &mut DriverCursor<'_>, depth: u32) -> Result<Box<DTerm>, Unread>
+fn read_brackets(alloc: Global, cursor: &mut Pieces<'_>, depth: u32) -> Result<Box<DTerm>, Unread>
     ensures reads { GivesBy (λ t. t.value) result (until_at (inner_at depth) CloseParen cursor.old) cursor.new }
     ensures shorter { OnOk result (length cursor.new < length cursor.old) }
 {
@@ -258,7 +258,7 @@ fn read_brackets(alloc: Global, cursor: &mut DriverCursor<'_>, depth: u32) -> Re
 // NUMBER | WORD .. | "(" term ")"
 #[cycle(read)]
 #[tactic(auto, unfolding(crate::specs::inner::Reading::prim_at))]
-fn read_prim(alloc: Global, cursor: &mut DriverCursor<'_>, depth: u32) -> Result<Box<DTerm>, Unread>
+fn read_prim(alloc: Global, cursor: &mut Pieces<'_>, depth: u32) -> Result<Box<DTerm>, Unread>
     ensures reads { GivesBy (λ t. t.value) result (prim_at (inner_at depth) cursor.old) cursor.new }
     ensures shorter { OnOk result (length cursor.new < length cursor.old) }
 {
@@ -275,7 +275,7 @@ fn read_prim(alloc: Global, cursor: &mut DriverCursor<'_>, depth: u32) -> Result
 // [ "-" ] prim
 #[cycle(read)]
 #[tactic(auto, unfolding(crate::specs::inner::Reading::factor_at))]
-fn read_factor(alloc: Global, cursor: &mut DriverCursor<'_>, depth: u32) -> Result<Box<DTerm>, Unread>
+fn read_factor(alloc: Global, cursor: &mut Pieces<'_>, depth: u32) -> Result<Box<DTerm>, Unread>
     ensures reads { GivesBy (λ t. t.value) result (factor_at (inner_at depth) cursor.old) cursor.new }
     ensures shorter { OnOk result (length cursor.new < length cursor.old) }
 {
@@ -289,22 +289,22 @@ fn read_factor(alloc: Global, cursor: &mut DriverCursor<'_>, depth: u32) -> Resu
 // sum [ comparison sum ]
 #[cycle(read)]
 #[tactic(auto, unfolding(crate::specs::inner::Reading::relation_at))]
-fn read_relation(alloc: Global, cursor: &mut DriverCursor<'_>, depth: u32) -> Result<Box<DTerm>, Unread>
+fn read_relation(alloc: Global, cursor: &mut Pieces<'_>, depth: u32) -> Result<Box<DTerm>, Unread>
     ensures reads { GivesBy (λ t. t.value) result (relation_at (inner_at depth) cursor.old) cursor.new }
     ensures shorter { OnOk result (length cursor.new < length cursor.old) }
 {
-    let first = read_level(alloc, cursor, depth, DriverLevel::Sum)?;
+    let first = read_level(alloc, cursor, depth, Prec::Sum)?;
     let Some(operator) = cursor.take_comparison() else {
         return Ok(first);
     };
-    let second = read_level(alloc, cursor, depth, DriverLevel::Sum)?;
+    let second = read_level(alloc, cursor, depth, Prec::Sum)?;
     Ok(binary(alloc, operator, first, second)?)
 }
 
 // [ "not" ] relation
 #[cycle(read)]
 #[tactic(auto, unfolding(crate::specs::inner::Reading::negation_at))]
-fn read_negation(alloc: Global, cursor: &mut DriverCursor<'_>, depth: u32) -> Result<Box<DTerm>, Unread>
+fn read_negation(alloc: Global, cursor: &mut Pieces<'_>, depth: u32) -> Result<Box<DTerm>, Unread>
     ensures reads { GivesBy (λ t. t.value) result (negation_at (inner_at depth) cursor.old) cursor.new }
     ensures shorter { OnOk result (length cursor.new < length cursor.old) }
 {
@@ -319,18 +319,18 @@ fn read_negation(alloc: Global, cursor: &mut DriverCursor<'_>, depth: u32) -> Re
 #[cycle(read)]
 fn read_part(
     alloc: Global,
-    cursor: &mut DriverCursor<'_>,
+    cursor: &mut Pieces<'_>,
     depth: u32,
-    level: DriverLevel,
+    level: Prec,
 ) -> Result<Box<DTerm>, Unread>
     ensures reads { GivesBy (λ t. t.value) result (part_at (inner_at depth) level cursor.old) cursor.new }
     ensures shorter { OnOk result (length cursor.new < length cursor.old) }
 {
     match level {
-        DriverLevel::Or => read_level(alloc, cursor, depth, DriverLevel::And),
-        DriverLevel::And => read_negation(alloc, cursor, depth),
-        DriverLevel::Sum => read_level(alloc, cursor, depth, DriverLevel::Product),
-        DriverLevel::Product => read_factor(alloc, cursor, depth),
+        Prec::Or => read_level(alloc, cursor, depth, Prec::And),
+        Prec::And => read_negation(alloc, cursor, depth),
+        Prec::Sum => read_level(alloc, cursor, depth, Prec::Product),
+        Prec::Product => read_factor(alloc, cursor, depth),
     }
 }
 
@@ -339,9 +339,9 @@ fn read_part(
 #[tactic(auto, unfolding(crate::specs::inner::Reading::gathered_at))]
 fn read_level(
     alloc: Global,
-    cursor: &mut DriverCursor<'_>,
+    cursor: &mut Pieces<'_>,
     depth: u32,
-    level: DriverLevel,
+    level: Prec,
 ) -> Result<Box<DTerm>, Unread>
     ensures reads { GivesBy (λ t. t.value) result (gathered_at (operator_of level) (part_at (inner_at depth) level) cursor.old) cursor.new }
     ensures shorter { OnOk result (length cursor.new < length cursor.old) }
@@ -358,9 +358,9 @@ fn read_level(
 #[cycle(read)]
 fn read_links(
     alloc: Global,
-    cursor: &mut DriverCursor<'_>,
+    cursor: &mut Pieces<'_>,
     depth: u32,
-    level: DriverLevel,
+    level: Prec,
 ) -> Result<Vec<DLink>, Unread>
     ensures reads { GivesBy (λ v. v.items) result (links_at (operator_of level) (part_at (inner_at depth) level) cursor.old) cursor.new }
     ensures shorter { OnOk result (length cursor.new ≤ length cursor.old) }
@@ -378,9 +378,9 @@ fn read_links(
 
 /// conjunction { "or" conjunction }
 #[tactic(auto, unfolding(crate::specs::inner::Reading::term_at))]
-pub fn read_term(alloc: Global, cursor: &mut DriverCursor<'_>) -> Result<Box<DTerm>, Unread>
+pub fn read_term(alloc: Global, cursor: &mut Pieces<'_>) -> Result<Box<DTerm>, Unread>
     ensures reads { GivesBy (λ t. t.value) result (term_at cursor.old) cursor.new }
     ensures shorter { OnOk result (length cursor.new < length cursor.old) }
 {
-    read_level(alloc, cursor, BRACKET_DEPTH, DriverLevel::Or)
+    read_level(alloc, cursor, BRACKET_DEPTH, Prec::Or)
 }

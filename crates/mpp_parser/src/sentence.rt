@@ -10,7 +10,7 @@ ghost use Rattle.mpp_parser.specs.Keywords.{keyword_of};
 ghost use Rattle.mpp_parser.specs.inner.Reading.{GivesBy, cells_at, called_at, command_rest_at, partition_at};
 ghost use Rattle.mpp_parser.specs.inner.Reading.{named_at, worded_at, sentence_at, until_at, term_at, line_at, ReadsAll};
 
-use crate::cursor::DriverCursor;
+use crate::cursor::Pieces;
 use crate::expression::{read_cell, read_cell_rest, read_kind, read_term};
 use crate::keyword::{Keyword, keyword_of};
 use crate::term::{CellName, DTerm, Kind};
@@ -42,7 +42,7 @@ pub enum Sentence {
 #[tactic(auto, unfolding(crate::specs::inner::Reading::cells_at))]
 fn read_cells(
     alloc: Global,
-    cursor: &mut DriverCursor<'_>,
+    cursor: &mut Pieces<'_>,
     first: CellName,
 ) -> Result<Vec<CellName>, Unread>
     ensures reads { GivesBy (λ v. v.items) result (cells_at first cursor.old) cursor.new }
@@ -60,7 +60,7 @@ fn read_cells(
 #[tactic(auto, unfolding(crate::specs::inner::Reading::called_at))]
 fn read_called(
     alloc: Global,
-    cursor: &mut DriverCursor<'_>,
+    cursor: &mut Pieces<'_>,
     cells: Vec<CellName>,
 ) -> Result<Sentence, Unread>
     ensures reads { GivesBy (λ s. s) result (called_at cells.items cursor.old) cursor.new }
@@ -82,7 +82,7 @@ fn read_called(
 #[tactic(auto, unfolding(crate::specs::inner::Reading::command_rest_at, crate::specs::inner::Reading::call_at))]
 fn read_command_rest(
     alloc: Global,
-    cursor: &mut DriverCursor<'_>,
+    cursor: &mut Pieces<'_>,
     word: &Name,
 ) -> Result<Sentence, Unread>
     ensures reads { GivesBy (λ s. s) result (command_rest_at word.now cursor.old) cursor.new }
@@ -98,7 +98,7 @@ fn read_command_rest(
 
 // After a word that isn't reserved.
 #[tactic(auto, unfolding(crate::specs::inner::Reading::named_at, crate::specs::inner::Reading::function_rest_at))]
-fn read_named(alloc: Global, cursor: &mut DriverCursor<'_>, word: &Name) -> Result<Sentence, Unread>
+fn read_named(alloc: Global, cursor: &mut Pieces<'_>, word: &Name) -> Result<Sentence, Unread>
     ensures reads { GivesBy (λ s. s) result (named_at word.now cursor.old) cursor.new }
 {
     if !cursor.take_sign(DriverSign::OpenParen) {
@@ -112,7 +112,7 @@ fn read_named(alloc: Global, cursor: &mut DriverCursor<'_>, word: &Name) -> Resu
 
 // "with" kind ":"
 #[tactic(auto, unfolding(crate::specs::inner::Reading::partition_at))]
-fn read_partition(alloc: Global, cursor: &mut DriverCursor<'_>) -> Result<Sentence, Unread>
+fn read_partition(alloc: Global, cursor: &mut Pieces<'_>) -> Result<Sentence, Unread>
     ensures reads { GivesBy (λ s. s) result (partition_at cursor.old) cursor.new }
 {
     if !cursor.take_key(Keyword::With) {
@@ -127,7 +127,7 @@ fn read_partition(alloc: Global, cursor: &mut DriverCursor<'_>) -> Result<Senten
 
 // term ":"
 #[tactic(auto, unfolding(crate::specs::inner::Reading::until_at))]
-fn read_condition(alloc: Global, cursor: &mut DriverCursor<'_>) -> Result<Box<DTerm>, Unread>
+fn read_condition(alloc: Global, cursor: &mut Pieces<'_>) -> Result<Box<DTerm>, Unread>
     ensures reads { GivesBy (λ t. t.value) result (until_at term_at Colon cursor.old) cursor.new }
 {
     let term = read_term(alloc, cursor)?;
@@ -139,7 +139,7 @@ fn read_condition(alloc: Global, cursor: &mut DriverCursor<'_>) -> Result<Box<DT
 
 // After a word.
 #[tactic(auto, unfolding(crate::specs::inner::Reading::worded_at))]
-fn read_worded(alloc: Global, cursor: &mut DriverCursor<'_>, word: &Name) -> Result<Sentence, Unread>
+fn read_worded(alloc: Global, cursor: &mut Pieces<'_>, word: &Name) -> Result<Sentence, Unread>
     ensures reads { GivesBy (λ s. s) result (worded_at word.now (keyword_of word.now) cursor.old) cursor.new }
 {
     match keyword_of(word.bytes()) {
@@ -164,7 +164,7 @@ fn read_worded(alloc: Global, cursor: &mut DriverCursor<'_>, word: &Name) -> Res
 }
 
 #[tactic(auto, unfolding(crate::specs::inner::Reading::sentence_at))]
-fn read_front(alloc: Global, cursor: &mut DriverCursor<'_>) -> Result<Sentence, Unread>
+fn read_front(alloc: Global, cursor: &mut Pieces<'_>) -> Result<Sentence, Unread>
     ensures reads { GivesBy (λ s. s) result (sentence_at cursor.old) cursor.new }
 {
     match cursor.next() {
@@ -178,7 +178,7 @@ fn read_front(alloc: Global, cursor: &mut DriverCursor<'_>) -> Result<Sentence, 
 pub fn read_line(alloc: Global, tokens: &[DriverPiece]) -> Result<Sentence, Unread>
     ensures { ReadsAll result (line_at tokens.now) }
 {
-    let mut cursor = DriverCursor::new(tokens);
+    let mut cursor = Pieces::new(tokens);
     let sentence = read_front(alloc, &mut cursor)?;
     if !cursor.is_at_end() {
         return Err(Unread::NotSpelled);

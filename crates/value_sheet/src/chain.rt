@@ -27,7 +27,11 @@ fn link(firsts: &mut Vec<u32>, nexts: &mut Vec<u32>, sources: &[u32], edge: usiz
 }
 
 /// The chain of edges with these sources; an edge whose source isn't below the count is in none.
-pub(crate) fn chain_of(alloc: Global, sources: &[u32], count: usize) -> Result<EdgeChain, AllocError>
+pub(crate) fn chain_of(
+    alloc: Global,
+    sources: &[u32],
+    count: usize,
+) -> Result<EdgeChain, AllocError>
     requires { length sources.now < 2 ^ 32 }
     ensures { IfOk result (λ chain. IsChain sources.now count 0 chain.firsts.items chain.nexts.items) }
 {

@@ -17,8 +17,8 @@ use Rattle.mpp_parser.specs.declared.keyword.Keyword.{Keyword}
 use Rattle.mpp_parser.specs.declared.keyword.Keyword.TheVariants as keys
 use Rattle.mpp_parser.specs.declared.unread.Unread.{Unread}
 use Rattle.mpp_parser.specs.declared.unread.Unread.TheVariants.{NotSpelled, Memory}
-use Rattle.mpp_parser.specs.declared.expression.DriverLevel.{DriverLevel}
-use Rattle.mpp_parser.specs.declared.expression.DriverLevel.TheVariants as levels
+use Rattle.mpp_parser.specs.declared.expression.Prec.{Prec}
+use Rattle.mpp_parser.specs.declared.expression.Prec.TheVariants as levels
 use Rattle.mpp_parser.specs.declared.term.CellName.{CellName}
 use Rattle.mpp_parser.specs.declared.term.DLink.{DLink}
 use Rattle.mpp_parser.specs.declared.term.Kind.{Kind}
@@ -174,13 +174,13 @@ inner_at zero ts = None
 inner_at (suc d) ts = disjunction_at (inner_at d) ts
 
 -- the four levels of left-associative chains: their operators, and their operands
-abbrev pub operator_of : DriverLevel → DriverPiece → Option Op
+abbrev pub operator_of : Prec → DriverPiece → Option Op
 operator_of levels.Or = disjunction
 operator_of levels.And = conjunction
 operator_of levels.Sum = addition
 operator_of levels.Product = multiplication
 
-abbrev pub part_at : (List DriverPiece → Option (Term × List DriverPiece)) → DriverLevel → List DriverPiece → Option (Term × List DriverPiece)
+abbrev pub part_at : (List DriverPiece → Option (Term × List DriverPiece)) → Prec → List DriverPiece → Option (Term × List DriverPiece)
 part_at e levels.Or = conjunction_at e
 part_at e levels.And = negation_at e
 part_at e levels.Sum = product_at e

@@ -1,13 +1,13 @@
 use Rattle.std.proofs.Common.{ℕ, ◌≤◌, ◌+◌, ◌*◌, length}
-use Rattle.mpp_parser.specs.declared.expression.DriverLevel.{DriverLevel}
-use Rattle.mpp_parser.specs.declared.expression.DriverLevel.TheVariants.{Or, And, Sum, Product}
+use Rattle.mpp_parser.specs.declared.expression.Prec.{Prec}
+use Rattle.mpp_parser.specs.declared.expression.Prec.TheVariants.{Or, And, Sum, Product}
 use Rattle.mpp_parser.specs.Grammar.{link}
 use Rattle.mpp_parser.specs.inner.Reading.{links_at, operator_of, part_at, inner_at}
 use Rattle.m_lexer.proofs.Chains.{Going}
 use Rattle.mpp_parser.proofs.expression.+read.Given as goal
 
 -- the number of parsers above that of brackets
-abbrev pub rank : DriverLevel → ℕ
+abbrev pub rank : Prec → ℕ
 rank Product = 4
 rank Sum = 7
 rank And = 12
