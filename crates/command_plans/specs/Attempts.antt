@@ -29,7 +29,7 @@ pub record LastFailed (attempts : List Attempt) (name : List ℕ) : Type 0 where
 abbrev pub allowance : ℕ → List Attempt → ℕ
 allowance most attempts = length attempts * (most + 1)
 
--- A call reads no more bytes than the allowance of its attempts. A fetch that ends for lack of memory is no attempt,
+-- A call reads no more bytes than the allowance of its attempts. A fetch for which there is no memory is no attempt,
 -- and may read as many bytes as one.
 abbrev pub TakesWithin : ℕ → FilesView → FilesView → Status → Type 0
 TakesWithin most before after Memory = after.taken + allowance most before.attempts ≤ before.taken + allowance most after.attempts + (most + 1)
