@@ -1,6 +1,6 @@
 use m_places::{Seq, Source};
 
-/// What a command has gathered, and is left to answer.
+/// What a command has gathered, and has to answer.
 #[derive(Drop)]
 pub enum Work {
     /// A run of this source on this household.
