@@ -48,8 +48,8 @@ ranges_fault_line Memory = None
 
 -- ---- answers
 
--- The answer of a source and ranges: the line of the source's fault; or that of the fault of the ranges, by the inputs of what the source is compiled to;
--- or the lines of what holds by that of all households within the ranges.
+-- The answer of a source and ranges: the line of the source's fault; or the line of the fault of the ranges, for the
+-- inputs of the compiled source; or the lines of the facts that it has for all households within the ranges.
 pub data FactsReplies (source : Source) (ranges : Option (List ℕ)) : List ℕ → Status → Type 0 where
   source_is_refused : {line : List ℕ} (fault : SourceFault) → IsSourceFault source fault → source_line source.texts fault ≡ Some line
       → FactsReplies source ranges line Refused

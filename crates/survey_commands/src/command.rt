@@ -10,7 +10,7 @@ use std::alloc::{AllocError, Global};
 /// A command, with the names of its files.
 #[derive(Drop)]
 pub enum Command {
-    /// Compiles the source, and prints what the households of the table of this name are told, as csv.
+    /// Compiles the source, and prints the answers to the households of the table of this name, as CSV.
     Table(SourceNames, Name),
     /// Compiles the source, and prints facts about its requested cells that hold for all households within the ranges
     /// of the file of this name; `-` means no ranges.
