@@ -10,8 +10,6 @@
 //! fails (default: not checked). `mishaps` has the failures injected into the row's runs, as `mishap.rt` specifies
 //! (`none`). The files of a run are those of the folder, under their own names, and the files of `shared/` that the
 //! folder doesn't have.
-//!
-//! This crate stands apart from the program, so that it is proved long before what the program calls is. It knows nothing of commands.
 #![tactic(auto)]
 
 mod folder;
