@@ -1,4 +1,4 @@
--- How gathering goes on after the list was fetched.
+-- How gathering continues after the list was fetched.
 use Rattle.std.proofs.Common.{◌≡◌, ℕ, ◌≤◌, List, length, Result, Ok, Err, subst}
 use Rattle.m_places.specs.declared.limits.TheConstants.{LIST_FILES}
 use Rattle.command_plans.specs.Listing.{IsListing, IsListFault, ReadsAs}

@@ -1,4 +1,4 @@
--- How gathering goes on after the rule files, with and without a driver or requests.
+-- How gathering continues after the rule files, with and without a driver or requests.
 use Rattle.std.proofs.Common.{◌≡◌, ℕ, true, false, List, Option, Some, None, Result, Ok, sym, subst, cond}
 use Rattle.m_places.specs.declared.limits.TheConstants.{FILE_BYTES}
 use Rattle.command_plans.specs.Plan.{Plan, done, file_plan, and_then}

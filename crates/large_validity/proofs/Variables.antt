@@ -1,4 +1,4 @@
--- What the rule base of `large N` declares.
+-- The declarations of the rule base of `large N`.
 use Rattle.std.proofs.Common.{◌≡◌, ℕ, zero, suc, ◌+◌, ◌-◌, List, [], ◌∷◌, ◌++◌, map, decimal, length, replicate, refl, ap, ◌∙◌, append-nil, arith}
 use Rattle.std.specs.List.{filter_map, cons_option}
 use Rattle.std.proofs.lemmas.List.{map-append, length-append, length-replicate}

@@ -5,7 +5,7 @@ use m_places::{Seq, Source};
 pub enum Work {
     /// A run of this source on this household.
     Run(Source, Seq<u8>),
-    /// A session of this source that begins with this household.
+    /// A session of this source that starts with this household.
     Serve(Source, Seq<u8>),
     /// A batch of this source over this table.
     Batch(Source, Seq<u8>),

@@ -1,8 +1,8 @@
 //! A session's reply to `why` parses to the lines it was printed from, and `check` accepts it with the same rules and
 //! household.
 //!
-//! Uses the definitions of reports, sessions and checks, and has no code: it proves the contracts of laws. Knows
-//! nothing of how programs are compiled and run.
+//! Uses the definitions of rules, reports, sessions and checks, and has no code: it proves the contracts of laws.
+//! Knows nothing of programs and how they are run.
 #![tactic(auto)]
 
 mod laws;

@@ -55,7 +55,6 @@ pub data ReportReplies (declared : Declared) (base : Base) (rows report : List �
 
 -- The answer of a check of the rules of a source (its driver and requests aren't used): the line of the fault of its
 -- rule files, or the answer over their declarations and the base of their rules.
--- what they declare and the base of their rules.
 pub data CheckReplies (source : Source) (rows report : List ℕ) : List ℕ → Status → Type 0 where
   rules_are_refused : {line : List ℕ} (fault : SourceFault) → IsBaseFault source.texts source.application fault → source_line source.texts fault ≡ Some line
       → CheckReplies source rows report line Refused

@@ -122,7 +122,8 @@ pub fn m_survey<R: Threads + Sync, F: Files, K: Sink>(
     perform(rt, alloc, words, files, out)
 }
 
-/// The same words and files have one output: one text and one status. Left open is which of several cycles or recursions an error shows.
+/// The same words and files have one output: one text and one status. This leaves open which of several cycles or
+/// recursions an error shows.
 pub fn one_output()
     ensures { (words : List (List ℕ)) (disk : Disk) (one other : List ℕ) (status outcome : Status) →
         Output words disk one status → Output words disk other outcome → AreOneOutput one status other outcome }
