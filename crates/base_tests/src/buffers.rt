@@ -1,4 +1,4 @@
-//! Tests of buffers: by which calls a text is given.
+//! Tests of buffers: the calls by which a text is written.
 ghost use Rattle.std.specs.Prelude.{◌≡◌, ◌<◌, length};
 
 use crate::rows::check;
@@ -10,7 +10,8 @@ use std::test::Fail;
 /// A text of 13 bytes.
 const TEXT: &[u8] = b"IRN = 1500.5\n";
 
-/// The room, the call that fails of an output that takes all that a call gives, whether all is given, and how many bytes are written.
+/// The size of the buffer; the number of the failing call of an output that takes everything given; whether the whole
+/// text is written; and how many bytes of it are.
 static BUFFERS: [(usize, u64, bool, usize); 9] = [
     (5, 4, true, 13),
     (5, 3, false, 10),
@@ -37,7 +38,7 @@ fn through<'a, K: Sink, O: Origin>(room: &'a mut [u8], out: &'a mut K) -> Printe
     buffered.finish(printed)
 }
 
-// Whether all is given or not, and so many bytes of the text are written.
+// Whether the text is written wholly or not, as expected, and this many bytes of it.
 fn is_given_so(room: &mut [u8], out: &mut MemSink, given: bool, written: usize) -> bool {
     if room.is_empty() {
         return false;
@@ -59,7 +60,7 @@ fn is_row(alloc: Global, row: &(usize, u64, bool, usize)) -> bool {
     is_given_so(&mut room[..row.0.min(65_536)], &mut out, row.2, row.3)
 }
 
-/// The first row that is given otherwise.
+/// The first row with another result.
 fn first_other(alloc: Global) -> Option<usize> {
     for (number, row) in buffers().iter().enumerate() {
         if !is_row(alloc, row) {

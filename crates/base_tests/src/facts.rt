@@ -1,25 +1,25 @@
-//! What is known of an operator's value, with expected facts by hand. Numbers are whole units.
+//! The facts of operators' values, with expected facts by hand. Numbers are whole units.
 use definedness::{Fact, fact_of, fact_of_input, fact_of_value};
 use m_fixed::{Amount, Op, Value};
 
-/// What is possible in the tables below.
+/// The possible values, as the tables below give them.
 #[derive(Clone, Copy)]
 enum Known {
-    /// Undefined alone.
+    /// Only undefined.
     U,
-    /// Over alone.
+    /// Only Over.
     O,
-    /// Undefined and Over.
+    /// Undefined or Over.
     B,
     /// One number.
     N(i64),
-    /// The numbers from one to another.
+    /// The numbers from one to the other.
     R(i64, i64),
-    /// Undefined and these.
+    /// Undefined or these numbers.
     M(i64, i64),
-    /// Over and these.
+    /// Over or these numbers.
     V(i64, i64),
-    /// Undefined, Over and these.
+    /// Undefined, Over or these numbers.
     A(i64, i64),
 }
 
@@ -54,7 +54,7 @@ fn number(units: i64) -> Value {
     }
 }
 
-/// What is possible of either, by a choice whose condition is 0 or 1.
+/// The possible values of a choice whose condition is 0 or 1.
 fn either(a: Fact, b: Fact) -> Fact {
     let input = fact_of_input();
     fact_of(Op::Choose, fact_of(Op::Present, input, input, input), a, b)
@@ -86,7 +86,7 @@ fn is_number(amount: Amount, units: i64) -> bool {
     amount.millionths() == units as i128 * 1_000_000
 }
 
-/// Whether the fact is what is known.
+/// Whether the fact has these possible values.
 fn observe(fact: Fact, known: Known) -> bool {
     let (undef, over, range) = parts(known);
     let numbers = match (fact.range, range) {
@@ -97,7 +97,7 @@ fn observe(fact: Fact, known: Known) -> bool {
     fact.undef == undef && fact.over == over && numbers
 }
 
-/// An operator, what is known of its arguments, and what is known of its value.
+/// An operator, the possible values of its arguments, and those of its value.
 type Row = (Op, Known, Known, Known, Known);
 
 static NUMBERS: [Row; 44] = [
@@ -208,13 +208,13 @@ static CHOICES: [Row; 8] = [
     (Op::Choose, M(-1, 2), O, R(1, 2), A(1, 2)),
 ];
 
-/// Whether the row says what is known.
+/// Whether the row holds.
 fn is_right(row: Row) -> bool {
     let (op, a, b, c, known) = row;
     observe(fact_of(op, fact(a), fact(b), fact(c)), known)
 }
 
-/// The first row that doesn't, if there is one.
+/// The first row that doesn't hold, if any.
 fn first_wrong(rows: &[Row]) -> Option<usize> {
     for (i, row) in rows.iter().enumerate() {
         if !is_right(*row) {
@@ -224,7 +224,7 @@ fn first_wrong(rows: &[Row]) -> Option<usize> {
     None
 }
 
-// The tables, out of reach of the proofs of what goes over them.
+// The tables as functions, so that proofs about their users don't expand them.
 
 fn numbers() -> &'static [Row] {
     &NUMBERS
@@ -251,7 +251,7 @@ fn facts_of_literals_and_inputs(rt: HostRuntime) {
     assert!(rt; observe(fact_of_value(number(-7)), N(-7)) && observe(fact_of_input(), M(LOW, TOP)));
 }
 
-/// Whether the fact of what is known has one value, which is this.
+/// Whether these possible values are the one value `value`.
 fn is_one(known: Known, value: Value) -> bool {
     fact(known).one_value() == Some(value)
 }

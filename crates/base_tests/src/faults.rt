@@ -1,9 +1,10 @@
-//! The line of a fault that no row of plain files shows, and one that is cut.
+//! The line of a fault that no row of plain files shows, and a line that is cut.
 use m_ports::{MemSink, Sink};
 use std::alloc::Global;
 use tax_print::{Fault, give_fault};
 
-/// Whether a fault is told by this text, by an output that takes a byte at a time, and whose call of this number fails.
+/// Whether a fault is reported by this text, to an output that takes a byte at a time and whose call of this number
+/// fails.
 fn is_reported(alloc: Global, fault: Fault<'_>, failing: u64, whole: bool, text: &[u8]) -> bool {
     let Ok(failing) = vec![in alloc; failing] else {
         return false;
@@ -27,7 +28,7 @@ fn an_input_that_is_too_long(rt: HostRuntime) {
     );
 }
 
-/// A line whose third write fails ends with what the first two gave.
+/// A line whose third write fails has the bytes of the first two.
 #[test]
 fn a_line_that_is_cut(rt: HostRuntime) {
     assert!(rt; is_reported(rt.alloc(), Fault::ListLine(2), 3, false, b"re"));

@@ -1,4 +1,4 @@
-//! The rule base and the household of `large N`, whole, for 1, 2 and 3.
+//! The whole rule base of `large N` for 1, 2 and 3, and its household.
 use m_large::{large_base, large_household};
 use std::alloc::Global;
 
@@ -41,7 +41,7 @@ verif 1 : application : iliad ;
 si T2 < 0 alors erreur E1 ;
 ";
 
-// The base of each number, out of reach of the proofs of what is compared with it.
+// The bases as a function, so that proofs about its users don't expand them.
 fn base_text(n: u32) -> &'static [u8] {
     match n {
         1 => BASE_1.as_bytes(),
@@ -50,7 +50,7 @@ fn base_text(n: u32) -> &'static [u8] {
     }
 }
 
-/// Whether the base of a number from 1 to 3 is made, and has its text.
+/// Whether the base of a number from 1 to 3 is made and has its text.
 fn is_base(alloc: Global, n: u32) -> bool {
     if n < 1 || n > 3 {
         return false;
@@ -70,7 +70,7 @@ fn bases(rt: HostRuntime) {
     assert!(rt; is_base(rt.alloc(), 3));
 }
 
-/// Whether the household of so many codes is made, and has this text.
+/// Whether the household with this many codes is made and has this text.
 fn is_household(alloc: Global, n: u32, text: &[u8]) -> bool {
     if n < 1 || n > 7 {
         return false;

@@ -1,8 +1,10 @@
-//! Tests of the crates that the language stands on and of those at the edges of the program, through their public calls: facts and the
-//! inputs on which nodes depend, names, the files and streams of the outside, and buffers. They stand apart from those crates, so that a
-//! crate isn't proved a second time with its tests; and crates that are tested over the same libraries are tested by one, since each crate
-//! of tests reads its libraries anew. What the program prints for files that it reads, as households and tables, is shown by rows of plain
-//! files, which cost no proof.
+//! Tests of the crates below the language and of those at the edges of the program: facts and the inputs on which
+//! nodes depend, names, files and streams, and buffers.
+//!
+//! Uses the public calls of those crates only. Knows nothing of their proofs: it is a crate of its own, so that they
+//! aren't proved a second time with their tests. Crates tested over the same libraries share one crate of tests, since
+//! each crate of tests loads its libraries anew. What the program prints for files such as households and tables is
+//! tested by the rows of the program `rows`, which cost no proof.
 #![tactic(auto)]
 
 #[cfg(test)]

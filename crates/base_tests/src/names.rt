@@ -3,7 +3,7 @@ use m_names::{Names, NamesFault, has_name};
 use m_places::Name;
 use std::alloc::Global;
 
-/// Whether a name is added, and wasn't there where it is to be fresh.
+/// Whether a name is added, as a new one if `fresh`, else as one that was there.
 fn is_added(alloc: Global, names: &mut Names, name: &[u8], fresh: bool) -> bool {
     match names.add(alloc, name) {
         Ok(added) => added == fresh,
@@ -33,14 +33,14 @@ fn finds_names_by_their_bytes(rt: HostRuntime) {
     assert!(rt; are_found(&names));
 }
 
-/// Adds a name. Where there is no memory it is missing.
+/// Adds a name. If memory runs out it is missing.
 fn add(alloc: Global, names: &mut Vec<Name>, name: &[u8]) {
     if let Ok(name) = Name::new(alloc, name) {
         let _added = names.push(name);
     }
 }
 
-/// Whether a list of three names of which the last is this has this fault, or none, and the second among its names.
+/// Whether a list of three names, of which the last is this one, has this fault or none, and contains its second name.
 fn is_list(alloc: Global, last: &[u8], wanted: Option<NamesFault>) -> bool {
     let mut names = Vec::new(alloc);
     add(alloc, &mut names, b"REV");

@@ -1,14 +1,14 @@
-//! Pairs of inputs and amounts, which are kept in less room than both take.
+//! Pairs of inputs and amounts, which are stored in fewer bytes than both take.
 use household::Pair;
 use m_fixed::Amount;
 
-/// The pair of an input and so many millionths, or none where they are no amount.
+/// The pair of an input and this many millionths, or None if they are no amount.
 fn pair(input: u32, millionths: i128) -> Option<Pair> {
     let amount = Amount::new(millionths)?;
     Some(Pair::new(input, amount))
 }
 
-/// Whether a pair gives back this input and so many millionths.
+/// Whether a pair gives back this input and this many millionths.
 fn is_kept(input: u32, millionths: i128) -> bool {
     match pair(input, millionths) {
         Some(pair) => pair.input() == input && pair.amount().millionths() == millionths,

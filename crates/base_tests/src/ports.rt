@@ -1,10 +1,10 @@
-//! The versions in memory: what a fake reader and a fake writer give where a call fails, and go on with the next.
+//! The versions in memory: how a source and a sink fail at a call, and continue with the next.
 use m_places::Name;
 use m_ports::{FetchFault, Files, MemSink, MemSource, Sink, Source};
 use std::alloc::Global;
 use std::test::Fail;
 
-/// Adds bytes. Where there is no memory some are missing, so it isn't what was wanted.
+/// Adds bytes. If memory runs out some are missing, so the text differs from the expected one.
 fn add(text: &mut Vec<u8>, bytes: &[u8]) {
     let _added = text.extend_from_slice(bytes);
 }
@@ -43,7 +43,7 @@ pub fn is_content<F: Files>(
     }
 }
 
-/// Adds all that an input gives until its end, in pieces of four bytes at most. Answers how often it failed.
+/// Adds all bytes of an input up to its end, in pieces of at most four bytes. Gives the number of failed calls.
 fn drain<S: Source>(input: &mut S, bytes: &mut Vec<u8>) -> u32 {
     let mut failures = 0u32;
     for _ in 0..100 {
@@ -57,13 +57,13 @@ fn drain<S: Source>(input: &mut S, bytes: &mut Vec<u8>) -> u32 {
     failures
 }
 
-/// Whether an input gives these bytes until its end, and fails so often.
+/// Whether an input gives these bytes up to its end, with this many failed calls.
 pub fn is_drained<S: Source>(input: &mut S, alloc: Global, want: &[u8], failures: u32) -> bool {
     let mut bytes = Vec::new(alloc);
     drain(input, &mut bytes) == failures && bytes.as_slice() == want
 }
 
-/// Whether an input of seven bytes is drained with one failure.
+/// Whether an input of seven bytes is read to its end with one failed call.
 fn is_input(alloc: Global, text: Vec<u8>, failing: Vec<u64>) -> bool {
     let mut input = MemSource::new(text, 3, failing);
     let before = input.left();
@@ -78,7 +78,7 @@ fn input_in_memory_goes_on(rt: HostRuntime) -> Result<(), Fail> {
     Ok(())
 }
 
-/// Whether an output whose first call fails goes on with the next.
+/// Whether an output whose first call fails continues with the next.
 fn goes_on(out: &mut MemSink) -> bool {
     let failed = out.give(b"abc").is_err();
     let next = out.give(b"abc") == Ok(2);

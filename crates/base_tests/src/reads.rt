@@ -1,5 +1,5 @@
-//! The inputs on which nodes may depend, with expected inputs by hand: a choice by input 0 between input 2 and input 1, the opposite of
-//! input 1, and the sum of input 2 and that.
+//! The inputs on which nodes may depend, with expected inputs by hand: a choice by input 0 between input 2 and input
+//! 1, the opposite of input 1, and the sum of input 2 and that opposite.
 ghost use Rattle.std.specs.Prelude.{◌≡◌, ◌<◌, IfOk, length};
 ghost use Rattle.std.specs.List.{AllByRecursion};
 ghost use Rattle.flat_code.specs.Runs.{AreNodes};
@@ -25,7 +25,7 @@ fn nodes(alloc: Global) -> Result<Vec<Node>, AllocError>
     Ok(nodes)
 }
 
-// What is known of the nodes: of the second this, and of the others nothing.
+// The facts of the nodes: this one for the second node, and none for the others.
 fn known(alloc: Global, condition: Fact) -> Result<Vec<Fact>, AllocError>
     ensures { IfOk result (λ known. length known.items ≡ 6) }
 {

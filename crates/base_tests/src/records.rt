@@ -1,12 +1,12 @@
-//! No text in memory makes an error of its reader. The crate `csv` leaves open that the reader under it fails, which household tells as
-//! out of memory: these texts, and each text that is the beginning of one of them, are read to their end.
+//! Reading records from memory never fails. The crate `csv` leaves open that the reader below it fails, which
+//! household reports as out of memory: these texts and all their prefixes are read to their end.
 use crate::rows::check;
 use csv::ByteRecord;
 use household::records::{next_record, records_of};
 use std::alloc::Global;
 use std::test::Fail;
 
-/// A text, and how many records it has.
+/// A text, and its number of records.
 static TEXTS: [(&str, usize); 14] = [
     ("code,amount\n1AJ,2500.5\n", 2),
     ("name,1AJ,1BJ\r\ndupont,1,\r\nmartin,,2", 3),
@@ -24,7 +24,7 @@ static TEXTS: [(&str, usize); 14] = [
     ("", 0),
 ];
 
-/// How many records bytes have, or nothing where the reading ended with an error.
+/// The number of records of these bytes, or None if the reading failed.
 fn count_records(alloc: Global, bytes: &[u8]) -> Option<usize> {
     let mut records = records_of(alloc, bytes);
     let mut row = ByteRecord::new(alloc);
@@ -38,7 +38,7 @@ fn count_records(alloc: Global, bytes: &[u8]) -> Option<usize> {
     None
 }
 
-/// Whether each beginning of a text is read to its end, and the whole has so many records.
+/// Whether each prefix of a text is read to its end, and the whole text has this many records.
 fn is_read(alloc: Global, text: &str, records: usize) -> bool {
     let bytes = text.as_bytes();
     for end in 0..bytes.len() {
@@ -49,7 +49,7 @@ fn is_read(alloc: Global, text: &str, records: usize) -> bool {
     count_records(alloc, bytes) == Some(records)
 }
 
-/// The place of the first text that isn't read, if there is one.
+/// The place of the first text for which this doesn't hold, if any.
 fn first_other(alloc: Global, texts: &[(&str, usize)]) -> Option<usize> {
     for place in 0..texts.len() {
         let (text, records) = texts[place];

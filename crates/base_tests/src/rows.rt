@@ -1,8 +1,8 @@
-//! What tells which row of a table failed.
+//! Reports which row of a table failed.
 use std::alloc::Global;
 use std::test::Fail;
 
-/// Fails at the row of this number, where there is one.
+/// Fails at the row of this number, if any.
 pub fn check(alloc: Global, other: Option<usize>) -> Result<(), Fail> {
     match other {
         Some(row) => Err(other_at_row(alloc, row)),

@@ -1,4 +1,4 @@
-//! Names that many own.
+//! Names with several owners.
 use m_places::{Name, SharedName};
 use std::alloc::Global;
 use std::test::Fail;

@@ -1,4 +1,4 @@
-//! What no clause says: that calls succeed, and what the adapters do on the real system.
+//! What no contract states: that calls succeed, and how the adapters behave on the real system.
 use crate::ports::{is_content, is_drained, is_fault};
 use m_ports::{FetchFault, Files, HostFiles, HostSink, HostSource, give_all};
 use std::alloc::Global;
@@ -6,7 +6,7 @@ use std::io::{ErrorKind, Read, Write};
 use std::test::Fail;
 use std::{env, fs, io, rt};
 
-/// So many bytes, of which neighbours and pieces differ.
+/// This many bytes, in which neighbours and pieces differ.
 fn varied(alloc: Global, count: u32) -> Vec<u8> {
     let mut bytes = Vec::new(alloc);
     for number in 0..count {
@@ -15,8 +15,8 @@ fn varied(alloc: Global, count: u32) -> Vec<u8> {
     bytes
 }
 
-/// Whether a file of these 20,000 bytes is fetched where the limit is no less, and what is no file isn't. Of a file without an
-/// end no more is read than tells that it is too long.
+/// Whether a file of these 20,000 bytes is fetched under a limit that is no less, and a path that is no file isn't. Of
+/// an endless file no more is read than shows that it is too long.
 fn is_file<F: Files>(files: &mut F, alloc: Global, path: &[u8], text: &[u8]) -> bool {
     is_content(files, alloc, path, 20_000, text)
         && is_fault(files, alloc, path, 19_999, FetchFault::TooLong)
@@ -26,7 +26,7 @@ fn is_file<F: Files>(files: &mut F, alloc: Global, path: &[u8], text: &[u8]) -> 
         && is_fault(files, alloc, &[255], 9, FetchFault::Failed)
 }
 
-/// Whether an empty file is fetched more often than a process may have files open.
+/// Whether an empty file is fetched more often than a process may have open files.
 fn is_fetched_often<F: Files>(files: &mut F, alloc: Global) -> bool {
     for _ in 0..1_028u32 {
         if !is_content(files, alloc, b"/dev/null", 0, b"") {
@@ -36,7 +36,7 @@ fn is_fetched_often<F: Files>(files: &mut F, alloc: Global) -> bool {
     true
 }
 
-/// Whether a file that is written there and removed is fetched, and then others.
+/// Writes a file at this path, fetches it and others, and removes it. Whether all fetches hold.
 fn is_written<H: rt::Files>(rt: &H, alloc: Global, path: &str) -> io::Result<bool> {
     let text = varied(alloc, 20_000);
     fs::write(rt, path, text.as_slice())?;
@@ -85,7 +85,7 @@ fn input_over_a_reader_that_fails(rt: HostRuntime) {
     assert!(rt; is_drained(&mut input, rt.alloc(), text, 1));
 }
 
-/// A writer that takes two bytes at a time, and none at its third call.
+/// A writer that takes two bytes at a time, and fails at its third call by taking none.
 #[derive(Drop)]
 struct Tired<'a> {
     taken: &'a mut Vec<u8>,
@@ -108,7 +108,7 @@ impl Write for Tired<'_> {
     }
 }
 
-/// Whether an output whose third call fails gives what the first two took, and goes on with the next.
+/// Whether an output whose third call fails writes the bytes of the first two, and continues with the next.
 fn goes_on(alloc: Global) -> bool {
     let mut taken = Vec::new(alloc);
     let mut out = HostSink::new(Tired {

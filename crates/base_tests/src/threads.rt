@@ -1,4 +1,4 @@
-//! Types that may be sent to other threads and shared with them. That this compiles is the test.
+//! Types that can be sent to other threads and shared with them. The test is that this compiles.
 use household::{Household, HouseholdFault, Row};
 use m_fixed::{Amount, AmountFault, Op, Value};
 use m_places::{ErrorKind, Label, Name, Place, Seq, SharedName};

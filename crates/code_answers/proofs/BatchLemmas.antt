@@ -18,7 +18,7 @@ use Rattle.code_answers.specs.Tables.{rows_lines}
 use Rattle.code_answers.specs.inner.Printers.{lines_by}
 use Rattle.code_answers.proofs.Shown.{answer_within, lines_reported}
 
--- rows by code are rows by its scheme, where they give the inputs values that it may be asked for
+-- rows by code are rows by its scheme, if they give the inputs values of their types
 pub rows_reported : (scheme : Scheme) (loaded : Loaded) (at : ℕ) (rows : List Row) → Shows scheme loaded.face (machine_run loaded.code)
     → loaded.code.counts.inputs ≡ length scheme.inputs
     → AllByRecursion (λ row. AreValuesOf scheme.inputs (values_of row.household.pairs (length scheme.inputs))) rows
@@ -33,7 +33,7 @@ rows_reported scheme loaded at (row ∷ rows) shown many given =
     (scheme.observe (values_of row.household.pairs (length scheme.inputs)))) ++ rest)
     (rows_reported scheme loaded (at + 1) rows shown many given.1)
 
--- their lines may be printed: the answers are within the face
+-- their lines can be printed: the answers are within the face
 pub lines_may : (loaded : Loaded) (at : ℕ) (rows : List Row) → IsRunnableCode loaded
     → MayPrintEach (λ at row answer. AnswerIsWithin loaded.face answer) at rows (answers_of loaded.code rows)
 lines_may loaded at [] is = tt

@@ -1,4 +1,4 @@
--- Cases by code, one after another, are those by its scheme.
+-- Cases compared by code, one after another, are those compared by its scheme.
 use Rattle.std.proofs.Common.{◌≡◌, ℕ, zero, suc, ◌+◌, ◌-◌, ◌*◌, ◌^◌, ◌<◌, ◌≤◌, length, get_or, drop, map, List, [], ◌∷◌, ◌++◌, Option, Some, Result, Ok, Err}
 use Rattle.std.proofs.Common.{true, false, Bool, refl, sym, ◌∙◌, ap, subst, arith, inl, inr}
 use Rattle.std.specs.Prelude.{IfOk, if◌then◌else◌}
@@ -41,9 +41,9 @@ use Rattle.code_answers.specs.inner.Printers.{MayBeCompared, case_count, case_te
 use Rattle.code_answers.proofs.CodeLemmas.{agrees, code_each}
 use Rattle.code_answers.proofs.Refusals.{ReportsRefusal}
 
--- ---- what is expected of the row at a place
+-- ---- the expectations of the row at a place
 
--- what stands first of what is left
+-- the first of the remaining elements
 at_place : {X : Type 0} (all : List X) (at : ℕ) (x : X) (left : List X) (d : X) → drop at all ≡ x ∷ left → (at < length all) × (get_or all at d ≡ x)
     × (drop (at + 1) all ≡ left)
 at_place all at x left d is =
@@ -53,7 +53,7 @@ at_place all at x left d is =
     let both : get_or all at d ∷ drop (at + 1) all ≡ x ∷ left = sym (drop_more all at d inside) ∙ is in
     (inside, (cc both), (cc both))
 
--- ---- how much it may be
+-- ---- bounds
 
 one_few : (met : Bool) (count many : ℕ) → count ≤ many → (if met then 0 else 1) + count ≤ suc many
 one_few true count many h = omega (arith, h)
@@ -74,7 +74,7 @@ misses_few face all at (row ∷ rows) (answer ∷ answers) may =
     let more = misses_few face all (at + 1) rows answers may.1 in
     omega (arith, one, few, more)
 
--- rows by code may be compared
+-- rows by code can be compared
 pub cases_may : (loaded : Loaded) (all : List (List (ℕ × Expected))) (at : ℕ) (rows : List Row) (expected : List (List (ℕ × Expected))) → drop at all ≡ expected
     → length expected ≡ length rows → AllByRecursion (AreExpected (length loaded.face.outputs)) expected
     → MayPrintEach (MayBeCompared loaded.face all) at rows (answers_of loaded.code rows)
@@ -90,9 +90,9 @@ cases_may loaded all at (row ∷ rows) (es ∷ expected) is many each =
       cases_may loaded all (at + 1) rows expected here.2 (omega (arith, many)) each.1,
     )
 
--- ---- what the scheme tells
+-- ---- observations of the scheme
 
--- the values of a row by code are those that its scheme tells
+-- the values of a row by code are those that its scheme observes
 row_named : (scheme : Scheme) (loaded : Loaded) (row : Row) → Shows scheme loaded.face (machine_run loaded.code)
     → loaded.code.counts.inputs ≡ length scheme.inputs
     → AreValuesOf scheme.inputs (values_of row.household.pairs (length scheme.inputs))
@@ -107,7 +107,7 @@ row_named scheme loaded row shown many given =
 abbrev pub AreGiven : Scheme → List Row → Type 0
 AreGiven scheme rows = AllByRecursion (λ row. AreValuesOf scheme.inputs (values_of row.household.pairs (length scheme.inputs))) rows
 
--- what is expected of rows, by the numbers of the face
+-- the expectations of rows, by the numbers of the face
 abbrev by_face : Loaded → List (List (ℕ × Expected)) → List (List (ℕ × Expected))
 by_face loaded expected = map (numbered (length (notes_of loaded.face.outputs))) expected
 
@@ -141,7 +141,7 @@ count_reported scheme loaded all at (row ∷ rows) (es ∷ expected) shown many 
     let rest = count_reported scheme loaded all (at + 1) rows expected shown many given.1 here.2 (omega (arith, long)) in
     λ i. one i + rest i
 
--- ---- from what was told and written to how the command ended
+-- ---- from what was found and written to the command's ending
 
 pub case_table_refused : (scheme : Scheme) (table : List ℕ) (fault : CasesFault) (old new : OutputView) (status : Status)
     → ReportsRefusal (λ line. (cases_of scheme.inputs scheme.names table ≡ Err fault) × (cases_fault_line fault ≡ Some line)) old new status
@@ -170,7 +170,7 @@ rows_given : (scheme : Scheme) (rows : List Row) → AllByRecursion (λ row. Are
 rows_given scheme [] all = tt
 rows_given scheme (row ∷ rows) all = (pairs_give scheme.inputs row.household.pairs all.0, rows_given scheme rows all.1)
 
--- The cases that were read are these by the numbers of the face.
+-- The cases that were read are these, by the numbers of the face.
 pub record AreRead (scheme : Scheme) (loaded : Loaded) (cases given : Cases) : Type 0 where
   pub same : numbered_cases (length (notes_of loaded.face.outputs)) cases ≡ given
   pub shown : Shows scheme loaded.face (machine_run loaded.code)
@@ -200,7 +200,7 @@ text_reported scheme loaded cases given read =
     ++ count_line (length cases.rows) (count_reported scheme loaded (by_face loaded cases.expected) 0 cases.rows cases.expected read.shown read.inputs rows refl
     long i))
 
--- and so is the count
+-- the count by code is that by its scheme
 pub counted_reported : (scheme : Scheme) (loaded : Loaded) (cases given : Cases) → AreRead scheme loaded cases given
     → case_count loaded given.rows given.expected ≡ cases_count scheme cases.rows cases.expected
 counted_reported scheme loaded cases given read =
@@ -220,12 +220,12 @@ two_written written faults old now new one other value first calm second still =
   counted = still ∙ calm;
 }
 
--- the count that a call answered
+-- the count that a call gave
 pub counted_is : (result : Result ℕ PrintFault) (n count : ℕ) → IfOk result (λ m. m ≡ count) → result ≡ Ok n → n ≡ count
 counted_is (Ok m) n count is e = let same : m ≡ n = cc e in sym same ∙ is
 counted_is (Err fault) n count is e = absurd (cc e)
 
--- what is counted as far as 64 bits go is all, where it is less
+-- a count that saturates at 64 bits is exact if it is below that
 pub counted_whole : (result : Result ℕ PrintFault) (count : ℕ) → count < 2 ^ 64 → IfOk result (λ n. n ≡ counted_to_end count) → IfOk result (λ n. n ≡ count)
 counted_whole (Ok n) count few is = omega (arith, few, is)
 counted_whole (Err fault) count few is = tt

@@ -1,4 +1,4 @@
--- Code with which nothing is wrong: what it answers is within its counts, and so within a face that agrees with it.
+-- Well-formed code: its answer is within its counts, and so within a face that agrees with it.
 use Rattle.std.proofs.Common.{◌≡◌, ℕ, zero, suc, ◌<◌, ◌≤◌, length, Bool, true, false, List, [], ◌∷◌, Option, None, Some, refl, sym, ◌∙◌, ap, subst, eqb, arith}
 use Rattle.std.proofs.lemmas.Bool.{eqb-true, ltb-true}
 use Rattle.std.specs.Prelude.{IsTrue, ◌&&◌, ◌||◌, nat_lt, replicate, is_some, if◌then◌else◌}
@@ -42,7 +42,7 @@ agrees code face h =
     let rest = both (eqb (length face.labels) code.counts.labels) (eqb (length face.outputs) code.counts.outputs) first.1 in
     record { inputs = eqb-true _ _ first.0; labels = eqb-true _ _ rest.0; outputs = eqb-true _ _ rest.1 }
 
--- ---- what is known of instructions with which nothing is wrong
+-- ---- properties of well-formed instructions
 
 -- a check's label is below a count
 abbrev IsLabelled : ℕ → Instr → Type 0
@@ -78,7 +78,7 @@ all_labelled n s k (i ∷ instrs) h = one_labelled n s k i instrs (has_numbers n
 
 -- ---- a run
 
--- the label of a stop is below a count, where there is a stop
+-- the label of a stop is below a count, if there is a stop
 abbrev IsStopBelow : ℕ → Option Stop → Type 0
 IsStopBelow n None = Unit {0}
 IsStopBelow n (Some stop) = label_number stop < n
@@ -119,7 +119,7 @@ acts_below : (n : ℕ) (inputs : List Value) (instrs : List Instr) (m : Machine)
 acts_below n inputs [] m all h = h
 acts_below n inputs (i ∷ instrs) m all h = acts_below n inputs instrs (act_at inputs m.ended i m) all.1 (at_below n inputs i m m.ended all.0 h)
 
--- as many outputs
+-- the number of outputs
 act_many : (n : ℕ) (inputs : List Value) (i : Instr) (m : Machine) → length m.outputs ≡ n → length (act inputs i m).outputs ≡ n
 act_many n inputs (Take r k) m h = h
 act_many n inputs (Lit r v) m h = h
@@ -157,7 +157,7 @@ code_outputs code inputs = acts_many code.counts.outputs inputs code.instrs (fre
 no_more : (m n k : ℕ) → m ≡ n → k ≡ n → m ≤ k
 no_more m n k a b = omega (arith, a, b)
 
--- What code answers is within a face that agrees with it.
+-- The answer of code is within a face that agrees with it.
 pub code_within : (code : Listing) (face : Face) → code_fault code ≡ None → Agrees code face → (inputs : List Value)
     → AnswerIsWithin face (machine_run code inputs)
 code_within code face whole a inputs =
@@ -170,7 +170,7 @@ each_valued : (face : Face) (ended : Option Stop) (outputs : List Value) → len
 each_valued face None outputs many = many
 each_valued face (Some s) outputs many = tt
 
--- And it has a value for each output of such a face, where it doesn't stop.
+-- The answer has a value for each output of such a face, unless it is a stop.
 pub code_each : (code : Listing) (face : Face) → Agrees code face → (inputs : List Value) → HasValueEach face (machine_run code inputs)
 code_each code face a inputs =
     each_valued face (acts inputs (fresh code.counts.outputs) code.instrs).ended (acts inputs (fresh code.counts.outputs) code.instrs).outputs
@@ -184,7 +184,7 @@ given : (inputs : ℕ) (s : State) (flat : Flat) (outputs : Option (List ℕ))
 given inputs s flat None e = cc
 given inputs s flat (Some xs) e = refl
 
--- nothing is wrong with it
+-- such code is well formed
 pub spells_whole : (code : Listing) (flat : Flat) → flow_of code ≡ Some flat → code_fault code ≡ None
 spells_whole code flat e = by (reading code) refl e
   where

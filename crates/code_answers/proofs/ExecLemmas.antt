@@ -1,4 +1,4 @@
--- What a code file is to households.
+-- The scheme that a code file shows.
 use Rattle.std.proofs.Common.{◌≡◌, ℕ, suc, ◌<◌, length, get_or, Bool, true, false, List, [], ◌∷◌, Option, None, Some, refl, sym, arith}
 use Rattle.std.specs.Prelude.{◌||◌, option_map, slice_get, slice_index_or}
 use Rattle.std.specs.Str.{bytes_eq}
@@ -22,12 +22,12 @@ use Rattle.code_answers.specs.Shown.{IsRunnableCode, Shows}
 use Rattle.code_answers.specs.Schemes.{Scheme}
 use Rattle.code_answers.proofs.Shown.{answer_within}
 
--- what is told, or nothing
+-- the observation, or an empty one
 abbrev reported_or : Option Observation → Observation
 reported_or None = values [] []
 reported_or (Some reported) = reported
 
--- an answer within a face tells something
+-- an answer within a face has an observation
 observe : (face : Face) (answer : Answer) → AnswerIsWithin face answer
     → observation face.labels (notes_of face.outputs) answer ≡ Some (reported_or (observation face.labels (notes_of face.outputs) answer))
 observe face (Values vs) is = refl
@@ -38,7 +38,7 @@ observe face (Stopped stop) is = by (slice_get face.labels (label_number stop)) 
     by None e = cc
     by (Some label) e = refl
 
--- what loaded code is to households
+-- the scheme of loaded code
 abbrev pub code_scheme : Loaded → Scheme
 code_scheme loaded = record {
   inputs = loaded.face.inputs;
@@ -53,7 +53,7 @@ code_shows loaded runs = record {
   answers = λ vs all. observe loaded.face (machine_run loaded.code vs) (answer_within loaded vs runs);
 }
 
--- ---- what is read of a code file can be run
+-- ---- a code file that was read can be run
 
 at_or_later : (name n : List ℕ) (names : List (List ℕ)) (first : Bool)
     → (has name names ≡ true → (i : ℕ) × (i < length names) × (slice_index_or names i [] ≡ name))
@@ -65,7 +65,7 @@ has_at : (name : List ℕ) (names : List (List ℕ)) → has name names ≡ true
 has_at name [] h = cc
 has_at name (n ∷ names) h = at_or_later name n names (bytes_eq name n) (λ t. has_at name names t) refl h
 
--- names of which no two are equal are distinct
+-- names that are pairwise different are distinct
 apart_distinct : (names : List (List ℕ)) → AreApart names → AreDistinct names
 apart_distinct [] h = tt
 apart_distinct (n ∷ names) h = (

@@ -3,7 +3,7 @@ use Rattle.std.proofs.Common.{◌≡◌, ◌≢◌, refl}
 use Rattle.household.specs.declared.fault.HouseholdFault.{HouseholdFault}
 use Rattle.household.specs.declared.fault.HouseholdFault.TheVariants as household
 
--- what has no fault but that there was no memory
+-- a household without a fault other than out of memory
 pub without_answer_only : (fault : HouseholdFault) → (fault ≢ household.Memory → ⊥) → fault ≡ household.Memory
 without_answer_only household.BadHeader h = absurd (h (λ e. cc))
 without_answer_only household.TooManyRows h = absurd (h (λ e. cc))

@@ -1,4 +1,4 @@
--- Texts that were given, and a line after a text.
+-- Texts that were written, and a line after a text.
 use Rattle.std.proofs.Common.{◌≡◌, ℕ, List, ◌++◌, Option, Result, Ok, Err, ◌∙◌, ap, subst, inl, inr}
 use Rattle.std.specs.Prelude.{MatchResult}
 use Rattle.std.specs.Io.KnownBytes.{append_known}
@@ -18,7 +18,7 @@ prints_behind old mid new first line own status w f (inl p) =
 prints_behind old mid new first line own status w f (inr p) =
     inr ((AppendsPrefix-after old.written mid.written new.written first line w p.0.0, subst (λ count. Rose count new.faults) f p.0.1), p.1)
 
--- a text that was given, with the status after it
+-- a text that was written, with the status after it
 pub prints_given : {S T E : Type 0} (written : S → Option (List ℕ)) (faults : S → ℕ) (old new : S) (result : Result T E) (text : List ℕ) (own status : Status)
     → Gives written faults old new result text → MatchResult result (λ _. status ≡ own) (λ _. status ≡ WriteFault)
     → Prints text own (output_view written faults old) (output_view written faults new) status

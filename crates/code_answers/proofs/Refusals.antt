@@ -1,4 +1,4 @@
--- Errors that were told.
+-- Errors that were reported.
 use Rattle.std.proofs.Common.{◌≡◌, ◌⊎◌, ℕ, List, Option, None, Some, refl, ap, inl, inr}
 use Rattle.std.specs.Prelude.{◌≢◌}
 use Rattle.household.specs.declared.fault.HouseholdFault.{HouseholdFault}
@@ -21,26 +21,26 @@ use Rattle.code_answers.specs.inner.Refusals.{ReportsLine}
 abbrev pub ReportsRefusal : (List ℕ → Type 0) → OutputView → OutputView → Status → Type 0
 ReportsRefusal IsLine old new status = ((line : List ℕ) × IsLine line × Prints line Refused old new status) ⊎ ((new ≡ old) × (status ≡ Memory))
 
--- something was refused by a fault, which has a line but for running out of memory
+-- a rejection by a fault, which has a line unless it is out of memory
 pub reported_either : {IsFault IsMemory : Type 0} (whole found : Option (List ℕ)) (old new : OutputView) (status : Status) → whole ≡ found
     → ((IsMemory → ⊥) → IsFault) → (IsMemory → whole ≡ None)
     → ReportsLine found old new status → ReportsRefusal (λ line. IsFault × (whole ≡ Some line)) old new status
 reported_either whole None old new status is h none reported = inr reported
 reported_either whole (Some line) old new status is h none reported = inl (line, (h (λ m. let gone : whole ≡ None = none m in cc (gone, is)), is), reported)
 
--- a table of cases was refused by a fault
+-- a table of cases was rejected by a fault
 pub cases_reported : {IsFault : Type 0} (fault : CasesFault) (old new : OutputView) (status : Status) → (fault ≢ cases.Memory → IsFault)
     → ReportsLine (cases_fault_line fault) old new status → ReportsRefusal (λ line. IsFault × (cases_fault_line fault ≡ Some line)) old new status
 cases_reported fault old new status h reported = reported_either (cases_fault_line fault) (cases_fault_line fault) old new status refl h
     (λ m. ap cases_fault_line m) reported
 
--- a code file was refused by a fault
+-- a code file was rejected by a fault
 pub code_reported : (bytes : List ℕ) (fault : CodeFault) (old new : OutputView) (status : Status) → (fault ≢ code.Memory → IsCodeFault bytes fault)
     → ReportsLine (code_fault_line fault) old new status → ReportsRefusal (λ line. IsCodeFault bytes fault × (code_fault_line fault ≡ Some line)) old new status
 code_reported bytes fault old new status h reported = reported_either (code_fault_line fault) (code_fault_line fault) old new status refl h
     (λ m. ap code_fault_line m) reported
 
--- a household or a table was refused, by codes
+-- a household or a table was rejected, for these codes
 pub household_refused : (fault : HouseholdFault) {IsFault : Type 0} (old new : OutputView) (status : Status) → (fault ≢ household.Memory → IsFault)
     → ReportsLine (household_fault_line fault) old new status
     → ReportsRefusal (λ line. IsFault × (household_fault_line fault ≡ Some line)) old new status

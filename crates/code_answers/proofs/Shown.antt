@@ -1,4 +1,4 @@
--- What a program that shows a scheme answers.
+-- The answers of a program that shows a scheme.
 use Rattle.std.proofs.Common.{◌≡◌, ℕ, length, List, [], Option, None, Some, Ok, sym, ◌∙◌, ap, subst}
 use Rattle.std.specs.Prelude.{option_map, slice_get}
 use Rattle.std.specs.Option.{option_map_or}
@@ -28,7 +28,7 @@ use Rattle.code_answers.proofs.CodeLemmas.{agrees, code_within}
 pub as_many : (scheme : Scheme) (face : Face) (runs : List Value → Answer) → Shows scheme face runs → length face.inputs ≡ length scheme.inputs
 as_many scheme face runs shown = ap length shown.inputs
 
--- the lines of what a program tells
+-- the lines of what is observed of a program
 pub reported_answer : (scheme : Scheme) (face : Face) (runs : List Value → Answer) (answer : Answer) (reported : Observation) → Shows scheme face runs
     → observation face.labels (notes_of face.outputs) answer ≡ Some reported → answer_lines face answer ≡ observation_lines scheme.names reported
 reported_answer scheme face runs answer reported shown is =
@@ -52,13 +52,13 @@ many_inputs loaded = (agrees loaded.code loaded.face loaded.agree).inputs
 pub answer_within : (loaded : Loaded) (inputs : List Value) → IsRunnableCode loaded → AnswerIsWithin loaded.face (machine_run loaded.code inputs)
 answer_within loaded inputs runs = code_within loaded.code loaded.face runs.whole (agrees loaded.code loaded.face loaded.agree) inputs
 
--- a household has no fault by the scheme
+-- a household has no fault for the scheme
 pub given_by : (scheme : Scheme) (loaded : Loaded) (rows : List ℕ) (answer : Answer) → Shows scheme loaded.face (machine_run loaded.code)
     → (of : IsAnswerOf loaded rows answer)
     → household_of scheme.inputs rows ≡ Ok of.pairs
 given_by scheme loaded rows answer shown of = subst (λ inputs. household_of inputs rows ≡ Ok of.pairs) shown.inputs of.given
 
--- what it is told
+-- what is observed for it
 pub household_reported : (scheme : Scheme) (loaded : Loaded) (rows : List ℕ) (answer : Answer) → Shows scheme loaded.face (machine_run loaded.code)
     → (of : IsAnswerOf loaded rows answer)
     → observation loaded.face.labels (notes_of loaded.face.outputs) answer ≡ Some (observation_for scheme of.pairs)
@@ -72,7 +72,7 @@ stopped_status : (found : Option FaceLabel) (stop : Stop) (reported : Observatio
 stopped_status None stop reported is = absurd (cc is)
 stopped_status (Some label) stop reported is = let same : stopped (cause_of stop label) ≡ reported = cc is in ap observation_status same
 
--- the status of an answer is that of what it tells
+-- the status of an answer is that of its observation
 pub status_reported : (labels : List FaceLabel) (notes : List ℕ) (answer : Answer) (reported : Observation) → observation labels notes answer ≡ Some reported
     → answer_status answer ≡ observation_status reported
 status_reported labels notes (Values vs) reported is = ap (λ (t : Option Observation). status_of t) is

@@ -1,4 +1,4 @@
--- From what was told and written to how a call ended.
+-- From what was found and written to a call's ending.
 use Rattle.std.proofs.Common.{◌≡◌, ℕ, List, [], ◌++◌, Result, Ok, Err, subst, inl, inr}
 use Rattle.std.specs.Prelude.{Option, Some}
 use Rattle.m_fixed.specs.declared.amount.Value.{Value}
@@ -39,7 +39,7 @@ of_end : (reported : Observation) → IsOfEnd (observation_status reported)
 of_end (values notes vs) = tt
 of_end (stopped cause) = tt
 
--- an answer by one way to reply is an answer by another that replies the same
+-- an answer by one relation of replies is an answer by another that contains it
 pub answered_as : (One Other : List ℕ → Status → Type 0) (old new : OutputView) (status : Status)
     → ((text : List ℕ) (own : Status) → One text own → Other text own)
     → IsAnswered One old new status → IsAnswered Other old new status
@@ -55,7 +55,7 @@ parts_as One Other old new status turn (broke_off text own replied prefix none m
 
 -- ---- households
 
--- the household of these bytes was refused, by a program's codes
+-- the household of these bytes was rejected, for a program's codes
 pub rows_refused : (front : List ℕ) (scheme : Scheme) (face : Face) (runs : List Value → Answer) (rows : List ℕ) (fault : HouseholdFault) (old new : OutputView)
     (status : Status) → Shows scheme face runs
     → ReportsRefusal (λ line. (household_of face.inputs rows ≡ Err fault) × (household_fault_line fault ≡ Some line)) old new status

@@ -1,4 +1,4 @@
--- What is answered to a table of cases.
+-- What the `cases` command prints.
 use Rattle.std.specs.Prelude.{◌≡◌, ℕ, zero, suc, ◌+◌, List, [], ◌∷◌, ◌++◌, length, Option, Some, None, Ok, Err}
 use Rattle.tax_print.specs.FaultLines.{household_header_line, household_line, too_many_rows_line}
 use Rattle.tax_print.specs.declared.fault.RowFault.TheVariants as row
@@ -14,8 +14,8 @@ use Rattle.command_plans.specs.declared.status.Status.{Status}
 use Rattle.command_plans.specs.declared.status.Status.TheVariants.{Done, Refused, Stopped}
 use Rattle.code_answers.specs.Schemes.{Scheme, observation_for}
 
--- The line of a fault of a table of cases; running out of memory has none. A field `=IR` in the first record, where `IR` isn't asked for, has
--- `refused household line 1: unknown output`.
+-- The line of a fault of a table of cases; none for out of memory. A field `=IR` in the first record, where `IR` isn't
+-- requested, has `refused household line 1: unknown output`.
 abbrev pub cases_fault_line : CasesFault → Option (List ℕ)
 cases_fault_line BadHeader = Some household_header_line
 cases_fault_line TooManyRows = Some too_many_rows_line
@@ -28,28 +28,28 @@ cases_fault_line (NotOfType line) = Some (household_line line row.NotOfType)
 cases_fault_line (BadExpected line) = Some (household_line line row.BadExpected)
 cases_fault_line Memory = None
 
--- the lines of cases, in their order: of each those of what it expects and isn't told
+-- the lines of cases, in order: for each case, its expectations that aren't met
 abbrev pub cases_lines : Scheme → List Row → List (List (ℕ × Expected)) → List ℕ
 cases_lines scheme (row ∷ rows) (es ∷ expected) = mismatch_lines scheme.names row.label (observation_values (observation_for scheme row.household.pairs)) es
     ++ cases_lines scheme rows expected
 cases_lines scheme _ _ = []
 
--- how much isn't told that cases expect
+-- how many expectations of the cases aren't met
 abbrev pub cases_count : Scheme → List Row → List (List (ℕ × Expected)) → ℕ
 cases_count scheme (row ∷ rows) (es ∷ expected) = mismatch_count (observation_values (observation_for scheme row.household.pairs)) es + cases_count scheme rows
     expected
 cases_count scheme _ _ = 0
 
--- The text of a table of cases: their lines, and then how many cases and how many mismatches there are.
+-- The text of a table of cases: their lines, and then the number of cases and of mismatches.
 abbrev pub cases_text : Scheme → Cases → List ℕ
 cases_text scheme cases = cases_lines scheme cases.rows cases.expected ++ count_line (length cases.rows) (cases_count scheme cases.rows cases.expected)
 
--- the status of so many mismatches
+-- the status for this number of mismatches
 abbrev pub count_status : ℕ → Status
 count_status zero = Done
 count_status (suc count) = Stopped
 
--- What is answered to the table of these bytes by a scheme: the line by which it is refused, or the text of its cases.
+-- The answer to the table of these bytes by a scheme: the line of the table's fault, or the text of its cases.
 pub data ComparedReplies (scheme : Scheme) (table : List ℕ) : List ℕ → Status → Type 0 where
   table_is_refused : {line : List ℕ} (fault : CasesFault) → cases_of scheme.inputs scheme.names table ≡ Err fault → cases_fault_line fault ≡ Some line
       → ComparedReplies scheme table line Refused

@@ -1,4 +1,4 @@
--- What `exec` answers.
+-- The answer of `exec`.
 use Rattle.std.specs.Prelude.{◌≡◌, ℕ, ℤ, List, [], Option, Some, None, Ok}
 use Rattle.tax_print.specs.FaultLines.{code_header_line, code_line}
 use Rattle.tax_print.specs.declared.fault.CodeFault.TheVariants as word
@@ -13,23 +13,24 @@ use Rattle.command_plans.specs.declared.status.Status.TheVariants.{Refused}
 use Rattle.code_answers.specs.Shown.{HouseholdReplies, Shows}
 use Rattle.code_answers.specs.Schemes.{Scheme}
 
--- The line of a fault of a code file; running out of memory has none. A register that is read in line 7 before anything is written
--- to it has `refused code line 7: read before write`.
+-- The line of a fault of a code file; none for out of memory. A register read in line 7 before it is written has
+-- `refused code line 7: read before write`.
 abbrev pub code_fault_line : CodeFault → Option (List ℕ)
 code_fault_line BadHeader = Some code_header_line
 code_fault_line (BadLine line) = Some (code_line line word.BadLine)
 code_fault_line (BadOrder line) = Some (code_line line word.ReadBeforeWrite)
 code_fault_line Memory = None
 
--- The answer of a code file to the household of these bytes: the line of the file's first fault; or the file is the form of some code with its face, a scheme
--- is what that is to households, and this is the scheme's answer.
+-- The answer of a code file to the household of these bytes: the line of the file's first fault; or the file is the
+-- form of some code with its face, a scheme gives the answers of that code for every household, and this is the
+-- scheme's answer.
 pub data ExecReplies (code rows : List ℕ) : List ℕ → Status → Type 0 where
   code_is_refused : {line : List ℕ} (fault : CodeFault) → IsCodeFault code fault → code_fault_line fault ≡ Some line → ExecReplies code rows line Refused
   is_answered : {text : List ℕ} {status : Status} (loaded : Loaded) (scheme : Scheme) → IsFormOf code loaded
       → Shows scheme loaded.face (machine_run loaded.code)
       → HouseholdReplies [] scheme rows text status → ExecReplies code rows text status
 
--- a code file without a fault, and a household without a fault by its inputs
+-- a code file without a fault, and a household without a fault for its inputs
 pub record ExecHasAnswer (code rows : List ℕ) : Type 0 where
   pub loaded : Loaded
   pub pairs : List (ℕ × ℤ)

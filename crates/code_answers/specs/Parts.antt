@@ -1,4 +1,4 @@
--- What has written an answer that is printed in parts.
+-- The output of an answer that is printed in parts.
 use Rattle.std.specs.Prelude.{◌≡◌, ℕ, List}
 use Rattle.m_ports.specs.Sink.{AppendsPrefix}
 use Rattle.command_plans.specs.Printing.{Prints}
@@ -7,7 +7,7 @@ use Rattle.command_plans.specs.Views.{OutputView}
 use Rattle.command_plans.specs.declared.status.Status.{Status}
 use Rattle.command_plans.specs.declared.status.Status.TheVariants.{Memory}
 
--- An answer was printed in parts. Where memory ended it on the way, a prefix of the answer was written.
+-- An answer was printed in parts. If memory ran out on the way, a prefix of the answer was written.
 pub data IsWrittenInParts (Replies : List ℕ → Status → Type 0) (old new : OutputView) (status : Status) : Type 0 where
   printed : (text : List ℕ) (own : Status) → Replies text own → IsOfEnd own → Prints text own old new status → IsWrittenInParts Replies old new status
   no_memory : new ≡ old → status ≡ Memory → IsWrittenInParts Replies old new status

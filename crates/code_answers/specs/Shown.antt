@@ -1,4 +1,4 @@
--- Programs, in whatever form: what they are to households, and what is answered with them.
+-- Programs, in any form: when they show a scheme, and their answers to households and tables.
 use Rattle.std.specs.Prelude.{◌≡◌, ℕ, ℤ, List, ◌++◌, None, Some, Ok, Err}
 use Rattle.m_fixed.specs.declared.amount.Value.{Value}
 use Rattle.m_names.specs.Names.{AreDistinct}
@@ -20,20 +20,21 @@ use Rattle.code_answers.specs.Households.{household_fault_line, observation_stat
 use Rattle.code_answers.specs.Schemes.{Scheme, observation_for}
 use Rattle.code_answers.specs.Tables.{rows_lines}
 
--- A program, in whatever form, is to households what a scheme is: its face has the same inputs, it gives what is asked for the same names, and what it
--- answers to values that the inputs may have, read through its face, is what the scheme tells.
+-- A program, in any form, shows a scheme: its face has the same inputs and names of outputs, and for all values that
+-- the inputs may have, its answer read through its face is the scheme's observation.
 pub record Shows (scheme : Scheme) (face : Face) (runs : List Value → Answer) : Type 0 where
   pub inputs : face.inputs ≡ scheme.inputs
   pub names : names_of face.outputs ≡ scheme.names
   pub answers : (values : List Value) → AreValuesOf scheme.inputs values
       → observation face.labels (notes_of face.outputs) (runs values) ≡ Some (scheme.observe values)
 
--- Code that can be run for households, wherever it comes from: nothing is wrong with it, and its inputs have different codes.
+-- Code that can be run, of any origin: it is well formed, and its inputs have distinct codes.
 pub record IsRunnableCode (loaded : Loaded) : Type 0 where
   pub whole : code_fault loaded.code ≡ None
   pub distinct : AreDistinct (codes_of loaded.face.inputs)
 
--- What is answered to the household of these bytes: the line by which it is refused; or some bytes, and after them the lines of what is told to it.
+-- The answer to the household of these bytes: the line of the household's fault; or the bytes `front`, and then the
+-- lines of what is observed for the household.
 pub data HouseholdReplies (front : List ℕ) (scheme : Scheme) (rows : List ℕ) : List ℕ → Status → Type 0 where
   is_refused : {line : List ℕ} (fault : HouseholdFault) → household_of scheme.inputs rows ≡ Err fault → household_fault_line fault ≡ Some line
       → HouseholdReplies front scheme rows line Refused
@@ -41,7 +42,7 @@ pub data HouseholdReplies (front : List ℕ) (scheme : Scheme) (rows : List ℕ)
       → HouseholdReplies front scheme rows (front ++ observation_lines scheme.names (observation_for scheme pairs))
       (observation_status (observation_for scheme pairs))
 
--- What is answered to the table of these bytes: the line by which it is refused, or the lines of all its rows.
+-- The answer to the table of these bytes: the line of the table's fault, or the lines of all its rows.
 pub data TableReplies (scheme : Scheme) (table : List ℕ) : List ℕ → Status → Type 0 where
   table_is_refused : {line : List ℕ} (fault : HouseholdFault) → table_of scheme.inputs table ≡ Err fault → household_fault_line fault ≡ Some line
       → TableReplies scheme table line Refused

@@ -1,4 +1,4 @@
--- What inner functions' contracts speak of. No reader of the public contract needs it.
+-- Definitions for the contracts of inner functions. Readers of the public contracts don't need them.
 pub mod Answers
 pub mod Printers
 pub mod Refusals

@@ -1,4 +1,4 @@
-//! A batch: the answers of code to the rows of a table are printed.
+//! A batch: prints the answers of code to the rows of a table.
 ghost use Rattle.std.specs.Prelude.{◌≡◌, IfOk, Ok, Err, length};
 ghost use Rattle.std.specs.List.{AllByRecursion};
 ghost use Rattle.m_places.specs.Refusals.{Outcome};
@@ -24,7 +24,7 @@ use m_ports::Sink;
 use std::alloc::Global;
 use std::thread::Threads;
 
-/// Prints what code answers to the rows of the table of these bytes, or the line by which that is refused.
+/// Prints the answers of code to the rows of the table of these bytes, or the line of the table's fault.
 pub fn answer_batch<R: Threads + Sync, K: Sink>(
     rt: &R,
     alloc: Global,
@@ -46,7 +46,7 @@ pub fn answer_batch<R: Threads + Sync, K: Sink>(
     }
 }
 
-// The rows of the table of these bytes, by its inputs.
+// The rows of the table of these bytes, for the code's inputs.
 fn rows_of<R: Threads + Sync>(
     rt: &R,
     alloc: Global,
@@ -62,7 +62,7 @@ fn rows_of<R: Threads + Sync>(
     read_table(rt, alloc, table, &codes)
 }
 
-// The status after rows that were written or not.
+// The status after printing rows.
 fn status_of_rows(written: Result<u64, PrintFault>) -> Status
     ensures { result ≡ rows_status written }
 {

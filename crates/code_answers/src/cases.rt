@@ -1,4 +1,4 @@
-//! Cases: the answers of code to the rows of a table are compared with what is expected of them.
+//! Cases: compares the answers of code to the rows of a table with their expectations.
 ghost use Rattle.std.specs.Prelude.{◌≡◌, ◌<◌, ◌≤◌, ◌^◌, IfOk, Ok, Err, length};
 ghost use Rattle.std.specs.List.{AllByRecursion};
 ghost use Rattle.m_places.specs.Refusals.{Outcome};
@@ -25,7 +25,7 @@ use m_ports::Sink;
 use std::alloc::Global;
 use std::thread::Threads;
 
-/// Prints what the rows of the table of these bytes expect and code doesn't answer, or the line by which the table is refused.
+/// Prints the expectations of the table of these bytes that the code doesn't meet, or the line of the table's fault.
 pub fn answer_cases<R: Threads + Sync, K: Sink>(
     rt: &R,
     alloc: Global,
@@ -51,7 +51,7 @@ pub fn answer_cases<R: Threads + Sync, K: Sink>(
     }
 }
 
-// The cases of the table of these bytes, by the codes of the inputs and the names of the outputs.
+// The cases of the table of these bytes, for the codes of the inputs and the names of the outputs.
 fn cases_in(alloc: Global, loaded: &Loaded, table: &[u8]) -> Result<Cases, CasesFault>
     requires runnable { IsRunnableCode loaded.now }
     requires few { length loaded.now.face.outputs < 2 ^ 32 }
@@ -67,7 +67,7 @@ fn cases_in(alloc: Global, loaded: &Loaded, table: &[u8]) -> Result<Cases, Cases
     read_cases(alloc, table, &codes, &loaded.face)
 }
 
-// The status after cases that were written or not.
+// The status after printing cases.
 fn status_of_cases(written: Result<u64, PrintFault>) -> Status
     ensures { result ≡ compared_status written }
 {

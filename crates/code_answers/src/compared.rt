@@ -1,4 +1,4 @@
-//! The rows of a table of cases, computed and compared with what is expected of them.
+//! Computes the rows of a table of cases, and compares them with their expectations.
 ghost use Rattle.std.specs.Prelude.{◌≡◌, ◌≤◌, IfOk, length};
 ghost use Rattle.std.specs.List.{AllByRecursion};
 ghost use Rattle.m_places.specs.declared.limits.TheConstants.{ROWS};
@@ -17,7 +17,7 @@ use m_ports::Sink;
 use std::alloc::Global;
 use std::thread::Threads;
 
-/// Computes, compares and writes rows, and then how many rows and mismatches there are. Answers how many mismatches.
+/// Computes, compares and prints rows, and then the number of rows and of mismatches. Gives the number of mismatches.
 pub(crate) fn print_cases<R: Threads + Sync, K: Sink>(
     rt: &R,
     alloc: Global,

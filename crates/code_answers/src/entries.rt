@@ -1,4 +1,4 @@
-//! The lines by which a command refuses what it has gathered. Nothing here takes memory.
+//! The errors of a command's files, as lines. Nothing here takes memory.
 ghost use Rattle.std.specs.Prelude.{◌≡◌};
 ghost use Rattle.std.specs.Option.{option_map};
 ghost use Rattle.tax_print.specs.FaultLines.{fault_line};
@@ -16,7 +16,7 @@ use m_ports::Sink;
 use observables::Answer;
 use tax_print::{CodeFault as Words, Fault, RowFault};
 
-/// Tells what refuses the input, or of running out of memory nothing, and answers the status.
+/// Reports why the input is rejected, or nothing for out of memory, and gives the status.
 pub fn report_refusal<K: Sink>(out: &mut K, reported: Option<Fault<'_>>) -> Status
     ensures { ReportsLine (option_map fault_line reported.entry) (output_view K.written K.faults out.old) (output_view K.written K.faults out.new) result }
 {
@@ -26,7 +26,7 @@ pub fn report_refusal<K: Sink>(out: &mut K, reported: Option<Fault<'_>>) -> Stat
     }
 }
 
-/// What the fault of a household or a table is told as. Nothing is told of running out of memory.
+/// Maps a fault of a household or a table to its line; none for out of memory.
 pub fn household_entry<'a>(fault: HouseholdFault) -> Option<Fault<'a>>
     ensures { option_map fault_line result ≡ household_fault_line fault }
 {
@@ -44,7 +44,7 @@ pub fn household_entry<'a>(fault: HouseholdFault) -> Option<Fault<'a>>
     }
 }
 
-/// What the fault of a table of cases is told as. Nothing is told of running out of memory.
+/// Maps a fault of a table of cases to its line; none for out of memory.
 pub(crate) fn cases_entry<'a>(fault: CasesFault) -> Option<Fault<'a>>
     ensures { option_map fault_line result ≡ cases_fault_line fault }
 {
@@ -64,7 +64,7 @@ pub(crate) fn cases_entry<'a>(fault: CasesFault) -> Option<Fault<'a>>
     }
 }
 
-/// What the fault of a code file is told as. Nothing is told of running out of memory.
+/// Maps a fault of a code file to its line; none for out of memory.
 pub(crate) fn code_entry<'a>(fault: CodeFault) -> Option<Fault<'a>>
     ensures { option_map fault_line result ≡ code_fault_line fault }
 {

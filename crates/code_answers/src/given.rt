@@ -1,4 +1,4 @@
-//! Codes, and the household by them.
+//! Input codes, and the household for them.
 ghost use Rattle.std.specs.Prelude.{◌≡◌, Ok, Err, IfOk, length};
 ghost use Rattle.m_places.specs.Refusals.{Outcome};
 ghost use Rattle.m_names.specs.Names.{AreDistinct};
@@ -12,7 +12,7 @@ use household::{Codes, Household, HouseholdFault, read_household};
 use observables::Coded;
 use std::alloc::{AllocError, Global};
 
-/// The codes of these inputs, and the household of these bytes by them. There are so many inputs.
+/// The codes of these inputs, and the household of these bytes for them. `count` is the number of the inputs.
 pub fn read_given(
     alloc: Global,
     inputs: &[Coded],
@@ -32,7 +32,7 @@ pub fn read_given(
     Ok((codes, given))
 }
 
-/// The codes of the inputs of code. Its only error is running out of memory.
+/// The codes of the inputs of code. The only error is out of memory.
 pub(crate) fn codes_by(alloc: Global, loaded: &Loaded) -> Result<Codes, AllocError>
     requires { IsRunnableCode loaded.now }
     ensures { IfOk result (λ codes. codes ≡ loaded.now.face.inputs) }

@@ -1,4 +1,4 @@
-//! `large N`: the code of the generated source is prepared, and its answer to the generated household is printed.
+//! `large N`: prints the answer of the generated source's code to the generated household.
 ghost use Rattle.std.specs.Prelude.{◌≡◌, ◌≤◌, ◌++◌};
 ghost use Rattle.m_places.specs.declared.limits.TheConstants.{LARGE};
 ghost use Rattle.m_ports.specs.Giving.{Gives};
@@ -27,7 +27,8 @@ use observables::{Answer, Face};
 use std::alloc::Global;
 use tax_print::print_answer;
 
-/// Prints the line `large N`, and what code answers to the generated household, which has no fault by the code's inputs.
+/// Prints the line `large N`, and the answer of code to the generated household, which has no fault for the code's
+/// inputs.
 pub fn answer_large<K: Sink>(alloc: Global, n: u32, loaded: &Loaded, out: &mut K) -> Status
     requires some { 1 ≤ n }
     requires few { n ≤ LARGE }
@@ -46,7 +47,7 @@ pub fn answer_large<K: Sink>(alloc: Global, n: u32, loaded: &Loaded, out: &mut K
     }
 }
 
-// The same with the household.
+// Computes the answer to the household, and prints the line and the answer.
 fn print_answered<K: Sink>(
     alloc: Global,
     n: u32,
@@ -71,7 +72,7 @@ fn print_answered<K: Sink>(
     }
 }
 
-// The status where the generated household has no answer: it has no fault, so there was no memory.
+// The status if the generated household has no answer: it has no fault, so memory ran out.
 fn without_answer(fault: HouseholdFault) -> Status
     requires { fault ≡ household.Memory }
     ensures { result ≡ status.Memory }

@@ -1,8 +1,8 @@
-//! What code answers, printed as it is made: to a household, to the rows of a table, to cases, and to the household of `large N`. Code files
-//! are run here, and households and code files are rejected.
+//! What code answers, printed as it is made: to a household, to the rows of a table, to cases, and to the household of
+//! `large N`. Also runs code files, and rejects malformed households, tables and code files.
 //!
-//! Each call takes loaded code, whatever it was made of, and answers as any scheme that the code shows.
-//! This crate knows nothing of sources and rules, nor of the words of the command line, and fetches no file.
+//! Uses loaded code of any origin: each call gives the answers of every scheme that the code shows. Knows nothing of
+//! sources and rules, nor of the words of the command line, and fetches no file.
 #![tactic(auto)]
 
 mod batch;

@@ -1,4 +1,4 @@
-//! What the commands print of a row that was computed.
+//! What commands print for a row that was computed.
 ghost use Rattle.std.specs.Prelude.{◌≡◌};
 
 use household::Row;
@@ -37,7 +37,8 @@ impl<'a> RowPrinter for AnswerLines<'a> {
     }
 }
 
-/// Prints a line for each expectation that an answer doesn't meet, and counts them. What is expected of a row stands at its place.
+/// Prints a line for each expectation that an answer doesn't meet, and counts them. The expectations of a row are at
+/// the row's place.
 #[derive(Drop)]
 pub(crate) struct Mismatches<'a> {
     pub face: &'a Face,

@@ -1,4 +1,4 @@
-//! A run: the answer of code to a household is printed.
+//! A run: prints the answer of code to a household.
 ghost use Rattle.std.specs.Prelude.{◌≡◌, [], Ok, Err, IfOk, length};
 ghost use Rattle.m_places.specs.Refusals.{Outcome};
 ghost use Rattle.household.specs.Household.{AreInputs, household_of};
@@ -21,7 +21,7 @@ use m_ports::{FixedText, Sink};
 use observables::Answer;
 use std::alloc::Global;
 
-/// Prints what code answers to the household of these bytes, or the line by which that is refused.
+/// Prints the answer of code to the household of these bytes, or the line of the household's fault.
 pub fn answer_run<K: Sink>(alloc: Global, loaded: &Loaded, household: &[u8], out: &mut K) -> Status
     requires { IsRunnableCode loaded.now }
     ensures { (scheme : Scheme) → Shows scheme loaded.now.face (machine_run loaded.now.code)
@@ -39,7 +39,7 @@ pub fn answer_run<K: Sink>(alloc: Global, loaded: &Loaded, household: &[u8], out
     }
 }
 
-/// What code answers to a household, or the household's fault.
+/// The answer of code to a household, or the household's fault.
 pub(crate) fn answer_of(
     alloc: Global,
     loaded: &Loaded,
@@ -52,7 +52,7 @@ pub(crate) fn answer_of(
     Ok(run_household(alloc, &loaded.code, &given)?)
 }
 
-// The household of these bytes, by its inputs.
+// The household of these bytes, for the code's inputs.
 fn given(alloc: Global, loaded: &Loaded, household: &[u8]) -> Result<Household, HouseholdFault>
     requires { IsRunnableCode loaded.now }
     ensures outcome { Outcome Memory result (λ given. household_of loaded.now.face.inputs household.now ≡ Ok given.pairs)

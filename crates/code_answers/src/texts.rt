@@ -1,5 +1,5 @@
-//! Lines that are printed into a text of a fixed room and given by one call; where they have no room there, they are printed to the
-//! output itself. Texts that may be longer go through a buffer.
+//! Lines are printed into a text of a fixed size and written by one call; lines that don't fit are written directly to
+//! the output. Texts that may be longer go through a buffer.
 ghost use Rattle.std.specs.Prelude.{◌≡◌, ◌<◌, ◌++◌, length};
 ghost use Rattle.m_ports.specs.Giving.{Gives};
 ghost use Rattle.code_file.specs.Loading.{text_with};
@@ -15,13 +15,13 @@ use observables::{Answer, Face};
 use std::marker::Brand;
 use tax_print::print_answer;
 
-/// The room for the lines of one answer.
+/// The size in bytes of the text for the lines of one answer.
 pub(crate) const ANSWER_ROOM: usize = 65_536;
 
-// The room of a buffer before the output, by which texts go that may be longer.
+// The size in bytes of the buffer for longer texts.
 const BUFFER_ROOM: usize = 65_536;
 
-/// Gives the lines of an answer.
+/// Writes the lines of an answer.
 pub(crate) fn give_answer<K: Sink>(
     face: &Face,
     answer: &Answer,
@@ -38,7 +38,7 @@ pub(crate) fn give_answer<K: Sink>(
     }
 }
 
-/// Gives the line `large N`, and then those of an answer.
+/// Writes the line `large N`, and then the lines of an answer.
 pub(crate) fn give_large<K: Sink>(
     n: u32,
     face: &Face,
@@ -56,7 +56,7 @@ pub(crate) fn give_large<K: Sink>(
     }
 }
 
-/// Gives the code file of loaded code, in pieces of one size. It takes no memory.
+/// Writes the code file of loaded code, in pieces of one size. Takes no memory.
 pub fn give_code<K: Sink>(loaded: &Loaded, out: &mut K) -> Result<(), Failed>
     ensures gives { Gives K.written K.faults out.old out.new result (text_with loaded.now.code loaded.now.face) }
     ensures form { IsPrintable loaded.now.face → IsFormOf (text_with loaded.now.code loaded.now.face) loaded.now }
@@ -66,7 +66,7 @@ pub fn give_code<K: Sink>(loaded: &Loaded, out: &mut K) -> Result<(), Failed>
     printed.result
 }
 
-// The same through this room.
+// Writes it through a buffer over these bytes.
 fn buffer_code<'a, K: Sink, O: Origin>(
     loaded: &Loaded,
     room: &'a mut [u8],

@@ -1,4 +1,4 @@
-//! Rows of edges.
+//! Rows of the graph's edges.
 use std::test::Fail;
 use value_sheet::Rows;
 

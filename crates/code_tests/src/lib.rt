@@ -1,7 +1,9 @@
-//! Tests of flat programs and what is made of them, through their public calls: the tidy form, register code, the machine that runs
-//! it and code files; kept values, and batches. They stand apart from those crates, so that a crate isn't proved a second time with
-//! its tests. What code of a source is written, and what code files, sessions and tables answer, is shown by rows of plain files,
-//! which cost no proof.
+//! Tests of flat programs and their later forms: the tidy form, register code, the machine that runs it and code
+//! files, value sheets, and batches.
+//!
+//! Uses the public calls of those crates only. Knows nothing of their proofs: it is a crate of its own, so that they
+//! aren't proved a second time with their tests. The code written for a source, and the answers of code files,
+//! sessions and tables, are tested by the rows of the program `rows`, which cost no proof.
 #![tactic(auto)]
 
 #[cfg(test)]

@@ -1,7 +1,7 @@
 //! Values that are amounts.
 use m_fixed::{Amount, Value};
 
-/// So many millionths, or over.
+/// This many millionths, or over.
 pub fn number(millionths: i128) -> Value {
     match Amount::new(millionths) {
         Some(amount) => Value::Num(amount),
@@ -9,7 +9,7 @@ pub fn number(millionths: i128) -> Value {
     }
 }
 
-/// So many whole units.
+/// This many whole units.
 pub fn units(n: i64) -> Value {
     number(n as i128 * 1_000_000)
 }

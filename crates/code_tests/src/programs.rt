@@ -1,5 +1,5 @@
-//! A program written by hand, its tidy form, and the register code of that: the input less 1000, which is over where the square of
-//! the input is; the opposite of the input is read by nothing.
+//! A program written by hand, its tidy form, and the register code of that form. The output is the input less 1000; a
+//! check stops where the square of the input is over; nothing reads the opposite of the input.
 ghost use Rattle.std.specs.Prelude.{◌≡◌, ◌≤◌, ◌<◌, All, IfOk, IsTrue, length};
 ghost use Rattle.std.specs.List.{AllByRecursion};
 ghost use Rattle.flat_code.specs.Runs.{AreNodes, IsCheck, IsFlat};
@@ -15,7 +15,7 @@ use register_alloc::allocate;
 use std::alloc::{AllocError, Global};
 use std::test::Fail;
 
-// Two literals and what is made of them and the input.
+// Two literals, and nodes over them and the input.
 fn nodes(alloc: Global) -> Result<Seq<Node>, AllocError>
     ensures { IfOk result (λ nodes. AreNodes 1 0 nodes × (length nodes ≡ 6)) }
 {
@@ -69,7 +69,7 @@ fn program(alloc: Global) -> Result<Flat, AllocError>
     })
 }
 
-/// Its tidy form.
+/// The program's tidy form.
 pub fn tidied(alloc: Global) -> Result<Tidy, AllocError>
     ensures sizes { IfOk result (λ tidy. (tidy.inputs ≡ 1) × (length tidy.nodes ≤ 6) × (length tidy.outputs ≡ 1)) }
     ensures labels { IfOk result (λ tidy. AllByRecursion (λ check. check.label < 1) tidy.checks) }
@@ -79,7 +79,7 @@ pub fn tidied(alloc: Global) -> Result<Tidy, AllocError>
     Ok(form)
 }
 
-// Whether the program's own run answers 1500.5 for 2500.5.
+// Whether the program's own run gives 1500.5 for 2500.5.
 fn is_run(alloc: Global, flat: &Flat) -> bool
     requires valid { IsFlat flat.now }
     requires inputs { flat.now.inputs ≡ 1 }
@@ -108,7 +108,7 @@ fn has_nodes(nodes: &[Node]) -> bool {
     nodes == wanted.as_slice()
 }
 
-// Whether there is one input, and the check and the output are those of the nodes that are left.
+// Whether there is one input, and the check and the output refer to the remaining nodes.
 fn is_moved(flat: &Flat) -> bool {
     let check = Check {
         guard: 3,
@@ -128,7 +128,7 @@ fn what_nothing_reads_is_removed(rt: HostRuntime) -> Result<(), Fail> {
     Ok(())
 }
 
-// Whether all labels are below a count.
+// Whether all labels are below `labels`.
 fn are_below(checks: &[Check], labels: u32) -> bool
     ensures { IsTrue result → All (λ check. check.label < labels) checks.now }
 {
@@ -140,7 +140,7 @@ fn are_below(checks: &[Check], labels: u32) -> bool
     true
 }
 
-// The code of the tidy form, in which each value takes the first register that is free.
+// The code of the tidy form, in which each value takes the first free register.
 fn instr(i: usize) -> Instr {
     match i {
         0 => Instr::Take(0, 0),
@@ -153,7 +153,7 @@ fn instr(i: usize) -> Instr {
     }
 }
 
-// Whether code has these seven instructions, no slot and one label.
+// Whether code has these seven instructions, no slots and one label.
 fn is_code(code: &Code) -> bool {
     if code.slots() != 0 || code.labels() != 1 || code.len() != 7 {
         return false;
@@ -166,7 +166,7 @@ fn is_code(code: &Code) -> bool {
     true
 }
 
-// Whether a tidy form, which is small, has this code.
+// Whether a tidy form, which must be small, has this code.
 fn is_form_code(alloc: Global, tidy: &Tidy) -> bool {
     let flat = tidy.flat();
     if flat.nodes.as_slice().len() > 100
@@ -189,7 +189,7 @@ fn a_value_takes_the_first_free_register(rt: HostRuntime) -> Result<(), Fail> {
     Ok(())
 }
 
-// Whether code of as many slots and outputs as there may be is refused for the output that it doesn't give.
+// Whether code with the greatest numbers of slots and outputs is rejected for an output that it doesn't give.
 fn is_refused(alloc: Global) -> bool {
     let instrs = [Instr::Take(0, 0), Instr::Output(7, 0)];
     match make_code(alloc, 1, 4_294_967_295, 2, 4_294_967_295, &instrs) {
@@ -198,7 +198,7 @@ fn is_refused(alloc: Global) -> bool {
     }
 }
 
-/// There are 4,294,967,295 slots and as many outputs: neither takes room.
+/// Code with 4,294,967,295 slots and as many outputs is checked without allocating memory for them.
 #[test]
 fn counts_take_no_room(rt: HostRuntime) {
     assert!(rt; is_refused(rt.alloc()));

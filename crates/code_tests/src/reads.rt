@@ -1,4 +1,4 @@
-//! Code files that are read: what is read is written as the same.
+//! Code files that are read: what was read is written as the same text.
 use code_file::{Loaded, read_code, write_code};
 use m_places::limits::CODE_FILE_BYTES;
 use m_ports::{MemSink, Sink};
@@ -53,7 +53,7 @@ out 4 3
 end
 ";
 
-// The two texts, out of reach of the proofs of what goes over them.
+// The two texts as functions, so that proofs about their users don't expand them.
 fn example() -> &'static [u8] {
     EXAMPLE
 }
@@ -62,7 +62,7 @@ fn forms() -> &'static [u8] {
     FORMS
 }
 
-// Whether what was read is written as this text.
+// Whether this code is written as this text.
 fn is_written(alloc: Global, loaded: &Loaded, bytes: &[u8]) -> bool {
     match MemSink::new(alloc, 5, Vec::new(alloc)) {
         Ok(mut out) => write_code(loaded, &mut out).is_ok() && out.written() == bytes,
@@ -70,7 +70,7 @@ fn is_written(alloc: Global, loaded: &Loaded, bytes: &[u8]) -> bool {
     }
 }
 
-// Whether what is read of a text is written as the same.
+// Whether a text is read, and written as the same text.
 fn reads_back(alloc: Global, bytes: &[u8]) -> bool {
     if bytes.len() as u64 > CODE_FILE_BYTES {
         return false;

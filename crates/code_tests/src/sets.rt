@@ -5,7 +5,7 @@ use dirty_set::Bits;
 use std::alloc::{AllocError, Global};
 use std::test::Fail;
 
-// The empty set of numbers below a count.
+// The empty set of numbers below `count`.
 fn empty(alloc: Global, count: u32) -> Result<Bits, AllocError>
     ensures { IfOk result (λ set. length set ≡ count) }
 {
@@ -13,7 +13,7 @@ fn empty(alloc: Global, count: u32) -> Result<Bits, AllocError>
     Ok(set)
 }
 
-// Makes a number a member.
+// Adds a number to the set.
 fn add(set: &mut Bits, k: u32)
     requires { k < length set.old }
     ensures { length set.new ≡ length set.old }
@@ -21,7 +21,8 @@ fn add(set: &mut Bits, k: u32)
     set.insert(k);
 }
 
-// Whether no member stands between 70 and 99,999,999. It is asked 100,000 times, which is quick where no number between is looked at.
+// Whether no member is between 70 and 99,999,999. This is called 100,000 times, which is quick only if the numbers
+// between aren't visited.
 fn is_far(set: &Bits) -> bool {
     for _ in 0..100_000u32 {
         if set.next_from(71) != Some(99_999_999) {
@@ -31,7 +32,7 @@ fn is_far(set: &Bits) -> bool {
     true
 }
 
-// Whether a set that was empty has the members that are added and not those that are removed.
+// Whether a set that was empty has the members added, without those removed.
 fn has_members(set: &mut Bits) -> bool
     requires { length set.old ≡ 100_000_000 }
 {

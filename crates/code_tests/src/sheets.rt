@@ -1,4 +1,4 @@
-//! A sheet of the program written by hand.
+//! A value sheet of the program written by hand.
 ghost use Rattle.std.specs.Prelude.{◌≡◌, ◌<◌, length};
 
 use crate::numbers::units;
@@ -9,7 +9,7 @@ use std::sync::ledger::{Blank, Ledger};
 use std::test::Fail;
 use value_sheet::{Sheet, Steps};
 
-// Whether what a sheet tells of its program's answers is right, from one settle to the next.
+// Whether a sheet has the program's answers after each settle.
 fn observe<L: Ledger>(sheet: &mut Sheet, blank: Blank) -> bool
     requires name { blank.name ≡ L.name }
     requires parts { blank.parts ≡ L.parts }

@@ -1,5 +1,5 @@
-//! Two workers meet at a gate that one thread can't pass, in whatever order it takes the rows: where rows are answered, and where they are
-//! printed, as the commands `batch` and `cases` do it.
+//! Two workers meet at a gate that one thread can't pass, in any order of the rows: when rows are answered, and when
+//! they are printed, as the commands `batch` and `cases` do.
 ghost use Rattle.std.specs.Prelude.{◌≡◌, IfOk};
 ghost use Rattle.std.specs.List.{AllByRecursion};
 ghost use Rattle.m_batch.specs.Batch.{HasInputsBelow};
@@ -17,7 +17,7 @@ use std::sync::atomic::{AtomicU64, Ordering};
 use std::test::Fail;
 use std::thread::Threads;
 
-// Each flag is 1 once its row's worker has come, and each answer once it has seen the other's flag.
+// The flags are 1 once the worker of the row has arrived, and the `saw` values once it has seen the other's flag.
 #[derive(Drop)]
 struct Both {
     first: AtomicU64,
@@ -55,7 +55,7 @@ impl Gate for Both {
     }
 }
 
-// The input less 1000, and 0 where that is below.
+// The input less 1000, and 0 if that is negative.
 fn code(alloc: Global) -> Result<Code, Fail>
     ensures { IfOk result (λ code. code.counts.inputs ≡ 1) }
 {
@@ -108,7 +108,7 @@ fn is_number(answer: &Answer, millionths: i128) -> bool {
     }
 }
 
-// How many answers aren't the wanted ones.
+// The number of wrong answers.
 fn wrong(answers: &[Answer]) -> usize {
     let mut count: usize = 0;
     for (k, answer) in answers.iter().enumerate() {
@@ -124,7 +124,7 @@ fn have_met(gate: &Both) -> bool {
     gate.first_saw.load(Ordering::SeqCst) == 1 && gate.last_saw.load(Ordering::SeqCst) == 1
 }
 
-// Whether the rows are answered what is wanted of so many.
+// Whether all rows have the expected answers.
 fn are_answered<R: Threads + Sync, G: Gate + Sync>(
     rt: &R,
     alloc: Global,
@@ -177,7 +177,7 @@ impl RowPrinter for Labels {
     }
 }
 
-// Whether so many rows are printed.
+// Whether all rows are printed.
 fn are_printed<R: Threads + Sync, G: Gate + Sync>(
     rt: &R,
     alloc: Global,
@@ -195,7 +195,7 @@ fn are_printed<R: Threads + Sync, G: Gate + Sync>(
     }
 }
 
-// Whether a text is the labels of 256 rows, in their order.
+// Whether a text has the labels of 256 rows, in order.
 fn are_labels(text: &[u8]) -> bool {
     for k in 0..256usize {
         let at = 2 * k;

@@ -1,4 +1,4 @@
--- The reasons that a session tells are those of its source.
+-- The explanations of a session are those of its source.
 use Rattle.std.proofs.Common.{◌≡◌, ℕ, List, [], ◌∷◌, ◌++◌, length, replicate, refl, ap, ◌∙◌}
 use Rattle.m_fixed.specs.declared.amount.Value.{Value}
 use Rattle.m_places.specs.declared.source.Source.{Source}
@@ -25,7 +25,7 @@ use Rattle.command_answers.specs.inner.Answers.{IsPrepared}
 use Rattle.code_answers.specs.Schemes.{Scheme}
 use Rattle.command_answers.specs.declared.program.Program.{Program}
 
--- what cells begin with by a reporter and by a driver
+-- the start values of cells by a reporter and by a driver
 same_first : (inputs : List Value) (n : ℕ) (role : Role) → start_value inputs n role ≡ first_value inputs n role
 same_first inputs n (Input code) = refl
 same_first inputs n (Computed size) = refl
@@ -38,7 +38,7 @@ same_from inputs n (v ∷ vs) = λ i. replicate v.cells (same_first inputs n v.i
 same_start : (declared : Declared) (inputs : List Value) → start_env declared inputs ≡ start_of declared inputs
 same_start declared inputs = same_from inputs 0 declared.variables
 
--- the reasons along an order are told of a source
+-- the reasons in an order explain a source
 pub is_explained : (source : Source) (declared : Declared) (ordered : Ordered) → HasRules source declared ordered.base → IsValidBase ordered.base
     → IsOrder ordered.base ordered.sequence
     → IsExplained source (explains_by declared ordered)
@@ -51,7 +51,7 @@ is_explained source declared ordered rules valid order = record {
   stated = λ values name. ap (λ (env : List Value). explanation declared (λ c. why_lines ordered (environment env) c) name) (same_start declared values);
 }
 
--- a prepared program has an input for each that is declared
+-- a prepared program has an input for each declared input
 pub as_many_inputs : (source : Source) (program : Program) (declared : Declared) (base : Base) → IsPrepared source program → HasRules source declared base
     → length program.face.inputs ≡ length (inputs_from 0 declared.variables)
 as_many_inputs source program declared base is rules =

@@ -1,4 +1,4 @@
--- `large N`: the generated source and household have no fault, so that nothing is refused.
+-- `large N`: the generated source and household have no fault, so nothing is rejected.
 use Rattle.std.proofs.Common.{◌≡◌, ◌≢◌, ℕ, ℤ, ◌≤◌, List, Ok, None, refl, sym, ◌∙◌, ap, subst}
 use Rattle.household.specs.Household.{household_of}
 use Rattle.code_file.specs.declared.loaded.Loaded.{Loaded}
@@ -40,7 +40,7 @@ pub without_code_only : (n : ℕ) → 1 ≤ n → n ≤ 100000 → (fault : Sour
     → fault ≡ source.Memory
 without_code_only n some few fault h = only_memory fault (λ other. no_fault n some few fault (h other))
 
--- ---- what the household gives
+-- ---- the pairs of the household
 
 given : (n : ℕ) → 1 ≤ n → n ≤ 100000 → (scheme : Scheme) → IsScheme (large_source n) scheme
     → (pairs : List (ℕ × ℤ)) × (household_of scheme.inputs (household_text n) ≡ Ok pairs)

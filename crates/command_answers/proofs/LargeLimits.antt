@@ -1,4 +1,4 @@
--- The generated source keeps the limits of a source.
+-- The generated source is within the limits of a source.
 use Rattle.std.proofs.Common.{◌≡◌, ℕ, zero, suc, ◌+◌, ◌-◌, ◌*◌, ◌<◌, ◌≤◌, List, [], ◌∷◌, length, refl, ◌∙◌, ap, arith, length-append}
 use Rattle.std.specs.Prelude.{codes, decimal}
 use Rattle.std.proofs.lemmas.Fmt.{length-decimal-le}
@@ -8,7 +8,7 @@ use Rattle.m_text.specs.Pieces.{new_line}
 use Rattle.m_large.specs.Large.{declaration, declarations, rule, rules, first_rule, check, base_text}
 use Rattle.large_validity.specs.Sources.{large_requests, large_source}
 
--- the lengths of pieces together
+-- the total length of pieces
 abbrev total : List (List ℕ) → ℕ
 total [] = 0
 total (piece ∷ pieces) = length piece + total pieces

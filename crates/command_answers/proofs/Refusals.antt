@@ -1,4 +1,4 @@
--- Errors of sources that were told.
+-- Errors of sources that were reported.
 use Rattle.std.proofs.Common.{◌≡◌, ℕ, List, Option, None, Some, Result, refl, ap, inl, inr}
 use Rattle.std.specs.Prelude.{◌≢◌}
 use Rattle.m_places.specs.declared.source.Source.{Source}
@@ -22,14 +22,14 @@ reported_by_line s stated fault None old new status h is reported = inr reported
 reported_by_line s stated fault (Some line) old new status h is reported =
     inl (line, source_is_refused fault (h (λ m. let none : source_line s.texts fault ≡ None = ap (source_line s.texts) m in cc (none, is))) is, reported)
 
--- a source was refused
+-- a source was rejected
 pub source_reported : (s : Source) {Given : Type 0} (stated : List Coded → Result Given HouseholdFault) (fault : SourceFault) (old new : OutputView)
     (status : Status)
     → (fault ≢ source.Memory → IsSourceFault s fault) → ReportsLine (source_line s.texts fault) old new status
     → ReportsRefusal (Refuses s stated) old new status
 source_reported s stated fault old new status h reported = reported_by_line s stated fault (source_line s.texts fault) old new status h refl reported
 
--- a source was refused by a fault
+-- a source was rejected by a fault
 pub fault_reported : (s : Source) (fault : SourceFault) (old new : OutputView) (status : Status) → (fault ≢ source.Memory → IsSourceFault s fault)
     → ReportsLine (source_line s.texts fault) old new status → ReportsRefusal (λ line. IsSourceFault s fault × (source_line s.texts fault ≡ Some line)) old new
     status

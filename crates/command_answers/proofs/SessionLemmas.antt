@@ -1,4 +1,4 @@
--- A session of a program replies as its scheme says.
+-- A session of a program replies as its scheme specifies.
 use Rattle.std.proofs.Common.{◌≡◌, ℕ, ℤ, length, List, [], ◌∷◌, ◌++◌, Option, Some, None, refl, ◌∙◌, ap}
 use Rattle.std.specs.Prelude.{codes}
 use Rattle.m_fixed.specs.declared.amount.Value.{Value}
@@ -38,7 +38,7 @@ same_values inputs one other values shows = refl
 same_values inputs one other values too_long = refl
 same_values inputs one other values bad = refl
 
--- one line more, where the replies to further lines are the same
+-- one more line, where the replies to further lines are the same
 same_turn : (inputs : List Coded) (one other : List Value → List ℕ) (explains : Explaining) (first : List ℕ) (lines : List (List ℕ))
     → ((values : List Value) → AreValuesOf inputs values → one values ≡ other values)
     → ((values : List Value) → AreValuesOf inputs values → explained_replies (with_text inputs one) explains values lines ≡ explained_replies
@@ -71,7 +71,7 @@ replies_are one other explains known same lines values all =
     ap (λ inputs. explained_replies (with_text inputs one.text) explains values lines) known
     ∙ same_lines other.inputs one.text other.text explains same lines values all
 
--- ---- what is replied to a prefix of an input
+-- ---- the replies to a prefix of an input
 
 -- the replies to all lines of an input begin with those to the lines of a prefix of it that have their line feed
 pub whole_begins : (scheme : Scheme) (explains : Explaining) (pairs : List (ℕ × ℤ)) (front rest : List ℕ)
@@ -81,7 +81,7 @@ whole_begins scheme explains pairs front rest =
     let more = replies-begin (scheme_showing scheme) explains (values_of pairs (length scheme.inputs)) (ended_lines front) lines.0 in
     (more.0, ap (replies_by scheme explains pairs) lines.1 ∙ more.1)
 
--- and so do the replies to those of its lines that have their line feed
+-- so do the replies to those of its lines that have their line feed
 pub ended_begins : (scheme : Scheme) (explains : Explaining) (pairs : List (ℕ × ℤ)) (front rest : List ℕ)
     → (text : List ℕ) × (ended_replies scheme explains pairs (front ++ rest) ≡ ended_replies scheme explains pairs front ++ text)
 ended_begins scheme explains pairs front rest =

@@ -1,4 +1,4 @@
--- From what was told and written to how a command ended.
+-- From what was found and written to a command's ending.
 use Rattle.std.proofs.Common.{◌≡◌, ℕ, length, List, [], ◌++◌, Ok, Err, refl, sym, ◌∙◌, ap, subst, inl, inr}
 use Rattle.std.specs.Prelude.{Some}
 use Rattle.m_fixed.specs.declared.amount.Value.{Value}
@@ -156,7 +156,7 @@ served_as one ended other also heard reported old new status w e (unwritten take
 served_as one ended other also heard reported old new status w e (unwritten_at_end taken moved few none calm breaks is) =
     unwritten_at_end taken moved few none calm (subst (λ text. Breaks text old new) (w taken) breaks) is
 
--- what a session of a program replies is what its scheme says
+-- the replies of a program's session are those of its scheme
 same_replies : (scheme : Scheme) (program : Program) (rows : List ℕ) (session : Sitting) (explains : Explaining) → IsRunnable program.face program.tidy
     → Shows scheme program.face (flat_run program.tidy)
     → (of : IsBegun program rows session) → household_of scheme.inputs rows ≡ Ok of.pairs → (lines : List (List ℕ))
@@ -195,14 +195,14 @@ session_served scheme program declared ordered rows joined runs shown of heard r
 
 -- ---- preparing
 
--- the scheme of a source that is compiled
+-- the scheme of a compiled source
 abbrev scheme_of : (source : Source) (compiled : Compiled) → IsCompiled source compiled → Scheme
 scheme_of source compiled is = source_scheme is.declared is.base is.written is.requests
 
 valid_of : (source : Source) (compiled : Compiled) → (is : IsCompiled source compiled) → IsScheme source (scheme_of source compiled is)
 valid_of source compiled is = record { declared = is.declared; base = is.base; written = is.written; requests = is.requests; valid = is.valid; stated = refl }
 
--- what has the answers of the tidy program shows it
+-- a program with the answers of the tidy program shows its scheme
 shows_of : (source : Source) (compiled : Compiled) → (is : IsCompiled source compiled) → (runs : List Value → Answer)
     → ((vs : List Value) → runs vs ≡ flat_run compiled.tidy vs)
     → Shows (scheme_of source compiled is) compiled.face runs
@@ -213,7 +213,7 @@ shows_of source compiled is runs same = record {
       ∙ is.answers vs (subst (λ inputs. AreValuesOf inputs vs) (sym is.inputs) all);
 }
 
--- what a source is compiled to is prepared
+-- a compiled source is prepared
 pub is_prepared : (source : Source) (compiled : Compiled) → IsCompiled source compiled
     → IsPrepared source (record { face = compiled.face; tidy = compiled.tidy })
 is_prepared source compiled is = record {

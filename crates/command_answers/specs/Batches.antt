@@ -1,4 +1,4 @@
--- What a batch answers.
+-- The answer of `batch`.
 use Rattle.std.specs.Prelude.{◌≡◌, ℕ, List, Ok}
 use Rattle.m_places.specs.declared.source.Source.{Source}
 use Rattle.household.specs.Table.{table_of}
@@ -9,7 +9,8 @@ use Rattle.code_answers.specs.Schemes.{Scheme}
 use Rattle.command_answers.specs.Sources.{IsScheme, Refuses}
 use Rattle.code_answers.specs.Tables.{rows_lines}
 
--- The answer of a batch of a source over the table of these bytes: an error, or the lines of all its rows. A row that stops is one like the others.
+-- The answer of a batch of a source over the table of these bytes: an error line, or the lines of all its rows. A row
+-- whose run is stopped has lines too, and the rows after it are answered.
 pub data BatchReplies (source : Source) (table : List ℕ) : List ℕ → Status → Type 0 where
   is_refused : {line : List ℕ} → Refuses source (λ inputs. table_of inputs table) line → BatchReplies source table line Refused
   is_reported : (scheme : Scheme) (rows : List Row) → IsScheme source scheme → table_of scheme.inputs table ≡ Ok rows

@@ -1,4 +1,4 @@
--- What `cases` answers of a source.
+-- The answer of `cases` for a source.
 use Rattle.std.specs.Prelude.{◌≡◌, ℕ, List, Some, Ok}
 use Rattle.m_places.specs.declared.source.Source.{Source}
 use Rattle.m_cases.specs.Cases.{cases_of}
@@ -12,7 +12,8 @@ use Rattle.code_answers.specs.Schemes.{Scheme}
 use Rattle.command_answers.specs.Sources.{IsScheme}
 use Rattle.code_answers.specs.Cases.{ComparedReplies}
 
--- The answer of the cases of a source over the table of these bytes: the line of the source's fault, or what is answered by the source's scheme.
+-- The answer of the cases of a source over the table of these bytes: the line of the source's fault, or the answer by
+-- the source's scheme.
 pub data CasesReplies (source : Source) (table : List ℕ) : List ℕ → Status → Type 0 where
   source_is_refused : {line : List ℕ} (fault : SourceFault) → IsSourceFault source fault → source_line source.texts fault ≡ Some line
       → CasesReplies source table line Refused

@@ -1,4 +1,4 @@
--- What `compile` answers.
+-- The answer of `compile`.
 use Rattle.std.specs.Prelude.{◌≡◌, ℕ, List, Some}
 use Rattle.m_places.specs.declared.source.Source.{Source}
 use Rattle.code_file.specs.Reading.{IsFormOf}
@@ -12,7 +12,8 @@ use Rattle.command_answers.specs.Prepared.{IsPreparedCode}
 use Rattle.code_answers.specs.Schemes.{Scheme}
 use Rattle.command_answers.specs.Sources.{IsScheme}
 
--- The answer of a compilation of a source: the line of its fault, or the code file of what it is compiled to. That is a code file which `exec` takes.
+-- The answer of a compilation of a source: the line of its fault, or the code file of the compiled source, which
+-- `exec` accepts.
 pub data CompileReplies (source : Source) : List ℕ → Status → Type 0 where
   is_refused : {line : List ℕ} (fault : SourceFault) → IsSourceFault source fault → source_line source.texts fault ≡ Some line
       → CompileReplies source line Refused

@@ -1,4 +1,4 @@
--- Why a variable has its value, as sessions of a source tell it.
+-- Why a variable has its value, as sessions of a source explain it.
 use Rattle.std.specs.Prelude.{◌≡◌, ℕ, ◌<◌, List}
 use Rattle.m_fixed.specs.declared.amount.Value.{Value}
 use Rattle.m_places.specs.declared.source.Source.{Source}
@@ -11,8 +11,8 @@ use Rattle.why_report.specs.declared.line.ReportLine.{ReportLine}
 use Rattle.why_session.specs.Explains.{Explaining, explanation}
 use Rattle.m_compile.specs.Sources.{HasRules}
 
--- What is told of names is told of a source: of each cell some reason of its value, over what the cells begin with. The driver plays no part. A cell may have
--- several reasons, which have the same lines in other orders.
+-- The explanations are those of a source: for each cell a reason of its value, over the values that cells start with.
+-- The driver isn't used. A cell may have several reasons, which have the same lines in other orders.
 pub record IsExplained (source : Source) (explains : Explaining) : Type 0 where
   pub declared : Declared
   pub base : Base

@@ -1,4 +1,4 @@
--- What a source is prepared to.
+-- The prepared code of a source.
 use Rattle.m_places.specs.declared.source.Source.{Source}
 use Rattle.flat_code.specs.declared.program.Flat.{Flat}
 use Rattle.reg_machine.specs.Machine.{machine_run}
@@ -8,7 +8,7 @@ use Rattle.code_answers.specs.Schemes.{Scheme}
 use Rattle.command_answers.specs.Sources.{IsScheme}
 use Rattle.code_answers.specs.Shown.{Shows}
 
--- The source is compiled to this code, by way of some tidy program, and the code is to households what the source is.
+-- The source is compiled to this code, by way of some tidy program, and the code shows the source's scheme.
 pub record IsPreparedCode (source : Source) (loaded : Loaded) : Type 0 where
   pub tidy : Flat
   pub compiled : IsCompiled source (record { face = loaded.face; tidy = tidy; code = loaded.code })

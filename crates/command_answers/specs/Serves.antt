@@ -1,4 +1,4 @@
--- What `serve` answers to an input, and what became of the input.
+-- The answer of `serve` to an input, and how much of the input it read.
 use Rattle.std.specs.Prelude.{◌≡◌, ℕ, ℤ, ◌<◌, List, ◌++◌, length, Ok}
 use Rattle.tax_print.specs.FaultLines.{input_too_long_line, unreadable_input_line}
 use Rattle.m_places.specs.declared.limits.TheConstants.{INPUT_BYTES}
@@ -15,14 +15,16 @@ use Rattle.command_answers.specs.Sources.{IsScheme, Refuses}
 use Rattle.command_answers.specs.Sessions.{ended_replies, session_replies}
 use Rattle.command_answers.specs.Serving.{Served}
 
--- The source is valid, the household has no fault, and the session begins with this and tells this of names that it is asked about.
+-- The source is valid, the household has no fault, and the session starts with these pairs and explains names in this
+-- way.
 pub record IsSession (source : Source) (rows : List ℕ) (scheme : Scheme) (explains : Explaining) (pairs : List (ℕ × ℤ)) : Type 0 where
   pub valid : IsScheme source scheme
   pub explained : IsExplained source explains
   pub given : household_of scheme.inputs rows ≡ Ok pairs
 
--- What is answered to an input: an error; or the replies to all its lines; or, where it has as many bytes as are taken of an input, the replies to the
--- lines that have their line feed among these, and then the line that it is too long.
+-- The answer to an input: an error line; or the replies to all its lines; or, where the input has `INPUT_BYTES` bytes
+-- or more, the replies to the lines that have their line feed among the first `INPUT_BYTES`, and then the line that
+-- the input is too long.
 pub data ServeReplies (source : Source) (rows typed : List ℕ) : List ℕ → Status → Type 0 where
   is_refused : {line : List ℕ} → Refuses source (λ inputs. household_of inputs rows) line → ServeReplies source rows typed line Refused
   is_served : (scheme : Scheme) (explains : Explaining) (pairs : List (ℕ × ℤ)) → IsSession source rows scheme explains pairs → length typed < INPUT_BYTES
@@ -31,13 +33,14 @@ pub data ServeReplies (source : Source) (rows typed : List ℕ) : List ℕ → S
       → typed ≡ taken ++ rest → length taken ≡ INPUT_BYTES
       → ServeReplies source rows typed (ended_replies scheme explains pairs taken ++ input_too_long_line) Refused
 
--- What is written where a read failed after these bytes of the input, which are fewer than are taken of one: the replies to the lines that have their
--- line feed among them, and then a line that says so.
+-- The output if a read failed after these bytes of the input, which are below the limit: the replies to the lines that
+-- have their line feed among them, and then the line that the input can't be read.
 pub data ServeCutOff (source : Source) (rows taken : List ℕ) : List ℕ → Type 0 where
   is_cut_off : (scheme : Scheme) (explains : Explaining) (pairs : List (ℕ × ℤ)) → IsSession source rows scheme explains pairs → length taken < INPUT_BYTES
       → ServeCutOff source rows taken (ended_replies scheme explains pairs taken ++ unreadable_input_line)
 
--- `serve` ended: with an error or for lack of memory before anything was taken from the input, or the session began and had its lines.
+-- How `serve` ended: with an error or out of memory before anything was read from the input, or the session started
+-- and ran over the input.
 pub data IsServed (source : Source) (rows : List ℕ) (heard reported : InputView) (old new : OutputView) (status : Status) : Type 0 where
   refused : (line : List ℕ) → Refuses source (λ inputs. household_of inputs rows) line → reported ≡ heard → Prints line Refused old new status
       → IsServed source rows heard reported old new status

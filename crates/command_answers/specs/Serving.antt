@@ -1,4 +1,4 @@
--- What became of an input and an output while lines were replied to.
+-- How much of an input was read and what was written, where each line is replied to.
 use Rattle.std.specs.Prelude.{◌≡◌, ℕ, ◌<◌, ◌≤◌, List, ◌++◌, length}
 use Rattle.std.specs.Io.KnownBytes.{prepend_known, IsAtEnd}
 use Rattle.m_places.specs.declared.limits.TheConstants.{INPUT_BYTES}
@@ -9,11 +9,11 @@ use Rattle.command_plans.specs.Views.{InputView, OutputView}
 use Rattle.command_plans.specs.declared.status.Status.{Status}
 use Rattle.command_plans.specs.declared.status.Status.TheVariants.{Done, ReadFault, Refused, WriteFault}
 
--- An input was replied to, until it ended, or a read failed, or as much was taken as may be, or a write failed. No end takes more, and the
--- input's end and a failed read come while less was taken. `whole` gives the replies to all lines of an input, and `ended` those to the
--- lines that have their line feed. Where a read failed or too much was taken a line says so after the replies. Where a write failed, what
--- was written is a prefix of a text: of the replies to the lines that have their line feed, at the input's end of those to all lines, or of
--- one of those two texts.
+-- How an input was replied to: until its end, a failed read, the limit of bytes read, or a failed write. `whole` gives
+-- the replies to all lines of an input, `ended` those to the lines that have their line feed. The input's end and a
+-- failed read come before the limit. After a failed read, or at the limit, a line after the replies reports this.
+-- After a failed write, a prefix of a text was written: of the replies to the lines that have their line feed, or at
+-- the input's end of those to all lines, or of one of the two texts with such a last line.
 pub data Served (whole ended : List ℕ → List ℕ) (heard reported : InputView) (old new : OutputView) (status : Status) : Type 0 where
   to_its_end : (taken : List ℕ) → heard.left ≡ prepend_known taken reported.left → length taken < INPUT_BYTES → IsAtEnd reported.left
       → reported.faults ≡ heard.faults

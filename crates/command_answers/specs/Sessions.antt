@@ -1,4 +1,4 @@
--- What a session replies by what its source says, whatever program stands for it.
+-- The replies of a session, by a source's scheme alone, whatever program computes them.
 use Rattle.std.specs.Prelude.{ℕ, ℤ, List, length}
 use Rattle.household.specs.Household.{values_of}
 use Rattle.household_session.specs.Replies.{ended_lines, input_lines}
@@ -7,12 +7,12 @@ use Rattle.tax_print.specs.Lines.{observation_lines}
 use Rattle.why_session.specs.Explains.{Explaining, explained_replies}
 use Rattle.code_answers.specs.Schemes.{Scheme}
 
--- what a session shows: the inputs, and the lines of what is told to values
+-- what a session shows: the inputs, and the lines of what is observed for values
 abbrev pub scheme_showing : Scheme → Showing
 scheme_showing scheme = record { inputs = scheme.inputs; text = λ values. observation_lines scheme.names (scheme.observe values) }
 
--- The replies to lines, where a session begins with these pairs and tells this of names that it is asked about. Of the pair of `1AJ`
--- and 5, to `set 1AJ x` and `clear 1AJ` the lines `refused bad amount` and `ok`.
+-- The replies to lines, where a session starts with these pairs and explains names in this way. For the pair of `1AJ`
+-- and 5, the lines `set 1AJ x` and `clear 1AJ` have the replies `refused bad amount` and `ok`.
 abbrev pub replies_by : Scheme → Explaining → List (ℕ × ℤ) → List (List ℕ) → List ℕ
 replies_by scheme explains pairs lines = explained_replies (scheme_showing scheme) explains (values_of pairs (length scheme.inputs)) lines
 

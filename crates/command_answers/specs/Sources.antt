@@ -1,4 +1,4 @@
--- What a source is to households, and the line by which it is refused.
+-- The scheme of a source, and the line of its error.
 use Rattle.std.specs.Prelude.{◌≡◌, ℕ, List, Option, Some, Result, Err, map}
 use Rattle.m_places.specs.declared.source.Source.{Source}
 use Rattle.m_symbols.specs.Declarations.{Declared}
@@ -16,8 +16,8 @@ use Rattle.m_compile.specs.declared.fault.SourceFault.{SourceFault}
 use Rattle.code_answers.specs.Households.{household_fault_line}
 use Rattle.code_answers.specs.Schemes.{Scheme}
 
--- what is said by declarations, a base, the driver that was written, and what is asked for: the inputs, the names of the cells that are
--- asked for, and what the driver over the rules answers
+-- the scheme of declarations, a base, the written driver and the requests: the inputs, the names of the requested
+-- cells, and the answer of the driver over the rules
 abbrev pub source_scheme : Declared → Base → Option Core → List ℕ → Scheme
 source_scheme declared base written requests = record {
   inputs = inputs_declared declared;
@@ -25,7 +25,7 @@ source_scheme declared base written requests = record {
   observe = answer_to declared base written requests;
 }
 
--- The source is valid, and this is what it is to households.
+-- The source is valid, and this is its scheme.
 pub record IsScheme (source : Source) (scheme : Scheme) : Type 0 where
   pub declared : Declared
   pub base : Base
@@ -34,8 +34,8 @@ pub record IsScheme (source : Source) (scheme : Scheme) : Type 0 where
   pub valid : IsValid source declared base written requests
   pub stated : scheme ≡ source_scheme declared base written requests
 
--- The line by which a source is refused, or the file of households after it, of which `said` is what it says by the inputs: the fault of the
--- source, and in a valid source the fault of that file.
+-- The error line of a source or of the file of households after it, whose contents for given inputs are `stated`: the
+-- source's fault, or for a valid source the fault of that file.
 pub data Refuses (source : Source) {Given : Type 0} (stated : List Coded → Result Given HouseholdFault) (line : List ℕ) : Type 0 where
   source_is_refused : (fault : SourceFault) → IsSourceFault source fault → source_line source.texts fault ≡ Some line → Refuses source stated line
   households_are_refused : (scheme : Scheme) (fault : HouseholdFault) → IsScheme source scheme → stated scheme.inputs ≡ Err fault

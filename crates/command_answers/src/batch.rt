@@ -1,4 +1,4 @@
-//! A batch: the answers of a source's code to the rows of a table are printed, in groups.
+//! A batch: prints the answers of a source's code to the rows of a table, in groups.
 ghost use Rattle.std.specs.Prelude.{Ok, Err};
 ghost use Rattle.m_places.specs.SourceLimits.{SourceKeepsLimits};
 ghost use Rattle.command_plans.specs.Views.{output_view};
@@ -14,9 +14,9 @@ use m_ports::Sink;
 use std::alloc::Global;
 use std::thread::Threads;
 
-/// Prepares the code of a source, and prints the label of each row of the table of these bytes with its answer, or the line by
-/// which one of them is refused. The rows are computed and written in groups, so that a prefix of the answer is written where memory
-/// ends it.
+/// Prepares the code of a source, and prints the label of each row of the table of these bytes with its answer, or the
+/// line of the first fault of the two. Rows are computed and written in groups, so a prefix of the answer is written
+/// if memory runs out.
 pub fn batch_source<R: Threads + Sync, K: Sink>(
     rt: &R,
     alloc: Global,

@@ -1,4 +1,4 @@
-//! Cases: the answers of a source's code to the rows of a table are compared with what is expected of them, in groups.
+//! Cases: compares the answers of a source's code to the rows of a table with their expectations, in groups.
 ghost use Rattle.std.specs.Prelude.{◌<◌, Ok, Err};
 ghost use Rattle.m_places.specs.SourceLimits.{SourceKeepsLimits};
 ghost use Rattle.command_plans.specs.Views.{output_view};
@@ -14,9 +14,9 @@ use m_ports::Sink;
 use std::alloc::Global;
 use std::thread::Threads;
 
-/// Prepares the code of a source, and prints what the rows of the table of these bytes expect and aren't told, and how much that is, or the
-/// line by which one of the two is refused. The rows are computed and written in groups, so that a prefix of the answer is written where
-/// memory ends it.
+/// Prepares the code of a source, and prints the expectations of the rows of the table of these bytes that aren't met,
+/// and their number, or the line of the first fault of the two. Rows are computed and written in groups, so a prefix
+/// of the answer is written if memory runs out.
 pub fn cases_source<R: Threads + Sync, K: Sink>(
     rt: &R,
     alloc: Global,

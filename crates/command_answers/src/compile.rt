@@ -1,4 +1,4 @@
-//! A compilation: the code file of a source is written.
+//! A compilation: writes the code file of a source.
 ghost use Rattle.m_places.specs.SourceLimits.{SourceKeepsLimits};
 ghost use Rattle.command_plans.specs.Printing.{IsAnswered};
 ghost use Rattle.command_plans.specs.Views.{output_view};
@@ -15,7 +15,7 @@ use m_ports::Sink;
 use std::alloc::Global;
 use std::thread::Threads;
 
-/// Prepares the code of a source, and writes its code file, or the line by which the source is refused.
+/// Prepares the code of a source, and writes its code file, or the line of the source's fault.
 pub fn compile_source<R: Threads + Sync, K: Sink>(
     rt: &R,
     alloc: Global,
@@ -31,7 +31,7 @@ pub fn compile_source<R: Threads + Sync, K: Sink>(
     }
 }
 
-// Writes the code file of loaded code, which ends here.
+// Writes the code file of loaded code, and drops the code.
 fn answer_compile<K: Sink>(loaded: Loaded, out: &mut K) -> Status
     ensures { IsAnswered (IsFileOf loaded) (output_view K.written K.faults out.old) (output_view K.written K.faults out.new) result }
 {

@@ -1,4 +1,4 @@
-//! `large N`: the code of the generated source is prepared, and its answer to the generated household is printed.
+//! `large N`: prepares the code of the generated source, and prints its answer to the generated household.
 ghost use Rattle.std.specs.Prelude.{◌≡◌, ◌≤◌, IfOk};
 ghost use Rattle.m_places.specs.declared.limits.TheConstants.{LARGE};
 ghost use Rattle.household.specs.declared.fault.HouseholdFault.TheVariants as household;
@@ -21,8 +21,8 @@ use m_text::append_pieces;
 use std::alloc::{AllocError, Global};
 use std::thread::Threads;
 
-/// Prepares the code of the generated source of this many inputs, and prints the line `large N` and its answer to the generated
-/// household.
+/// Prepares the code of the generated source with this many inputs, and prints the line `large N` and the answer to
+/// the generated household.
 pub fn run_large<R: Threads + Sync, K: Sink>(rt: &R, alloc: Global, n: u32, out: &mut K) -> Status
     requires some { 1 ≤ n }
     requires few { n ≤ LARGE }
@@ -37,7 +37,7 @@ pub fn run_large<R: Threads + Sync, K: Sink>(rt: &R, alloc: Global, n: u32, out:
     }
 }
 
-// The status where the generated source has no code: it has no fault, so there was no memory.
+// The status if the generated source has no code: it has no fault, so memory ran out.
 fn without_code(fault: SourceFault) -> Status
     requires { fault ≡ source.Memory }
     ensures { result ≡ status.Memory }
@@ -70,7 +70,7 @@ fn large_source(alloc: Global, n: u32) -> Result<Source, AllocError>
     })
 }
 
-// What is asked for of the generated source.
+// The requests of the generated source.
 fn large_requests(alloc: Global, n: u32) -> Result<Vec<u8>, AllocError>
     requires { 1 ≤ n }
     ensures { IfOk result (λ text. text.items ≡ large_requests n) }

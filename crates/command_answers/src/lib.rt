@@ -1,8 +1,10 @@
-//! What a source answers, printed as it is made: a run, a session, a batch, cases, its code file, and `large N`.
+//! The answers of a source, printed as they are made: a run, a session, a batch, cases, its code file, and `large N`.
 //!
-//! A program is prepared of a source, and then it is run: each call that answers takes a prepared program. Sessions hold the tidy program,
-//! all else holds code, which answers in code_answers.
-//! This crate knows nothing of the words of the command line, and fetches no file.
+//! Uses the compiler, code_answers for all answers of code, and sessions with reasons. Knows nothing of the words of
+//! the command line, and fetches no file.
+//!
+//! A program is prepared from a source and then run: sessions keep the tidy program (`Program`), all other answers use
+//! code (`Loaded`). `serve` reads nothing from the input before its session has started.
 #![tactic(auto)]
 
 mod batch;

@@ -1,4 +1,4 @@
-//! Programs that are prepared to be run.
+//! Prepared programs, which can be run.
 ghost use Rattle.std.specs.Prelude.{◌≡◌, IfOk, IsTrue};
 ghost use Rattle.m_places.specs.Refusals.{Outcome};
 ghost use Rattle.m_places.specs.SourceLimits.{SourceKeepsLimits};
@@ -16,15 +16,15 @@ use observables::Face;
 use std::alloc::Global;
 use std::thread::Threads;
 
-/// A program that is prepared for sessions: in the tidy form, at whose nodes they keep values, with what it shows of itself. All else is
-/// answered by code, which is `Loaded` of code_file.
+/// A program prepared for sessions: in the tidy form, since sessions keep the values of its nodes, with its face. All
+/// other answers use code, which is `Loaded` of code_file.
 #[derive(Drop)]
 pub(crate) struct Program {
     pub face: Face,
     pub tidy: Tidy,
 }
 
-/// Prepares the code of a source, or tells the source's fault. The tidy program is dropped.
+/// Prepares the code of a source, or gives the source's fault. The tidy program is dropped.
 pub(crate) fn prepare_code<R: Threads + Sync>(
     rt: &R,
     alloc: Global,
@@ -40,7 +40,7 @@ pub(crate) fn prepare_code<R: Threads + Sync>(
     }
 }
 
-// What sessions hold of what a source is compiled to.
+// The program that sessions keep of a compiled source.
 pub(crate) fn program_of(compiled: Compiled) -> Program
     ensures { result ≡ record { face = compiled.face; tidy = compiled.tidy } }
 {
@@ -52,7 +52,7 @@ pub(crate) fn program_of(compiled: Compiled) -> Program
     Program { face, tidy }
 }
 
-// The code of what a source is compiled to.
+// The code of a compiled source.
 fn code_of(compiled: Compiled) -> Loaded
     requires { IsTrue (counts_agree compiled.code compiled.face.inputs compiled.face.labels compiled.face.outputs) }
     ensures code { result.code ≡ compiled.code }

@@ -1,4 +1,4 @@
-//! What is told of a source that has a fault.
+//! The line of a source's fault.
 ghost use Rattle.m_compile.specs.Lines.{source_line};
 ghost use Rattle.command_plans.specs.Views.{output_view};
 ghost use Rattle.code_answers.specs.inner.Refusals.{ReportsLine};
@@ -9,8 +9,8 @@ use m_compile::{SourceFault, fault_entry};
 use m_places::Source;
 use m_ports::Sink;
 
-/// Tells the fault of a source by its line, or that there was no memory. The fault ends here, and not in an arm of each caller, whose check would take ten
-/// seconds more.
+/// Reports the fault of a source by its line, or out of memory by no line. It takes the fault by value, so that the
+/// fault is dropped here: if an arm of each caller dropped it, checking the callers would take ten seconds more.
 pub(crate) fn report_source<K: Sink>(source: &Source, fault: SourceFault, out: &mut K) -> Status
     ensures { ReportsLine (source_line source.now.texts fault) (output_view K.written K.faults out.old) (output_view K.written K.faults out.new) result }
 {

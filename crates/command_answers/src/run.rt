@@ -1,4 +1,4 @@
-//! A run: the answer of a source's code to a household is printed.
+//! A run: prints the answer of a source's code to a household.
 ghost use Rattle.std.specs.Prelude.{Ok, Err};
 ghost use Rattle.m_places.specs.SourceLimits.{SourceKeepsLimits};
 ghost use Rattle.command_plans.specs.Printing.{IsAnswered};
@@ -14,8 +14,8 @@ use m_ports::Sink;
 use std::alloc::Global;
 use std::thread::Threads;
 
-/// Prepares the code of a source, and prints its answer to the household of these bytes, or the line by which one of them is
-/// refused.
+/// Prepares the code of a source, and prints its answer to the household of these bytes, or the line of the first
+/// fault of the two.
 pub fn run_source<R: Threads + Sync, K: Sink>(
     rt: &R,
     alloc: Global,

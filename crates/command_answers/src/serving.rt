@@ -1,4 +1,4 @@
-//! A session: a household is read, and then the lines of the input are done by a program, one after another.
+//! A session: reads a household, and then executes the lines of the input with a program.
 ghost use Rattle.std.specs.Prelude.{◌≡◌, Err, IfOk, length};
 ghost use Rattle.m_places.specs.Refusals.{Outcome};
 ghost use Rattle.m_places.specs.SourceLimits.{SourceKeepsLimits};
@@ -35,8 +35,9 @@ use std::alloc::Global;
 use std::thread::Threads;
 use why_session::Explainer;
 
-/// Compiles a source and keeps its rules, reads the household of these bytes, and then does the lines of the input to its end. Where
-/// the source or the household is refused, or there is no memory, nothing is taken from the input, and after that no memory is taken.
+/// Compiles a source and keeps its rules, reads the household of these bytes, and then executes the lines of the input
+/// to its end. If the source or the household is rejected, or memory runs out, nothing is read from the input. No
+/// memory is taken after the first read.
 pub fn serve_source<R: Threads + Sync, S: Input, K: Sink>(
     rt: &R,
     alloc: Global,
@@ -57,8 +58,8 @@ pub fn serve_source<R: Threads + Sync, S: Input, K: Sink>(
     }
 }
 
-// Does the lines of the input in a session of a program that begins with the household of these bytes, and that tells reasons by the base
-// of the program's rules.
+// Executes the lines of the input in a session that starts with the household of these bytes and explains values by
+// the base of the program's rules.
 fn answer_serve<S: Input, K: Sink>(
     alloc: Global,
     program: Program,
@@ -83,7 +84,8 @@ fn answer_serve<S: Input, K: Sink>(
     }
 }
 
-// Does the lines of the input in a session, which ends here and not in an arm of its caller: the check of the caller's borrows would take a minute.
+// Executes the lines of the input in a session, and drops the session: if an arm of the caller dropped it, the
+// caller's borrow check would take a minute.
 fn serve_explained<S: Input, K: Sink>(explainer: Explainer, input: &mut S, out: &mut K) -> Status
     ensures { Served (whole_of (joined_replies explainer)) (ended_of (joined_replies explainer))
         (input_view S.left S.faults input.old) (input_view S.left S.faults input.new)
@@ -95,7 +97,7 @@ fn serve_explained<S: Input, K: Sink>(explainer: Explainer, input: &mut S, out: 
     status
 }
 
-// The session of a program that begins with a household, with a reporter of the base, or the household's fault.
+// The session of a program, with a reporter of the base, that starts with a household, or the household's fault.
 fn explainer_of(
     alloc: Global,
     program: Program,
@@ -123,7 +125,7 @@ fn explainer_of(
     }
 }
 
-// The session of a program that begins with a household, or the household's fault.
+// The session of a program that starts with a household, or the household's fault.
 fn session_of(alloc: Global, program: Program, household: &[u8]) -> Result<Session, HouseholdFault>
     requires { IsRunnable program.face program.tidy }
     ensures outcome { Outcome Memory result (λ session. IsBegun program household.now session.sitting)

@@ -1,4 +1,4 @@
-//! A session over an input, and the line that says why it ended before the input did.
+//! A session over an input, and the line that reports why it ended before the input did.
 ghost use Rattle.std.specs.Prelude.{◌≡◌, ◌<◌};
 ghost use Rattle.household_session.specs.Repliers.{ended_of, whole_of};
 ghost use Rattle.command_plans.specs.Views.{input_view, output_view};
@@ -12,7 +12,7 @@ use std::sync::ledger::{Blank, Ledger};
 use tax_print::Fault;
 use value_sheet::Steps;
 
-/// Does the lines of an input, and tells how it ended. It takes no memory.
+/// Executes the lines of an input, and gives the status. Takes no memory.
 pub(crate) fn serve_session<R: Replier, S: Source, K: Sink>(
     replier: &mut R,
     input: &mut S,

@@ -1,4 +1,4 @@
--- How a list that was fetched goes on.
+-- How gathering continues after the list was fetched.
 use Rattle.std.proofs.Common.{◌≡◌, ℕ, ◌≤◌, List, length, Result, Ok, Err, subst}
 use Rattle.m_places.specs.declared.limits.TheConstants.{LIST_FILES}
 use Rattle.command_plans.specs.Listing.{IsListing, IsListFault, ReadsAs}
@@ -14,7 +14,7 @@ use Rattle.command_plans.specs.declared.refusal.Refusal.TheVariants.{ListLine, T
 use Rattle.command_plans.proofs.Trips.{along_done, along_refused}
 use Rattle.command_plans.specs.Source.{listed}
 
--- what a list reads as is its reading
+-- the result of reading a list is its unique reading
 reads : (bytes : List ℕ) (read : Result Listing ListFault) → ReadsAs bytes read → read ≡ (reading_of bytes).0
 reads bytes read h = reads_one bytes read (reading_of bytes).0 h (reading_of bytes).1
 
@@ -35,6 +35,6 @@ listed_many view bytes fault is h =
     subst (λ (r : Result Listing ListFault). GoesAlong (listed r) view view (Err (Refused TooMany)))
     (reads bytes (Err TooManyFiles) (subst (IsListFault bytes) is h)) (along_refused view TooMany)
 
--- a list's files are not too many
+-- a list's files don't exceed the limit
 pub few_listed : (bytes : List ℕ) (listing : Listing) → IsListing bytes listing → length listing.files ≤ LIST_FILES
 few_listed bytes listing h = h.few

@@ -1,4 +1,4 @@
--- How a driver or requests go on: where there are none, and where there are.
+-- How gathering continues after the rule files, with and without a driver or requests.
 use Rattle.std.proofs.Common.{◌≡◌, ℕ, true, false, List, Option, Some, None, Result, Ok, sym, subst, cond}
 use Rattle.m_places.specs.declared.limits.TheConstants.{FILE_BYTES}
 use Rattle.command_plans.specs.Plan.{Plan, done, file_plan, and_then}
@@ -8,7 +8,7 @@ use Rattle.command_plans.specs.declared.ending.Ending.{Ending}
 use Rattle.command_plans.proofs.Trips.{along_done}
 use Rattle.command_plans.specs.Source.{is_none, optional_plan}
 
--- the plan of a file that there is
+-- the plan of a file whose name isn't `-`
 abbrev pub present : List ℕ → Plan (Option (List ℕ))
 present name = and_then (file_plan name FILE_BYTES) (λ bytes. done (Some bytes))
 

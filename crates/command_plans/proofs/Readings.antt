@@ -1,4 +1,4 @@
--- A list reads as one thing, which is what is read of it.
+-- A list has one reading, which is what the reader gives.
 use Rattle.std.proofs.Common.{◌≡◌, ℕ, ◌+◌, ◌≤◌, Bool, true, false, List, [], ◌∷◌, ◌++◌, length, Some, None, Result, Ok, Err, refl, sym, ap, ◌∙◌, subst, arith}
 use Rattle.std.specs.List.{AllByRecursion}
 use Rattle.std.proofs.lemmas.Bool.{le-leb, false_from_ne_true, lt-leb}
@@ -14,7 +14,7 @@ use Rattle.command_plans.specs.Listing.{IsFileLine, IsFirstBad, missing, no_word
 use Rattle.command_plans.specs.inner.Reading.{is_word, is_file_line, first_bad_from, files_read, lines_read, list_of}
 use Rattle.command_plans.specs.inner.Says.{word_test, test_word, file_line_test, test_file_line, list_meaning}
 
--- the other way round
+-- the converse
 no_bad : (number : ℕ) (lines : List (List ℕ)) → AllByRecursion IsFileLine lines → first_bad_from number lines ≡ None
 no_bad number [] h = refl
 no_bad number (line ∷ lines) h = rw (file_line_test line h.0) (no_bad (number + 1) lines h.1)
@@ -53,7 +53,7 @@ fault_read bytes TooManyFiles h =
     ∙ rw (word_test h.application h.good.word, no_bad 2 h.others h.good.names, lt-leb (length (files_of h.others)) LIST_FILES h.many) refl
 fault_read bytes Memory h = absurd h
 
--- what a list reads as is what is read of it
+-- the unique reading of a list is what the reader gives
 reads_this : (bytes : List ℕ) (read : Result Listing ListFault) → ReadsAs bytes read → list_of bytes ≡ read
 reads_this bytes (Ok listing) h = listing_read bytes listing h
 reads_this bytes (Err fault) h = fault_read bytes fault h
@@ -61,13 +61,13 @@ reads_this bytes (Err fault) h = fault_read bytes fault h
 pub reads_one : (bytes : List ℕ) (one other : Result Listing ListFault) → ReadsAs bytes one → ReadsAs bytes other → one ≡ other
 reads_one bytes one other h k = sym (reads_this bytes one h) ∙ reads_this bytes other k
 
--- what the reader of lines answers
+-- the result of the reader of lines
 pub read_meaning : (bytes : List ℕ) (result : Result Listing ListFault) → Says Memory result (λ listing. listing) (list_of bytes)
     → Outcome Memory result (IsListing bytes) (IsListFault bytes)
 read_meaning bytes (Ok listing) e = subst (ReadsAs bytes) e (list_meaning bytes)
 read_meaning bytes (Err fault) k = λ other. subst (ReadsAs bytes) (k other) (list_meaning bytes)
 
--- the test, as a call answers it
+-- the test, as the call gives it
 pub test_is : (t : List ℕ) (r : Bool) → (r ≡ true → IsWord t) → (IsWord t → r ≡ true) → r ≡ is_word t
 test_is t true f g = sym (word_test t (f refl))
 test_is t false f g = sym (false_from_ne_true (is_word t) (λ e. let yes = g (test_word t e) in cc))

@@ -1,4 +1,4 @@
--- The files of a source keep the limit of a file.
+-- The files of a source are within the limit of a file.
 use Rattle.std.proofs.Common.{ℕ, ◌≤◌, ◌-◌, Bool, true, false, List, [], ◌∷◌, length, min, None, Result, Ok, Err, cond, arith}
 use Rattle.m_places.specs.declared.limits.TheConstants.{FILE_BYTES, RULE_BYTES}
 use Rattle.command_plans.specs.Reads.{reading_of}

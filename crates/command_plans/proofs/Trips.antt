@@ -1,4 +1,4 @@
--- How calls go along plans one after the other.
+-- How calls along plans are composed.
 use Rattle.std.proofs.Common.{◌≡◌, ◌≤◌, ◌+◌, ℕ, false, List, [], ◌∷◌, ◌++◌, length, Option, Result, Ok, Err, refl, sym, ap, ◌∙◌, subst, append_assoc, arith}
 use Rattle.std.proofs.lemmas.List.{append-nil}
 use Rattle.std.specs.Prelude.{IsErrAnd}
@@ -13,7 +13,7 @@ use Rattle.command_plans.specs.declared.ending.Ending.TheVariants.{Refused, Memo
 use Rattle.command_plans.specs.declared.refusal.Refusal.{Refusal}
 use Rattle.command_plans.proofs.Walks.{walks_then, walks_ended}
 
--- a plan that was gathered, and then the one after it
+-- a plan that was gathered, and then the next plan
 pub along_then : {A B : Type 0} (plan : Plan A) (next : A → Plan B) (before mid after : FilesView) (all : A) (result : Result B Ending)
     → GoesAlong plan before mid (Ok all) → GoesAlong (next all) mid after result → GoesAlong (and_then plan next) before after result
 along_then plan next before mid after all result a b = record {
@@ -26,7 +26,7 @@ along_then plan next before mid after all result a b = record {
   taken = omega (arith, a.taken, b.taken);
 }
 
--- what ended a plan
+-- a plan that failed
 pub along_ended : {A B : Type 0} (plan : Plan A) (next : A → Plan B) (before after : FilesView) (ending : Ending)
     → GoesAlong plan before after (Err ending) → GoesAlong (and_then plan next) before after (Err ending)
 along_ended plan next before after ending a = record {
@@ -38,7 +38,7 @@ along_ended plan next before after ending a = record {
   taken = a.taken;
 }
 
--- where nothing is fetched
+-- nothing was fetched
 still : {A : Type 0} (plan : Plan A) (view : FilesView) (result : Result A Ending) → Walks view.known_files plan [] 0 result → GoesAlong plan view view result
 still plan view result walk = record {
   known_files = refl;
@@ -59,20 +59,20 @@ along_refused view refusal = still (refuses (refusal_line refusal)) view (Err (R
 pub along_without_memory : {A : Type 0} (plan : Plan A) (view : FilesView) → GoesAlong plan view view (Err Memory)
 along_without_memory plan view = still plan view (Err Memory) ends_without_memory
 
--- a step that ended without memory hands that on
+-- out of memory in a step is the result of the whole
 pub exits_without_memory : {A : Type 0} (plan : Plan A) (view : FilesView) (result : Result A Ending) → IsErrAnd result (λ e. e ≡ Memory)
     → GoesAlong plan view view result
 exits_without_memory plan view (Ok all) h = absurd h
 exits_without_memory plan view (Err e) h = subst (λ x. GoesAlong plan view view (Err x)) (sym h) (along_without_memory plan view)
 
--- a step that ended a plan hands its ending on
+-- the ending of a step is the result of the whole
 pub exits_ended : {A B : Type 0} (plan : Plan A) (next : A → Plan B) (before after : FilesView) (ending : Ending) (result : Result B Ending)
     → GoesAlong plan before after (Err ending) → IsErrAnd result (λ e. e ≡ ending) → GoesAlong (and_then plan next) before after result
 exits_ended plan next before after ending (Ok all) a h = absurd h
 exits_ended plan next before after ending (Err e) a h = subst (λ x. GoesAlong (and_then plan next) before after (Err x)) (sym h)
     (along_ended plan next before after ending a)
 
--- one fetch, under a name that is a copy
+-- one fetch, with a copy of the name
 pub along_fetch : (copy name : List ℕ) (limit : ℕ) (before after : FilesView) (made : List Attempt) (result : Result (List ℕ) Ending)
     → copy ≡ name → Walks before.known_files (file_plan copy limit) made (limit + 1) result
     → after.known_files ≡ before.known_files → after.attempts ≡ before.attempts ++ made → after.taken ≤ before.taken + (limit + 1)
@@ -87,7 +87,7 @@ along_fetch copy name limit before after made result same walk known_files attem
       taken = taken;
     })
 
--- a walk that had the one file that it asked for
+-- a walk that fetched the one file of its plan
 pub walks_one : (known_files : Option Disk) (name bytes all : List ℕ) (limit : ℕ) → Holds known_files name bytes → length bytes ≤ limit → all ≡ bytes
     → Walks known_files (file_plan name limit) (record { name = name; failed = false } ∷ []) (limit + 1) (Ok all)
 walks_one known_files name bytes all limit h l e =

@@ -1,4 +1,4 @@
--- What holds of every walk along a plan.
+-- Properties of every walk along a plan.
 use Rattle.std.proofs.Common.{◌≡◌, ◌<◌, ◌≤◌, ◌+◌, ℕ, true, false, List, [], ◌∷◌, ◌++◌, length, Option, Some, None, Result, Ok, Err, refl, sym, ap, ◌∙◌, subst}
 use Rattle.std.proofs.Common.{cond, arith, add_assoc, zero-add, nat_le}
 use Rattle.std.proofs.lemmas.Bool.Decides.{nat_tests}
@@ -29,7 +29,7 @@ some_of : {X : Type 0} (o : Option X) (P : X → Type 0) → IsSomeAnd o P → (
 some_of None P h = absurd h
 some_of (Some x) P h = (x, refl, h)
 
--- a walk that gathered something, and one that goes on with it
+-- a walk that gathered something, and one that continues with it
 pub walks_then : {A B : Type 0} (known_files : Option Disk) (next : A → Plan B) (plan : Plan A) (made more : List Attempt) (spent further : ℕ) (all : A)
     (first : Result A Ending) (result : Result B Ending)
     → Walks known_files plan made spent first → first ≡ Ok all → Walks known_files (next all) more further result
@@ -48,7 +48,7 @@ walks_then known_files next plan made more spent further all first result (goes_
     (sym (add_assoc (limit + 1) cost further))
     (goes_on bytes h l (walks_then known_files next (behind bytes) rest more cost further all first result walk e w))
 
--- what ended a plan ends it also where another was to follow
+-- the ending of a plan is also the ending of that plan and then another
 pub walks_ended : {A B : Type 0} (known_files : Option Disk) (next : A → Plan B) (plan : Plan A) (made : List Attempt) (spent : ℕ) (ending : Ending)
     (first : Result A Ending)
     → Walks known_files plan made spent first → first ≡ Err ending → Walks known_files (and_then plan next) made spent (Err ending)
@@ -68,7 +68,7 @@ walks_ended known_files next plan made spent ending first (finds_too_long {name 
 walks_ended known_files next plan made spent ending first (goes_on {behind = behind} {made = rest} {spent = cost} bytes h l walk) e =
     goes_on bytes h l (walks_ended known_files next (behind bytes) rest cost ending first walk e)
 
--- the attempts of a walk are on the names that are fetched, in order
+-- the attempts of a walk are on the fetched names, in order
 pub walks_in_order : {A : Type 0} (known_files : Option Disk) (disk : Disk) (plan : Plan A) (made : List Attempt) (spent : ℕ) (result : Result A Ending)
     → Walks known_files plan made spent result → known_files ≡ Some disk → BeginsWith (names_fetched disk plan) (names_tried made)
 walks_in_order known_files disk plan made spent result ends t = (_, refl)
@@ -85,7 +85,7 @@ walks_in_order known_files disk plan made spent result (goes_on {name = name} {l
           ∙ ap (λ names. name ∷ names) r.1,
     )
 
--- where a plan ends, as the result of a walk says
+-- the end of a plan agrees with the result of a walk
 abbrev pub EndsAt : {A : Type 0} → End A → Result A Ending → Type 0
 EndsAt end (Ok all) = end ≡ gathered all
 EndsAt end (Err (Refused refusal)) = end ≡ refused (refusal_line refusal)
@@ -140,7 +140,7 @@ walks_fit known_files plan made spent result (finds_too_long h) = (refl, tt)
 walks_fit known_files plan made spent result (goes_on {name = name} {behind = behind} {made = rest} {spent = cost} bytes h l walk) =
     fits_more name rest result (walks_fit known_files (behind bytes) rest cost result walk)
 
--- what a walk may spend: the allowance of its attempts, and of one more where it ended without memory
+-- the bytes of a walk are within the allowance of its attempts, and of one more where it ended without memory
 abbrev pub SpendsWithin : {A : Type 0} → ℕ → List Attempt → ℕ → Result A Ending → Type 0
 SpendsWithin most made spent (Ok all) = spent ≤ allowance most made
 SpendsWithin most made spent (Err (Refused refusal)) = spent ≤ allowance most made

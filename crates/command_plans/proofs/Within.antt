@@ -1,4 +1,4 @@
--- Plans whose files keep a limit.
+-- Plans whose files are within a limit.
 use Rattle.std.proofs.Common.{ℕ, ◌≤◌, List, arith}
 use Rattle.command_plans.specs.Plan.{Plan, done, refuses, fetches, and_then}
 
@@ -8,7 +8,7 @@ KeepsWithin most (done all) = Unit {0}
 KeepsWithin most (refuses line) = Unit {0}
 KeepsWithin most (fetches name limit behind) = (limit ≤ most) × ((bytes : List ℕ) → KeepsWithin most (behind bytes))
 
--- one plan, and another after it
+-- a plan and then another
 pub within_then : {A B : Type 0} (most : ℕ) (plan : Plan A) (next : A → Plan B) → KeepsWithin most plan → ((all : A) → KeepsWithin most (next all))
     → KeepsWithin most (and_then plan next)
 within_then most (done all) next k n = n all

@@ -1,9 +1,9 @@
--- The numbers of the statuses, and which of them tell of a fault outside.
+-- The exit statuses, and which of them report an I/O failure or out of memory.
 use Rattle.std.specs.Prelude.{ℕ}
 use Rattle.command_plans.specs.declared.status.Status.{Status}
 use Rattle.command_plans.specs.declared.status.Status.TheVariants.{Done, Refused, Usage, ReadFault, WriteFault, Memory, Stopped}
 
--- the number that the program ends with
+-- the exit status
 abbrev pub number_of : Status → ℕ
 number_of Done = 0
 number_of Refused = 1
@@ -13,7 +13,7 @@ number_of WriteFault = 4
 number_of Memory = 5
 number_of Stopped = 6
 
--- neither reading, writing nor memory failed
+-- no read failed, no write failed, and memory sufficed
 abbrev pub IsFaultless : Status → Type 0
 IsFaultless ReadFault = ⊥
 IsFaultless WriteFault = ⊥
@@ -27,7 +27,7 @@ IsComplete Stopped = Unit {0}
 IsComplete Memory = Unit {0}
 IsComplete _ = ⊥
 
--- a status of a command that went to its end: it did its work, or refused its input, or was stopped
+-- the status of a command that ran to its end: it did its work, or rejected its input, or was stopped
 abbrev pub IsOfEnd : Status → Type 0
 IsOfEnd Done = Unit {0}
 IsOfEnd Refused = Unit {0}

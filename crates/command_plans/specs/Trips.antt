@@ -1,4 +1,4 @@
--- How a call went along a plan: which files it tried, what it may have taken of them, and how it ended.
+-- How a call followed a plan: its attempts, how many bytes it read at most, and its result.
 use Rattle.std.specs.Prelude.{◌≡◌, ℕ, ◌+◌, ◌≤◌, true, false, List, [], ◌∷◌, ◌++◌, length, Option, Result, Ok, Err}
 use Rattle.m_ports.specs.Files.{Holds, HoldsMoreThan}
 use Rattle.m_ports.specs.declared.files.Attempt.{Attempt}
@@ -10,9 +10,9 @@ use Rattle.command_plans.specs.declared.ending.Ending.TheVariants.{Refused, Unre
 use Rattle.command_plans.specs.declared.refusal.Refusal.{Refusal}
 use Rattle.command_plans.specs.declared.refusal.Refusal.TheVariants.{FileTooLong}
 
--- A walk along a plan, over files that tell these bytes or nothing. It makes these attempts, on which it may take so many bytes
--- (of each file one past its limit, which shows that it is too long), and ends with what was gathered or with what ended it.
--- Memory may end it anywhere: a fetch that is refused for memory is no attempt, and may take as many bytes as one.
+-- A walk along a plan, over files whose contents are known or unknown: its attempts, how many bytes they may read (of
+-- each file one past its limit, which shows that it is too long), and its result. Any walk may end for lack of memory:
+-- a fetch that does is no attempt, and may read as many bytes as one.
 pub data Walks {Gathered : Type 0} (known_files : Option Disk) : Plan Gathered → List Attempt → ℕ → Result Gathered Ending → Type 0 where
   ends : {all : Gathered} → Walks known_files (done all) [] 0 (Ok all)
   ends_refused : {refusal : Refusal} → Walks known_files (refuses (refusal_line refusal)) [] 0 (Err (Refused refusal))
@@ -27,7 +27,8 @@ pub data Walks {Gathered : Type 0} (known_files : Option Disk) : Plan Gathered �
       (bytes : List ℕ) → Holds known_files name bytes → length bytes ≤ limit → Walks known_files (behind bytes) made spent result
       → Walks known_files (fetches name limit behind) (record { name = name; failed = false } ∷ made) (limit + 1 + spent) result
 
--- A call went along a plan: its attempts are those of a walk with this result, and it took no more than that allows.
+-- A call followed a plan: its attempts and its result are those of a walk, and it read no more bytes than the walk
+-- allows.
 pub record GoesAlong {Gathered : Type 0} (plan : Plan Gathered) (before after : FilesView) (result : Result Gathered Ending) : Type 0 where
   pub known_files : after.known_files ≡ before.known_files
   pub made : List Attempt

@@ -1,23 +1,23 @@
--- What contracts see of the outside at one time: of the files, of the input and of the output.
+-- What contracts observe of files, input and output at one time.
 use Rattle.std.specs.Prelude.{ℕ, List, Option}
 use Rattle.m_ports.specs.declared.files.Attempt.{Attempt}
 
--- the bytes of each file that there is: `a.m` may have some, and another name none
+-- the bytes of each file, by its name; a missing file has none
 abbrev pub Disk : Type 0
 Disk = List ℕ → Option (List ℕ)
 
--- the files: what they hold, where they tell it, the attempts on them, and how many bytes were taken
+-- the files: their contents where known, the attempts to read them, and how many bytes were read
 pub record FilesView : Type 0 where
   pub known_files : Option Disk
   pub attempts : List Attempt
   pub taken : ℕ
 
--- the input: the bytes that are left, where it tells them, and how often it failed
+-- the input: the bytes not yet read, where known, and how many reads failed
 pub record InputView : Type 0 where
   pub left : Option (List ℕ)
   pub faults : ℕ
 
--- the output: the bytes that were written, where it tells them, and how often it failed
+-- the output: the bytes written, where known, and how many writes failed
 pub record OutputView : Type 0 where
   pub written : Option (List ℕ)
   pub faults : ℕ

@@ -5,14 +5,14 @@ use crate::Refusal;
 use m_places::Name;
 use std::alloc::{AllocError, AllocFailed};
 
-/// What ends a command before it has gathered its files.
+/// What ends a command before its files are gathered.
 #[derive(Drop)]
 pub enum Ending {
-    /// The input is refused.
+    /// The input is rejected.
     Refused(Refusal),
     /// The file of this name can't be read.
     Unreadable(Name),
-    /// There was no memory.
+    /// Out of memory.
     Memory,
 }
 

@@ -8,8 +8,8 @@ use m_places::{Name, Seq};
 use m_ports::{FetchFault, Files};
 use std::alloc::Global;
 
-/// Fetches the file of this name, of at most so many bytes. What ends the command where it can't be had
-/// is the error.
+/// Fetches the file of this name, of at most `limit` bytes. The error is what ends the command: a file that can't be
+/// read or is too long, or out of memory.
 pub fn fetch<F: Files>(
     alloc: Global,
     files: &mut F,

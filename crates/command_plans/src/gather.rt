@@ -1,4 +1,4 @@
-//! The calls that gather a source, each along its plan.
+//! The calls that gather a source. Each follows its plan.
 ghost use Rattle.std.specs.Prelude.{◌≡◌, ◌≤◌, IfOk, length};
 ghost use Rattle.m_places.specs.declared.limits.TheConstants.{LIST_FILES, RULE_BYTES};
 ghost use Rattle.command_plans.specs.Trips.{GoesAlong};
@@ -16,11 +16,11 @@ use m_places::{Name, Seq, Source, Text};
 use m_ports::Files;
 use std::alloc::Global;
 
-// The name of a driver or of requests where there are none.
+// The name that means: no driver, or no requests.
 const NONE: &[u8] = b"-";
 
-/// Gathers a source: the list, its rule files in order, the driver and the requests. What ends the
-/// command where one of them can't be had, or the list is refused, is the error.
+/// Gathers a source: the list, its rule files in order, the driver and the requests. The error is the first file that
+/// can't be read or is rejected.
 pub fn gather_source<F: Files>(
     alloc: Global,
     files: &mut F,
@@ -71,14 +71,14 @@ fn gather_rules<F: Files>(alloc: Global, files: &mut F, names: &[Name]) -> Resul
     Ok(Seq::from_vec(texts))
 }
 
-/// Whether a name is the `-` that stands in the place of a driver or of requests: there are none.
+/// Whether a name is `-`, which means that there is no driver, or no requests.
 pub fn is_none(name: &Name) -> bool
     ensures { result ≡ is_none name.now }
 {
     name.bytes() == NONE
 }
 
-/// Fetches the file of this name, where it isn't `-`.
+/// Fetches the file of this name, unless the name is `-`.
 pub fn gather_optional<F: Files>(
     alloc: Global,
     files: &mut F,
@@ -95,7 +95,7 @@ pub fn gather_optional<F: Files>(
     Ok(Some(bytes))
 }
 
-// Fetches what comes after the rule files.
+// Fetches the files after the rule files.
 fn gather_parts<F: Files>(
     alloc: Global,
     files: &mut F,

@@ -1,8 +1,14 @@
-//! Commands as plans: which files a command requests, in order, and where it rejects them; the list file, and how the files of a source are
-//! gathered.
+//! Commands as plans: which files a command requests, in order, and where it rejects them. Reads the list file and
+//! gathers the files of a source.
 //!
-//! It has what all commands share: statuses, errors, what ends a command before it has its files, the call that fetches a file, and the calls
-//! that print a line. This crate knows no command, and reads no file but the list.
+//! Uses files and output only as the traits of `m_ports`. Knows nothing of the single commands, nor of the contents of
+//! files other than the list.
+//!
+//! It has what all commands share: statuses, errors, what ends a command before its files are gathered, the call that
+//! fetches a file, and the calls that print a line.
+//!
+//! A call follows a plan if there is a walk (`Walks`) along the plan with the attempts and the result of the call.
+//! Walks are composed by `along_then` and, where the first plan failed, by `exits_ended`.
 #![tactic(auto)]
 
 mod ending;

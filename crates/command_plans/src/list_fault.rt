@@ -1,19 +1,18 @@
-//! Why a list is refused.
+//! The errors of a list file.
 
 ghost use Rattle.std.specs.Prelude.{◌≡◌};
 ghost use Rattle.command_plans.specs.declared.list_fault.ListFault.TheVariants.{Memory};
 
 use std::alloc::{AllocError, AllocFailed};
 
-/// Why a list file is refused.
+/// Why a list file is rejected.
 #[derive(Clone, Copy, Debug, PartialEq, Eq)]
 pub enum ListFault {
-    /// The line with this number, from 1, isn't the application or a file's name. The first such
-    /// line decides.
+    /// The first malformed line, counted from 1: line 1 isn't an application, or a later one isn't a file name.
     BadLine(u32),
-    /// No line is bad, and there are more files than a list may have.
+    /// All lines are well formed, and there are more files than the limit.
     TooManyFiles,
-    /// There was no memory.
+    /// Out of memory.
     Memory,
 }
 

@@ -1,9 +1,9 @@
 use m_places::{Name, Seq};
 
-/// What a list file says.
+/// The contents of a list file.
 #[derive(Drop)]
 pub struct Listing {
-    /// The word that rules and verifications list where they count.
+    /// The application: a rule or verification belongs to the source only if it lists this word.
     pub application: Name,
     /// The names of the rule files, in order.
     pub files: Seq<Name>,

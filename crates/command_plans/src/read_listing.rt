@@ -14,8 +14,8 @@ use m_places::{Name, Seq};
 use m_text::{first_line, is_text, is_word};
 use std::alloc::Global;
 
-/// Reads a list file. Line 1 is the application, a word of M, which may be a reserved one. Each
-/// later line that isn't empty is the name of a file.
+/// Reads a list file. Line 1 is the application, a word of M, which may be reserved. Each later line that isn't empty
+/// is the name of a file.
 ///
 /// `iliad\na.m\n` lists the application `iliad` and the file `a.m`.
 pub fn read_list(alloc: Global, bytes: &[u8]) -> Result<Listing, ListFault>
@@ -25,7 +25,7 @@ pub fn read_list(alloc: Global, bytes: &[u8]) -> Result<Listing, ListFault>
     read_lines(alloc, bytes)
 }
 
-// Reads the lines of a list file, one after another.
+// Reads the lines of a list file.
 fn read_lines(alloc: Global, bytes: &[u8]) -> Result<Listing, ListFault>
     requires { length bytes.now ≤ FILE_BYTES }
     ensures outcome { Says Memory result (λ listing. listing) (list_of bytes.now) }
@@ -54,7 +54,7 @@ fn is_application(text: &[u8]) -> bool
     is_word(text)
 }
 
-// The number of the first line that is no file line, where these are the lines from line 2 on.
+// The number of the first line that isn't a file line. These lines are numbered from 2.
 fn first_bad_line(bytes: &[u8]) -> Option<u32>
     requires { length bytes.now ≤ FILE_BYTES }
     ensures { result ≡ first_bad_from 2 (lines_of bytes.now) }
@@ -71,14 +71,14 @@ fn first_bad_line(bytes: &[u8]) -> Option<u32>
     None
 }
 
-// Whether a line is a file's name, or empty.
+// Whether a line is a file name, or empty.
 fn is_file_line(line: &[u8]) -> bool
     ensures { result ≡ is_file_line line.now }
 {
     line.len() <= FILE_NAME_BYTES && is_text(line)
 }
 
-// The names of the lines that aren't empty.
+// The names: the lines that aren't empty.
 fn read_files(alloc: Global, bytes: &[u8]) -> Result<Vec<Name>, ListFault>
     ensures outcome { Outcome Memory result
         (λ files. files.items ≡ files_of (lines_of bytes.now))

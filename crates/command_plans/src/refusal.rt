@@ -5,19 +5,19 @@ ghost use Rattle.command_plans.specs.Refusals.{refusal_line};
 use m_places::Name;
 use tax_print::Fault;
 
-/// Why the input is refused before a command has its files.
+/// Why the input is rejected before the files are gathered.
 #[derive(Drop)]
 pub enum Refusal {
-    /// The line of the list with this number, from 1, isn't what it must be.
+    /// This line of the list, counted from 1, is malformed.
     ListLine(u32),
-    /// The list has more rule files than a list may have.
+    /// The list has more rule files than the limit.
     TooManyFiles,
-    /// The file of this name is past its limit.
+    /// The file of this name is larger than its limit.
     FileTooLong(Name),
 }
 
 impl Refusal {
-    /// The fault that is told. It takes no memory.
+    /// The fault to be reported. Takes no memory.
     pub fn fault(&self) -> Fault<'_>
         ensures { fault_line result ≡ refusal_line self.now }
     {

@@ -1,6 +1,6 @@
 use m_places::Name;
 
-/// The names of a source's files. `-` as a driver or as requests means that there are none.
+/// The file names of a source. `-` in place of the driver or the requests means that there are none.
 #[derive(Drop)]
 pub struct SourceNames {
     pub list: Name,

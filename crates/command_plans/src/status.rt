@@ -1,27 +1,27 @@
 ghost use Rattle.std.specs.Prelude.{◌≡◌};
 ghost use Rattle.command_plans.specs.Status.{number_of};
 
-/// How a call of the program ended. The numbers are the exit statuses.
+/// How a call of the program ended. `number` gives the exit status.
 #[derive(Clone, Copy, Debug, PartialEq, Eq)]
 pub enum Status {
     /// The command did all of its work.
     Done,
-    /// One line was printed that says what is wrong with the input.
+    /// The input was rejected; one line with the error was printed.
     Refused,
     /// The words are no command; the usage line was printed.
     Usage,
     /// A file or the input could not be read.
     ReadFault,
-    /// The output could not be written to its end.
+    /// A write failed, so the output is incomplete.
     WriteFault,
-    /// There was no memory.
+    /// Out of memory.
     Memory,
-    /// The run ended at a verification or a condition of the driver.
+    /// A verification or a condition of the driver stopped the run.
     Stopped,
 }
 
 impl Status {
-    /// The number that the program ends with: 0 where the command did its work.
+    /// The exit status: 0 where the command did its work.
     pub fn number(self) -> u8
         ensures { result ≡ number_of self }
     {

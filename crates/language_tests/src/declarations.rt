@@ -1,4 +1,4 @@
-//! Declarations that are read, with their trees as texts, and texts that begin with none.
+//! Declarations that are read, with their trees as texts, and texts that don't begin with a declaration.
 use crate::items::add_item;
 use crate::readings::{Reading, check_all};
 use crate::terms::add_end;
@@ -11,8 +11,8 @@ use m_places::{ErrorKind, Name};
 use std::alloc::Global;
 use std::test::Fail;
 
-// Texts that begin with a declaration; the declaration as `add_item` shows it, with the byte and the line of its first token;
-// and how many tokens it has.
+// Texts that begin with a declaration; the declaration as `add_item` prints it, with the byte and the line of its
+// first token; and the number of its tokens.
 static DECLARATIONS: [(&str, &str); 21] = [
     (
         "REV : saisie revenu classe = 0 alias 1AJ : \"s\" ;",
@@ -76,7 +76,7 @@ static DECLARATIONS: [(&str, &str); 21] = [
     ),
 ];
 
-// Texts that begin with none.
+// Texts that don't begin with a declaration.
 static NONE: [(&str, &str); 41] = [
     ("", "none"),
     (";", "none"),
@@ -134,7 +134,7 @@ static APPLICATIONS: [(&str, &str); 3] = [
     ("application : A", " A to 3"),
 ];
 
-// Texts with none, or with a comma after them.
+// Texts without applications, or with a comma after them.
 static NO_APPLICATIONS: [(&str, &str); 5] = [
     ("", "none"),
     ("application iliad ;", "none"),
@@ -143,7 +143,7 @@ static NO_APPLICATIONS: [(&str, &str); 5] = [
     ("application : 1 ;", "none"),
 ];
 
-// The tables, out of reach of the proofs of what goes over them.
+// The tables as functions, so that proofs about their users don't expand them.
 
 fn all_declarations() -> &'static [(&'static str, &'static str)] {
     &DECLARATIONS

@@ -1,4 +1,4 @@
-//! Drivers that are read, and the lines at which others are refused.
+//! Drivers that are read, and texts that are rejected, with the line of the error.
 use crate::lines::add_fault;
 use crate::readings::{Reading, check_all};
 use crate::texts::add_number;
@@ -29,7 +29,7 @@ static DRIVERS: [(&str, &str); 9] = [
     ("f():\r\n  A = 1\r\n", "1"),
 ];
 
-// Texts that are none, and the line at which they are refused.
+// Texts that are no driver, and the line of the error.
 static FAULTS: [(&str, &str); 30] = [
     ("main():\n  IRN = 1\n  IRN <-1", "syntax 3"),
     ("main():\n  IRN <-1", "syntax 1"),
@@ -69,7 +69,7 @@ static FAULTS: [(&str, &str); 30] = [
     ("f():\n  A <- g(B)", "syntax 1"),
 ];
 
-// The tables, out of reach of the proofs of what goes over them.
+// The tables as functions, so that proofs about their users don't expand them.
 
 fn all_drivers() -> &'static [(&'static str, &'static str)] {
     &DRIVERS
@@ -79,7 +79,7 @@ fn all_faults() -> &'static [(&'static str, &'static str)] {
     &FAULTS
 }
 
-/// Adds the number of functions of a driver, or why a text is none.
+/// Adds the number of functions of a driver, or the error of a text that is no driver.
 pub fn add_driver(alloc: Global, out: &mut Vec<u8>, text: &[u8]) {
     if text.len() as u64 > FILE_BYTES {
         return;

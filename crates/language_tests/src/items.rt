@@ -1,4 +1,4 @@
-//! Whole lists of items with their trees as texts, and the first faults of others with their places.
+//! Lists of items with their trees as texts, and the first faults of other texts with their places.
 use crate::declarations::{add_error, add_variable};
 use crate::readings::{Reading, check_all};
 use crate::terms::{add_header, add_term};
@@ -10,7 +10,8 @@ use m_places::Place;
 use std::alloc::Global;
 use std::test::Fail;
 
-// Texts that are lists of items. Each item is shown by a line, as `add_item` says; a place as its byte and its line.
+// Texts that are lists of items. Each item is printed as a line, as `add_item` specifies; a place as its byte and its
+// line.
 static LISTS: [(&str, &str); 14] = [
     ("", ""),
     ("# nothing\n", ""),
@@ -156,7 +157,7 @@ static FAULTS: [(&str, &str); 38] = [
     ("# c\n)", "syntax 4:2"),
 ];
 
-// The tables, out of reach of the proofs of what goes over them.
+// The tables as functions, so that proofs about their users don't expand them.
 
 fn all_lists() -> &'static [(&'static str, &'static str)] {
     &LISTS
@@ -263,7 +264,7 @@ fn add_at(alloc: Global, text: &mut Vec<u8>, words: &[u8], place: Place) {
     add_place(alloc, text, place);
 }
 
-/// Adds the items that the tokens are, or why they are none.
+/// Adds the items of these tokens, or their error.
 pub fn add_items(alloc: Global, text: &mut Vec<u8>, tokens: &[Token]) {
     match parse(alloc, tokens) {
         Ok(items) => add_all(alloc, text, items.as_slice()),

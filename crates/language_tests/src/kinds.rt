@@ -1,4 +1,4 @@
-//! Inputs of a kind: those whose last pair with an attribute has one of some values.
+//! Inputs of a kind: those whose last value of an attribute is one of some values.
 use crate::texts::tokens_of;
 use m_ast::Item;
 use m_fixed::Amount;
@@ -6,17 +6,17 @@ use m_items::parse;
 use m_symbols::{Symbols, declare};
 use std::alloc::Global;
 
-// A, an input whose second `avfisc` is the last; B, which is computed; and C, an input of another attribute.
+// A is an input whose last `avfisc` is its second; B is computed; C is an input with another attribute.
 static DECLARATIONS: &str = "A : saisie avfisc = 1 classe = 3 avfisc = 2 alias 1AA : \"a\" ;
 B : calculee avfisc = 2 : \"b\" ;
 C : saisie classe = 0 alias 1CC : \"c\" ;";
 
-// The text, out of reach of the proofs.
+// The text as a function, so that proofs about its users don't expand it.
 fn declarations() -> &'static str {
     DECLARATIONS
 }
 
-// Whether the variable of this number is there and of the kind.
+// Whether the variable of this number exists and is of the kind.
 fn is_of(symbols: &Symbols, v: u32, attribute: &[u8], values: &[Amount]) -> bool {
     v < symbols.count() && symbols.in_kind(v, attribute, values)
 }

@@ -1,6 +1,9 @@
-//! Tests of the crates that read the language and its drivers, of what drivers cost, and of values with so many turns, through their public
-//! calls. They stand apart from those crates, so that a crate isn't proved a second time with its tests. What rules come to, what requests ask
-//! for, and why sources are refused, is shown by the rows of the program `rows`.
+//! Tests of the crates that read the language and its drivers, of the cost of drivers, and of values with a given
+//! number of turns.
+//!
+//! Uses the public calls of those crates only. Knows nothing of their proofs: it is a crate of its own, so that they
+//! aren't proved a second time with their tests. What rules mean, what requests resolve to, and why sources are
+//! rejected, is tested by the rows of the program `rows`.
 #![tactic(auto)]
 
 #[cfg(test)]

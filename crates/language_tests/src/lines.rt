@@ -1,4 +1,4 @@
-//! Lines of drivers, their tokens, and the first line without them.
+//! Lines of drivers with their tokens, and the first malformed line.
 use crate::readings::{Reading, check_all, is_read};
 use crate::texts::{add, add_number, add_word};
 use m_places::limits::FILE_BYTES;
@@ -6,7 +6,8 @@ use mpp_lexer::{DriverFault, DriverPiece, DriverSign, Line, lex_driver};
 use std::alloc::Global;
 use std::test::Fail;
 
-// Texts that have lines: of each line its number, its indentation and its tokens, a word after `word` and a number after its millionths.
+// Texts that have lines: for each line its number, its indentation and its tokens, a word after `word` and a number
+// after its millionths.
 static LINES: [(&str, &str); 9] = [
     ("", ""),
     ("\n   \r\n# a tab\t and \u{e9}\n  # more\n", ""),
@@ -36,7 +37,7 @@ static LINES: [(&str, &str); 9] = [
     ),
 ];
 
-// Texts that have none, and the line at which they are refused.
+// Texts that have none, and the line of the error.
 static FAULTS: [(&str, &str); 9] = [
     ("main():\n\tIRN = 1", "token 2"),
     ("A = 1\t", "token 1"),
@@ -49,7 +50,7 @@ static FAULTS: [(&str, &str); 9] = [
     ("A # \t\n\u{e9}", "token 2"),
 ];
 
-// The tables, out of reach of the proofs of what goes over them.
+// The tables as functions, so that proofs about their users don't expand them.
 
 fn all_lines() -> &'static [(&'static str, &'static str)] {
     &LINES
@@ -101,7 +102,7 @@ fn add_at(alloc: Global, out: &mut Vec<u8>, words: &[u8], line: u32) {
     add_number(alloc, out, line as i128);
 }
 
-/// Adds why a text is no driver, or has no lines.
+/// Adds the error of a text that is no driver, or has no lines.
 pub fn add_fault(alloc: Global, out: &mut Vec<u8>, fault: DriverFault) {
     match fault {
         DriverFault::DriverToken(line) => add_at(alloc, out, b"token ", line),

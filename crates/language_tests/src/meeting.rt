@@ -1,4 +1,4 @@
-//! Rule files that one worker can't read: the first waits for the last, and the last for the first.
+//! Rule files that one worker can't read alone: the first waits for the last, and the last for the first.
 ghost use Rattle.std.specs.Prelude.{◌≡◌, ◌≤◌, IfOk, length};
 ghost use Rattle.m_places.specs.SourceLimits.{TextsAreWithin, EachIsWithin};
 
@@ -10,14 +10,14 @@ use std::sync::atomic::{AtomicU64, Ordering};
 use std::test::Fail;
 use std::thread::Threads;
 
-// The texts' rules: a constant, an input, what is computed, and a rule.
+// The rules of each text: a constant, an input, a computed variable, and a rule.
 const RULES: &[u8] =
     b"SEUIL : const = 1000 ;\nREV : saisie alias 1AJ : \"r\" ;\nIRN : calculee : \"i\" ;\nregle 1 : application : iliad ; IRN = max(0, REV - SEUIL) ;\n";
 
-// How many files there are.
+// The number of files.
 const FILES: usize = 256;
 
-// Each flag is 1 once its file's worker has come, and each answer once it has seen the other's flag.
+// The flags are 1 once the worker of the file has arrived, and the `saw` values once it has seen the other's flag.
 #[derive(Drop)]
 struct Both {
     first: AtomicU64,
@@ -57,7 +57,7 @@ pub fn text_of(alloc: Global, rules: &[u8]) -> Result<Text, AllocError>
     })
 }
 
-// So many texts with these rules.
+// This many texts with these rules.
 fn texts_of(alloc: Global, rules: &[u8], count: usize) -> Result<Vec<Text>, AllocError>
     requires rules { length rules.now ≤ 4096 }
     requires count { count ≤ 1024 }
@@ -80,7 +80,7 @@ fn are_rules(files: &[Seq<Item>]) -> bool {
     true
 }
 
-// Whether so many files are read, each as four items.
+// Whether this many files are read, each as four items.
 fn are_read<R: Threads + Sync>(rt: &R, alloc: Global, texts: &[Text], gate: &Both) -> bool
     requires { TextsAreWithin texts.now }
 {

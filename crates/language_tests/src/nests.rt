@@ -1,4 +1,4 @@
-//! How deep terms may stand inside of one another.
+//! How deep terms may be nested.
 use crate::texts::{add, add_times, other_at, tokens_of};
 use m_lexer::Token;
 use m_places::Place;
@@ -6,7 +6,7 @@ use m_terms::{depth_fault, read_term};
 use std::alloc::Global;
 use std::test::Fail;
 
-// What opens a nest and what closes it, and the byte of the token that makes the 257th of them too deep.
+// The opening and the closing text of a nest, and the byte of the token at which 257 of them are too deep.
 static NESTS: [(&str, &str, u32); 5] = [
     ("(", ")", 256),
     ("T[", "]", 513),
@@ -15,12 +15,12 @@ static NESTS: [(&str, &str, u32); 5] = [
     ("1 ou 1 et non 1 = 1 + 1 * -abs(", ")", 7_966),
 ];
 
-// The table, out of reach of the proof of what goes over it.
+// The table as a function, so that proofs about its users don't expand it.
 fn nests() -> &'static [(&'static str, &'static str, u32)] {
     &NESTS
 }
 
-// A text of an opening word so many times, `0`, a closing one so many times, and `;`.
+// A text of the opening text `count` times, `0`, the closing text `count` times, and `;`.
 fn nested(alloc: Global, open: &[u8], count: usize, close: &[u8]) -> Vec<u8> {
     let mut text = Vec::new(alloc);
     add_times(&mut text, open, count);
@@ -30,7 +30,7 @@ fn nested(alloc: Global, open: &[u8], count: usize, close: &[u8]) -> Vec<u8> {
     text
 }
 
-// Whether the tokens but the last are a term, which is read, copied and dropped.
+// Whether all tokens but the last are a term, which is read, copied and dropped.
 fn is_read(alloc: Global, tokens: &[Token]) -> bool {
     match read_term(alloc, tokens, 0) {
         Ok((term, to)) => to < tokens.len() && tokens.len() - to == 1 && term.copy(alloc).is_ok(),
@@ -38,7 +38,7 @@ fn is_read(alloc: Global, tokens: &[Token]) -> bool {
     }
 }
 
-// Whether a text of tokens is read, and no token is too deep.
+// Whether a text has tokens, and none of them is too deep.
 fn is_shallow(alloc: Global, text: &[u8]) -> bool {
     match tokens_of(alloc, text) {
         Ok(tokens) => depth_fault(&tokens).is_none() && is_read(alloc, &tokens),
@@ -53,7 +53,7 @@ fn is_byte(found: Option<Place>, byte: u32) -> bool {
     }
 }
 
-// Whether the first token of a text that is too deep is the one at this byte.
+// Whether the first token that is too deep is the one at this byte.
 fn is_deep(alloc: Global, text: &[u8], byte: u32) -> bool {
     match tokens_of(alloc, text) {
         Ok(tokens) => is_byte(depth_fault(&tokens), byte),
@@ -66,7 +66,8 @@ fn ends_at_256(alloc: Global, open: &[u8], close: &[u8], byte: u32) -> bool {
         && is_deep(alloc, &nested(alloc, open, 257, close), byte)
 }
 
-// As `rt try` builds it, with checks and without optimisation, a copy of the last of these needs more than the ordinary stack.
+// As `rt try` builds the test, with checks and without optimisation, copying the last of these needs more than the
+// default stack.
 #[test]
 fn nests_of_256_and_257(rt: HostRuntime) -> Result<(), Fail> {
     for (open, close, byte) in nests() {

@@ -1,4 +1,4 @@
-//! What is read of a text, by each of the calls, as a text.
+//! What each of the reading calls reads of a text, as a text.
 use crate::declarations::{add_applications, add_declaration};
 use crate::drivers::add_driver;
 use crate::items::add_items;
@@ -10,7 +10,7 @@ use m_lexer::Token;
 use std::alloc::Global;
 use std::test::Fail;
 
-/// What a text is read as.
+/// The kinds of forms that a text is read as.
 #[derive(Clone, Copy)]
 pub enum Reading {
     Tokens,
@@ -34,7 +34,7 @@ fn add_read(alloc: Global, out: &mut Vec<u8>, reading: Reading, tokens: &[Token]
     }
 }
 
-// What is read of a text by way of its tokens.
+// Adds what is read of a text's tokens.
 fn add_reading(alloc: Global, out: &mut Vec<u8>, reading: Reading, text: &[u8]) {
     match tokens_of(alloc, text) {
         Ok(tokens) => add_read(alloc, out, reading, &tokens),
@@ -42,7 +42,7 @@ fn add_reading(alloc: Global, out: &mut Vec<u8>, reading: Reading, text: &[u8]) 
     }
 }
 
-/// Whether this is read of a text.
+/// Whether reading a text gives this.
 pub fn is_read(alloc: Global, reading: Reading, text: &[u8], wanted: &[u8]) -> bool {
     let mut out = Vec::new(alloc);
     match reading {
@@ -53,7 +53,7 @@ pub fn is_read(alloc: Global, reading: Reading, text: &[u8], wanted: &[u8]) -> b
     out.as_slice() == wanted
 }
 
-/// Fails at the first of these texts of which something else is read.
+/// Fails at the first of these texts with another result.
 pub fn check_all(
     alloc: Global,
     reading: Reading,

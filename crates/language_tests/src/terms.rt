@@ -1,4 +1,4 @@
-//! Terms and headers, each form once with its tree written out by hand.
+//! Terms and headers, each form once with its tree written by hand.
 use crate::readings::{Reading, check_all};
 use crate::texts::{add, add_number};
 use m_ast::{Header, Index, Link, Member, Node, Span, Term};
@@ -9,8 +9,9 @@ use m_terms::{TermFault, read_header, read_term};
 use std::alloc::Global;
 use std::test::Fail;
 
-// Texts with the term at their start and the position after it. A term is shown as a text: a number by its millionths, a name with the
-// byte at which it stands, an operator before its arguments in round brackets, a chain in square ones, and a header in curly ones.
+// Texts with the term at their start and the position after it. A term is printed as a text: a number by its
+// millionths, a name with its byte, an operator before its arguments in round brackets, a chain in square ones, and a
+// header in curly ones.
 static TERMS: [(&str, &str); 39] = [
     ("1.5 ;", "1500000 to 1"),
     ("A ;", "A@0 to 1"),
@@ -68,7 +69,7 @@ static TERMS: [(&str, &str); 39] = [
     ("A;B;", "A@0 to 1"),
 ];
 
-// Texts at whose start no term stands.
+// Texts that don't start with a term.
 static NO_TERMS: [(&str, &str); 21] = [
     ("", "none"),
     ("A", "none"),
@@ -105,7 +106,7 @@ static HEADERS: [(&str, &str); 5] = [
     ("a = 123456789 :", "{a@0 123456789..123456789} to 3"),
 ];
 
-// Texts at whose start no header stands.
+// Texts that don't start with a header.
 static NO_HEADERS: [(&str, &str); 11] = [
     ("", "none"),
     ("i = V", "none"),
@@ -120,7 +121,7 @@ static NO_HEADERS: [(&str, &str); 11] = [
     ("i = 1 et un j dans 2 :", "none"),
 ];
 
-// The tables, out of reach of the proofs of what goes over them.
+// The tables as functions, so that proofs about their users don't expand them.
 
 fn terms() -> &'static [(&'static str, &'static str)] {
     &TERMS
@@ -138,7 +139,7 @@ fn no_headers() -> &'static [(&'static str, &'static str)] {
     &NO_HEADERS
 }
 
-// A name with the byte at which it stands.
+// Adds a name with its byte.
 fn add_named(alloc: Global, out: &mut Vec<u8>, word: &[u8], place: Place) {
     add(out, word);
     add(out, b"@");
@@ -260,7 +261,7 @@ fn add_members(alloc: Global, out: &mut Vec<u8>, members: &[Member]) {
     }
 }
 
-/// Adds a position after what is read.
+/// Adds the position after the form that was read.
 pub fn add_end(alloc: Global, out: &mut Vec<u8>, end: usize) {
     add(out, b" to ");
     add_number(alloc, out, end as i128);

@@ -13,12 +13,12 @@ pub fn tokens_of(alloc: Global, text: &[u8]) -> Result<Vec<Token>, LexFault> {
     lex(alloc, text, 7)
 }
 
-// Adds bytes. Where there is no memory the text stays as it is, so it isn't what was wanted.
+// Adds bytes. If memory runs out the text is unchanged, so it differs from the expected one.
 pub fn add(text: &mut Vec<u8>, bytes: &[u8]) {
     let _added = text.extend_from_slice(bytes);
 }
 
-// Adds a word so many times.
+// Adds a word `count` times.
 pub fn add_times(text: &mut Vec<u8>, word: &[u8], count: usize) {
     for _ in 0..count {
         add(text, word);
@@ -42,7 +42,7 @@ pub fn add_words(text: &mut Vec<u8>, words: &[Name]) {
     }
 }
 
-// The byte and the line of a place; of a place in another file than 7 nothing.
+// Adds the byte and the line of a place, or nothing for a place in a file other than 7.
 pub fn add_place(alloc: Global, text: &mut Vec<u8>, place: Place) {
     if place.file == 7 {
         add(text, b" ");

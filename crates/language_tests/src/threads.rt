@@ -1,5 +1,5 @@
-//! Types that may be sent to other threads and shared with them. That this compiles is the test. An item has all other trees as its parts, and a
-//! token its kind, its key and its sign.
+//! Types that can be sent to other threads and shared with them. The test is that this compiles. All other trees are
+//! parts of an item, and the kind, the key and the sign are parts of a token.
 use m_ast::Item;
 use m_items::ParseFault;
 use m_lexer::{LexFault, Token};

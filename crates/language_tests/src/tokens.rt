@@ -1,4 +1,4 @@
-//! Tokens at the edges, first faults, and words and numbers of great length.
+//! Tokens in edge cases, first faults, and very long words and numbers.
 use crate::readings::{Reading, check_all, is_read};
 use crate::texts::{add, add_number, add_place, add_word};
 use m_lexer::{Key, Kind, LexFault, Sign, Token};
@@ -6,8 +6,8 @@ use m_places::Place;
 use std::alloc::Global;
 use std::test::Fail;
 
-// Texts, and their tokens: a word, a number with its millionths, or a text, and its bytes; or a key or a sign. After each stand its byte
-// and its line.
+// Texts, and their tokens: a word, a number with its millionths, or a text, each with its bytes; or a key or a sign.
+// After each token its byte and its line.
 static TOKENS: [(&str, &str); 20] = [
     ("", ""),
     ("# to the end", ""),
@@ -56,7 +56,7 @@ static TOKENS: [(&str, &str); 20] = [
     ),
 ];
 
-// Texts that have no tokens, each with its first fault, and the byte and the line of it.
+// Texts that have no tokens, each with its first fault, and the byte and the line of the fault.
 static FAULTS: [(&str, &str); 15] = [
     ("1.", "bad byte 1:1"),
     ("!", "bad byte 0:1"),
@@ -78,7 +78,7 @@ static FAULTS: [(&str, &str); 15] = [
     ),
 ];
 
-// The tables, out of reach of the proof of what goes over them.
+// The tables as functions, so that proofs about their users don't expand them.
 
 fn all_tokens() -> &'static [(&'static str, &'static str)] {
     &TOKENS
@@ -133,7 +133,7 @@ fn add_at(alloc: Global, out: &mut Vec<u8>, words: &[u8], place: Place) {
     add_place(alloc, out, place);
 }
 
-/// Adds why a text has no tokens.
+/// Adds the error of a text that has no tokens.
 pub fn add_fault(alloc: Global, out: &mut Vec<u8>, fault: LexFault) {
     match fault {
         LexFault::BadByte(place) => add_at(alloc, out, b"bad byte", place),
@@ -153,7 +153,7 @@ fn first_faults(rt: HostRuntime) -> Result<(), Fail> {
     check_all(rt.alloc(), Reading::Tokens, all_faults())
 }
 
-// Bytes that aren't UTF-8 stand in comments and texts, and nowhere else.
+// Bytes that aren't UTF-8 are allowed in comments and texts, and nowhere else.
 #[test]
 fn bytes_above_127(rt: HostRuntime) {
     assert!(rt;
@@ -174,7 +174,7 @@ fn bytes_above_127(rt: HostRuntime) {
     );
 }
 
-// Whether a text of these bytes is one token, which is shown with these words before the text.
+// Whether a text of these bytes is one token, which is printed as these words before the text.
 fn is_one(alloc: Global, text: &[u8], words: &[u8]) -> bool {
     let mut wanted = Vec::new(alloc);
     add(&mut wanted, words);

@@ -1,4 +1,4 @@
-//! The value of a cell with so many turns.
+//! The value of a cell with a given number of turns.
 use m_fixed::{Amount, Op, Value};
 use m_places::{Place, Seq};
 use micro_m::{Base, MNode, MTerm, slow_value};
@@ -11,7 +11,7 @@ fn number(millionths: i128) -> Value {
     }
 }
 
-// A cell less a number. Where there is no memory both are missing, so its value is another.
+// A cell less a number. If memory runs out both are missing, so its value is another.
 fn less(alloc: Global, cell: u32, millionths: i128) -> MTerm {
     let mut both = Vec::new(alloc);
     let _first = both.push(MTerm::new(MNode::Cell(cell)));
@@ -28,7 +28,7 @@ fn add(definitions: &mut Vec<(u32, MTerm, Place)>, cell: u32, term: MTerm) {
     let _added = definitions.push((cell, term, place));
 }
 
-// Cell 0 is given. Cell 2 is cell 1 less 1, cell 1 is cell 0 less 4, and cell 3 is itself less 1.
+// Cell 0 is given. Cell 1 is cell 0 less 4, cell 2 is cell 1 less 1, and cell 3 is itself less 1.
 fn base(alloc: Global) -> Base {
     let mut definitions = Vec::new(alloc);
     add(&mut definitions, 2, less(alloc, 1, 1_000_000));
@@ -43,13 +43,13 @@ fn base(alloc: Global) -> Base {
     }
 }
 
-// Whether a cell has this value with so many turns, where cell 0 is 10.
+// Whether a cell has this value with `turns` turns, where cell 0 is 10.
 fn is(base: &Base, cell: u32, turns: u32, wanted: Value) -> bool {
     let given = [number(10_000_000), Value::Undef, Value::Undef, Value::Undef];
     slow_value(base, &given, cell, turns) == wanted
 }
 
-// Without turns each cell is undefined, which counts as 0 in a difference.
+// With no turns each cell is undefined, which counts as 0 in a difference.
 fn check(base: &Base) -> bool {
     is(base, 0, 0, Value::Undef)
         && is(base, 0, 1, number(10_000_000))

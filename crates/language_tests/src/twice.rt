@@ -1,4 +1,5 @@
-//! What is declared twice: the places of both declarations. A line of the program tells the later one alone.
+//! Names and codes declared twice: the places of both declarations. The program's error line reports only the later
+//! one.
 ghost use Rattle.std.specs.Prelude.{◌≤◌, length};
 ghost use Rattle.m_places.specs.SourceLimits.{TextsAreWithin};
 
@@ -11,7 +12,8 @@ use std::alloc::Global;
 use std::test::Fail;
 use std::thread::Threads;
 
-// Declarations, and the bytes at which the two begin: a variable's name twice, an error's, and an input's code.
+// Declarations, and the bytes at which the two with one name begin: a variable's name, an error's name, and an input's
+// code.
 static TWICE: [(&str, u32, u32); 3] = [
     (
         "B : const = 1 ; A : const = 2 ; B : calculee : \"b\" ;",
@@ -30,12 +32,12 @@ static TWICE: [(&str, u32, u32); 3] = [
     ),
 ];
 
-// The table, out of reach of the proof of what goes over it.
+// The table as a function, so that proofs about its users don't expand it.
 fn all_twice() -> &'static [(&'static str, u32, u32)] {
     &TWICE
 }
 
-// The bytes of the places of both, where a fault tells of two.
+// The bytes of both places, for a fault that reports two.
 fn bytes_of(fault: &DeclareFault) -> (u32, u32) {
     match fault {
         DeclareFault::DeclaredTwice(_, earlier, later) => (earlier.byte, later.byte),
@@ -44,7 +46,7 @@ fn bytes_of(fault: &DeclareFault) -> (u32, u32) {
     }
 }
 
-// Whether of these items two are refused that begin at these bytes.
+// Whether these items are rejected for two declarations that begin at these bytes.
 fn are_refused(alloc: Global, items: &[Item], earlier: u32, later: u32) -> bool {
     if items.len() >= 4_294_967_296 {
         return false;
@@ -58,7 +60,7 @@ fn are_refused(alloc: Global, items: &[Item], earlier: u32, later: u32) -> bool 
     }
 }
 
-// Whether these texts are one whose items are refused so.
+// Whether these texts are one whose items are rejected in this way.
 fn are_reported<R: Threads + Sync>(
     rt: &R,
     alloc: Global,
@@ -77,7 +79,7 @@ fn are_reported<R: Threads + Sync>(
     }
 }
 
-// Whether these declarations are refused so.
+// Whether these declarations are rejected in this way.
 fn is_reported<R: Threads + Sync>(
     rt: &R,
     alloc: Global,

@@ -1,4 +1,4 @@
-//! What drivers cost whose functions call each other, over a base without rules.
+//! The cost of drivers whose functions call each other, over a base without rules.
 use driver_core::{CCommand, CCommandNode, Core, weight};
 use m_places::Seq;
 use micro_m::Base;
@@ -15,7 +15,7 @@ fn no_rules(alloc: Global) -> Base {
     }
 }
 
-// Whether a driver of three cells whose functions have these bodies costs so much.
+// Whether a driver of three cells whose functions have these bodies has this cost.
 fn weighs(alloc: Global, bodies: Vec<Seq<CCommand>>, wanted: u64) -> bool {
     let core = Core {
         cells: 3,
@@ -36,14 +36,14 @@ fn call(alloc: Global, function: u32) -> CCommand {
     CCommand::new(CCommandNode::Call(1, 1, Seq::from_vec(cells), function))
 }
 
-// Adds a function. Where there is no memory it isn't there, so the driver has another weight.
+// Adds a function. If memory runs out it is missing, so the driver has another weight.
 fn add_function(alloc: Global, bodies: &mut Vec<Seq<CCommand>>, command: CCommand) {
     let mut block = Vec::new(alloc);
     let _command = block.push(command);
     let _added = bodies.push(Seq::from_vec(block));
 }
 
-// Four functions, of which each calls the next, and the last the first.
+// Four functions: each calls the next, and the last calls the first.
 fn ring(alloc: Global) -> Vec<Seq<CCommand>> {
     let mut bodies = Vec::new(alloc);
     for next in [1, 2, 3, 0] {
@@ -52,7 +52,7 @@ fn ring(alloc: Global) -> Vec<Seq<CCommand>> {
     bodies
 }
 
-// 300,000 functions, of which each calls the next, and one that deletes C.
+// 300,000 functions: each calls the next; and one that deletes C.
 fn chain(alloc: Global) -> Vec<Seq<CCommand>> {
     let mut bodies = Vec::new(alloc);
     for n in 0..300_000_u32 {
@@ -62,8 +62,8 @@ fn chain(alloc: Global) -> Vec<Seq<CCommand>> {
     bodies
 }
 
-// Each level of calls in a ring costs 3, and there are as many as functions, and one more. The calls of a chain cost 3 each, and the
-// command 1.
+// Each level of calls in a ring costs 3, and there is one level more than functions. Each call of a chain costs 3, and
+// the command costs 1.
 #[test]
 fn functions_are_weighed(rt: HostRuntime) {
     assert!(rt; weighs(rt.alloc(), ring(rt.alloc()), 15));

@@ -27,11 +27,11 @@ use Rattle.large_validity.proofs.Found.{input_found, sum_found}
 use Rattle.large_validity.proofs.Rules.{target_place, read_place, further_place, first_place, first_read, numbered_definition, first_definition}
 use Rattle.large_validity.proofs.Rules.{plain_definitions, the_condition, condition_term, si_place, base_plain}
 
--- the maximum of 0 and the input k less 1000
+-- the maximum of 0 and input k less 1000
 abbrev pub maximum_tree : ℕ → Tree
 maximum_tree k = apply ops.Max (more (lit (Num (amount (codes "0")))) (more (chain (cell (k + k)) (step ops.Sub (lit (Num (amount (codes "1000")))) end)) none))
 
--- the same, and the sum j
+-- the same plus sum j
 abbrev pub sum_tree : ℕ → ℕ → Tree
 sum_tree k j = chain (maximum_tree k) (step ops.Add (cell (j + j + 1)) end)
 
@@ -45,7 +45,7 @@ abbrev pub cell_definitions : Place → ℕ → List CellDefinition
 cell_definitions q zero = []
 cell_definitions q (suc j) = numbered_cell q j ∷ cell_definitions (after q (numbered_line j)) j
 
--- the condition that the sum k is below 0
+-- the condition that sum k is below 0
 abbrev pub check_tree : ℕ → Tree
 check_tree k = apply ops.Lt (more (cell (k + k + 1)) (more (lit (Num (amount (codes "0")))) none))
 
@@ -75,7 +75,7 @@ resolved_sum_term : (p : Place) (n k j : ℕ) (at other : Place) → k < n → j
     → resolved_term (declared p n) (sum_of k j at other) ≡ Ok (sum_tree k j)
 resolved_sum_term p n k j at other l m h = rw (input_declared p n k at l h, resolved_sum p n j other m h) refl
 
--- the sum 0 and its input, whose digits are `0`
+-- sum 0 and its input, whose digits are `0`
 zero_text : decimal 0 ≡ codes "0"
 zero_text = decimal_digit 0 (omega arith)
 
@@ -100,7 +100,7 @@ definition_is d before definition c tree t f s =
 
 -- ---- all definitions
 
--- the cells up to that of the sum n aren't among these
+-- the cells up to that of sum n aren't among these
 abbrev Fresh : ℕ → List CellDefinition → Type 0
 Fresh n before = (c : ℕ) → c ≤ n + n + 1 → is_among c (cells_of before) ≡ false
 
@@ -132,7 +132,7 @@ ruled_fresh q zero c l = refl
 ruled_fresh q (suc j) c l = ap (λ b. b || is_among c (cells_of (cell_definitions (after q (numbered_line j)) j)))
     (ne_eqb c (suc j + suc j + 1) (λ e. omega arith)) ∙ ruled_fresh (after q (numbered_line j)) j c l
 
--- The rules are this base over the cells of what is declared.
+-- The rules are this base over the cells of the declarations.
 pub base_resolved : (p : Place) (n : ℕ) → 1 ≤ n → n ≤ 100000 → resolved (declared p n) (base_plain p n) ≡ Ok (base_of p n)
 base_resolved p n some few =
     let d = declared p n in

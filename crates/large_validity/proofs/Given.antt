@@ -1,4 +1,4 @@
--- The household of `large N` reads to a pair for each input.
+-- The household of `large N` parses to a pair for each input.
 use Rattle.std.proofs.Common.{◌≡◌, ℕ, ℤ, zero, suc, ◌+◌, ◌*◌, ◌%◌, ◌<◌, ◌≤◌, ◌==◌, Bool, true, false, cond, ◌||◌, nat_le, List, [], ◌∷◌, ◌++◌, codes, decimal}
 use Rattle.std.proofs.Common.{length, Option, Some, None, Result, Ok, Err, refl, sym, ap, ◌∙◌, subst, append_assoc, append-nil, inl, inr, arith}
 use Rattle.std.specs.List.{AllByRecursion}
@@ -40,7 +40,7 @@ use Rattle.large_validity.proofs.Variables.{variables, input_variable, sum_varia
 abbrev Record : Type 0
 Record = List (List ℕ)
 
--- the amount of the input k, as it is spelled
+-- the amount of input k, as it is spelled
 abbrev pub given : ℕ → List ℕ
 given k = decimal ((997 * k) % 5000)
 
@@ -51,7 +51,7 @@ abbrev pub record_list : ℕ → List Record
 record_list zero = []
 record_list (suc k) = record_list k ++ (record_of k ∷ [])
 
--- what is read from here on, where a record begins
+-- the records from here on, at the start of a record
 abbrev read_from : List ℕ → List Record
 read_from bytes = records_from_state st.StartRecord [] [] bytes
 
@@ -87,7 +87,7 @@ field_joins (c ∷ d) h fields tail =
     byte_joins st.StartField st.InField act.Copy fields fields [] (c ∷ []) c (d ++ tail) (sym (ap (λ x. x.0) s)) (sym (ap (λ x. x.1) s)) refl refl refl
     ∙ digits_join d h.1.1 fields (c ∷ []) tail
 
--- a row: a letter and digits, a comma, digits and the end of the line
+-- a row: a letter and digits, a comma, digits and a line feed
 row_read : (d e : List ℕ) → AllByRecursion IsDigit d → AreDigits e → (tail : List ℕ)
     → read_from (67 ∷ (d ++ (44 ∷ (e ++ (10 ∷ tail))))) ≡ ((67 ∷ d) ∷ e ∷ []) ∷ read_from tail
 row_read d e h g tail =

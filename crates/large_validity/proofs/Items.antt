@@ -141,7 +141,7 @@ maximum_spelled : (k : List ℕ) (q : Place) (xs : List Piece) (ts : List Token)
 maximum_spelled k q xs ts =
     called_two refl (inner 255 (whole_sum (lone number))) (inner 255 (whole_sum (gather (just word) (further refl (just number) ended) refl)))
 
--- the rule of the sum k with the number n, which reads the sum j
+-- the rule of sum k with the number n, which reads sum j
 abbrev pub sum_rule : List ℕ → List ℕ → List ℕ → Place → Item
 sum_rule n k j p = rule_item n k p (formula_place n p) (sum_term k j (input_place k (formula_place n p)) (other_place k (formula_place n p)))
 
@@ -154,7 +154,7 @@ rule_spelled n k j e p ts xs l =
     (one_of (formula {w = (84 ∷ k, q)} {slot = Whole} ended (first refl) no_index (first refl)
     (whole_sum (gather (just (maximum_spelled k q others ts)) (further refl (just word) ended) refl)) (first refl)) no_more))) l
 
--- the rule of the sum 0
+-- the rule of sum 0
 abbrev pub first_item : Place → Item
 first_item p = rule_item (codes "1") (codes "0") p (formula_place (codes "1") p)
     (maximum_term (codes "0") (input_place (codes "0") (formula_place (codes "1") p)))

@@ -80,7 +80,7 @@ verification_line k xs =
 abbrev pub check_line : List ℕ → List Piece
 check_line k = error_line (verification_line k [])
 
--- ---- the lines one after another
+-- ---- the sequence of lines
 
 abbrev pub declared_after : Place → ℕ → Place
 declared_after p zero = p
@@ -157,7 +157,7 @@ rules_shallow : (n : ℕ) (p : Place) (ts : List Token) → first_too_deep BRACK
 rules_shallow zero p ts = refl
 rules_shallow (suc j) p ts = rules_shallow j (after p (numbered_line j)) ts
 
--- Their brackets stand one deep at most.
+-- Their brackets are nested one deep at most.
 pub base_shallow : (n : ℕ) (p : Place) → IsShallow (base_tokens p n)
 base_shallow n p =
     let q = declared_after p n in

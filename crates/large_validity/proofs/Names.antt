@@ -1,4 +1,4 @@
--- The names and codes of the rule base of `large N`, of which none stands twice.
+-- The names and codes of the rule base of `large N` are distinct.
 use Rattle.std.proofs.Common.{◌≡◌, ℕ, zero, suc, ◌<◌, ◌≤◌, false, ◌||◌, List, [], ◌∷◌, ◌++◌, decimal, refl, ap, ◌∙◌, arith}
 use Rattle.std.specs.Str.{bytes_eq}
 use Rattle.std.proofs.lemmas.Fmt.{decimal_injective}
@@ -47,6 +47,6 @@ new_code m (suc k) l h =
     ∙ ap (λ b. b || has (code_name m) (code_name k ∷ [])) (new_code m k (omega arith) h)
     ∙ ap (λ b. b || false) (differ m k (omega arith) h)
 
--- the sum after its input
+-- the sum follows its input
 pub new_second : (k : ℕ) → k ≤ 100000 → has (sum_name k) (names k ++ (input_name k ∷ [])) ≡ false
 new_second k h = has-append (sum_name k) (names k) (input_name k ∷ []) ∙ ap (λ b. b || false) (new_sum k k (omega arith) h)

@@ -1,4 +1,4 @@
--- What `decimal` writes, as digits.
+-- The digits that `decimal` writes.
 use Rattle.std.proofs.Common.{◌≡◌, ◌≢◌, ℕ, ◌<◌, ◌≤◌, ◌^◌, List, [], ◌∷◌, length, decimal, codes, append-nil, ap, ◌∙◌, sym, subst, lit≤, ◌*◌, ◌++◌, arith}
 use Rattle.std.specs.List.{AllByRecursion}
 use Rattle.std.specs.Str.Parse.{AllDigits, digits_value}

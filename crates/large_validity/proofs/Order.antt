@@ -1,4 +1,4 @@
--- No cell of the base of `large N` reads itself: each reads cells before it alone.
+-- No cell of the base of `large N` reads itself: each reads only cells before it.
 use Rattle.std.proofs.Common.{◌≡◌, ℕ, zero, suc, ◌+◌, ◌-◌, ◌<◌, ◌==◌, List, [], ◌∷◌, ◌++◌, IsSomeAnd, arith, inl, inr}
 use Rattle.std.proofs.lemmas.Bool.{eqb-true}
 use Rattle.m_places.specs.declared.place.Place.{Place}
@@ -10,7 +10,7 @@ use Rattle.large_validity.proofs.Pieces.{after}
 use Rattle.large_validity.proofs.Lines.{declared_after, rules_after, numbered_line}
 use Rattle.large_validity.proofs.Base.{maximum_tree, numbered_cell, first_cell, cell_definitions, base_of}
 
--- a definition reads cells before its own
+-- a definition reads only cells before its own
 abbrev ReadsBefore : Definition → Type 0
 ReadsBefore d = (y : ℕ) → TermReads d.1 y → y < d.0
 
@@ -48,7 +48,7 @@ acyclic : (base : Base) → ((x y : ℕ) → Reads base x y → y < x) → HasNo
 acyclic base f [] h = h
 acyclic base f (x ∷ xs) h = let l = leads_before base f x xs x h.1 in omega arith
 
--- No cell reads itself on any way.
+-- No cell reads itself, directly or through other cells.
 pub base_acyclic : (p : Place) (n : ℕ) → HasNoCycle (base_of p n)
 base_acyclic p n =
     let q = declared_after p n in

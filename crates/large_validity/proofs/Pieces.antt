@@ -99,7 +99,7 @@ abbrev pub tokens_before : Place → List Piece → List Token → List Token
 tokens_before p [] ts = ts
 tokens_before p (x ∷ xs) ts = before_tokens p x (tokens_before (behind (spelling x) p) xs ts)
 
--- ---- what pieces must be
+-- ---- conditions on pieces
 
 abbrev all_small : List ℕ → Bool
 all_small [] = true
@@ -130,7 +130,7 @@ abbrev among : List ℕ → List Key → Bool
 among t [] = false
 among t (k ∷ ks) = bytes_eq t (key_spelling k) || among t ks
 
--- what can be seen of a piece by computing
+-- the conditions on a piece that are computed
 abbrev pub is_set : Piece → Bool
 is_set space = true
 is_set feed = true
@@ -141,7 +141,7 @@ is_set (digits d) = true
 is_set (quoted inside) = no_quote inside
 is_set (mark s) = is_one (sign_spelling s)
 
--- whether a byte may stand after a piece
+-- whether this byte may follow a piece
 abbrev pub fits : Piece → ℕ → Bool
 fits space c = true
 fits feed c = true
@@ -162,13 +162,13 @@ ends (digits d) = false
 ends (quoted inside) = false
 ends (mark s) = false
 
--- each piece is set, the next fits after it, and the last is a gap
+-- each piece satisfies its conditions, the next may follow it, and the last is a gap
 abbrev pub are_set : List Piece → Bool
 are_set [] = true
 are_set (x ∷ []) = ends x
 are_set (x ∷ y ∷ xs) = (is_set x && fits x (first (spelling y))) && are_set (y ∷ xs)
 
--- what must be known of a piece besides
+-- the conditions on a piece that aren't computed
 abbrev pub Holds : Piece → Type 0 → Type 0
 Holds space P = P
 Holds feed P = P
@@ -375,7 +375,7 @@ next_set : (y : Piece) (xs : List Piece) → are_set (y ∷ xs) ≡ true → is_
 next_set y [] h = (ends_set y h 0).0
 next_set y (x ∷ xs) h = (both _ _ (both _ _ h).0).0
 
--- The bytes of pieces, and whatever stands after them, have their tokens before those of the rest.
+-- The bytes of pieces before any rest have their tokens before those of the rest.
 pub pieces_lex : (xs : List Piece) → AllHold xs → are_set xs ≡ true → (rest : List ℕ) (p : Place) (ts : List Token) → Lexes (after p xs) rest ts
     → Lexes p (text_of xs ++ rest) (tokens_before p xs ts)
 pieces_lex [] h s rest p ts l = l

@@ -1,4 +1,4 @@
--- What is asked for of the base of `large N`, and what it costs.
+-- The requested cells of the base of `large N`, and its cost.
 use Rattle.std.proofs.Common.{◌≡◌, ◌≢◌, ℕ, zero, suc, ◌+◌, ◌-◌, ◌*◌, ◌<◌, ◌≤◌, ◌==◌, false, cond, ◌&&◌, List, [], ◌∷◌, ◌++◌, codes, decimal, length, Some, None}
 use Rattle.std.proofs.Common.{Ok, refl, ap, ◌∙◌, arith}
 use Rattle.std.specs.List.{AllByRecursion, sum_by}
@@ -26,9 +26,9 @@ use Rattle.large_validity.proofs.Variables.{declared}
 use Rattle.large_validity.proofs.Found.{sum_found}
 use Rattle.large_validity.proofs.Base.{numbered_cell, first_cell, cell_definitions, base_of}
 
--- ---- what is asked for
+-- ---- the requested cells
 
--- bytes that no line ends with
+-- bytes other than the ends of lines
 abbrev IsInside : ℕ → Type 0
 IsInside b = (b ≢ 10) × (b ≢ 13)
 
@@ -64,7 +64,7 @@ one_stated d b t c e =
     let some : (length (b ∷ t) == 0) ≡ false = ne_eqb (length (b ∷ t)) 0 (λ e. omega arith) in
     rw (some, e) refl
 
--- The last of the sums is asked for.
+-- The last of the sums is requested.
 pub base_requested : (p : Place) (n : ℕ) → 1 ≤ n → n ≤ 100000
     → parsed_requests (Some (joined (codes "T" ∷ decimal (n - 1) ∷ new_line ∷ []))) (declared p n) ≡ Ok ((n - 1 + (n - 1) + 1) ∷ [])
 base_requested p n some less =
@@ -73,7 +73,7 @@ base_requested p n some less =
     ap (λ lines. few (parsed_lines (declared p n) 1 [] lines)) (one_line (84 ∷ d) (((λ e. omega arith), (λ e. omega arith)), digits_inside d digits))
     ∙ ap few (one_stated (declared p n) 84 d (n - 1 + (n - 1) + 1) (requested_cell p n (n - 1) (omega arith) less))
 
--- ---- what it costs
+-- ---- the cost
 
 ruled_weight : (q : Place) (n : ℕ) → sum_by definition_weight (cell_definitions q n) ≡ 8 * n
 ruled_weight q zero = refl
@@ -84,7 +84,7 @@ ruled_weight q (suc j) =
     let c = ruled_weight r j in
     omega arith
 
--- It costs little.
+-- The cost is within the limit.
 pub base_light : (p : Place) (n : ℕ) → n ≤ 100000 → (requests : List ℕ) → weight_of (running None requests (declared p n)) (base_of p n) ≤ DRIVER_WEIGHT
 base_light p n h requests =
     let q = declared_after p n in

@@ -1,4 +1,4 @@
--- The rules of the base of `large N` without loops: no fault, and the same terms.
+-- The rules of the base of `large N` without loops: they have no fault, and the same terms.
 use Rattle.std.proofs.Common.{◌≡◌, ℕ, zero, suc, ◌+◌, ◌-◌, ◌*◌, ◌<◌, ◌≤◌, false, cond, nat_le, List, [], ◌∷◌, ◌++◌, replicate, codes, decimal, Option, Some}
 use Rattle.std.proofs.Common.{None, refl, ap, ◌∙◌, arith}
 use Rattle.std.specs.Prelude.{filter, slice_index_or, unwrap_or}
@@ -34,11 +34,11 @@ use Rattle.large_validity.proofs.Variables.{error_place}
 abbrev pub iliad : List ℕ
 iliad = codes "iliad"
 
--- the verification at the end
+-- the verification, which is the last item
 abbrev pub last_check : List ℕ → Place → Item
 last_check k p = the_check k (verification_place p) (condition_place (verification_place p)) (checked_place (condition_place (verification_place p)))
 
--- the items that count
+-- the items that belong to the application
 abbrev pub rules_and_check : Place → ℕ → List Item
 rules_and_check p n =
     rule_items (declared_after p n) (n - 1) ++ (first_item (rules_after (declared_after p n) (n - 1))
@@ -85,7 +85,7 @@ rule_bound n k p q t h g = let a = word_bound no_scope 84 k q refl h in let b = 
 check_bound : (k : List ℕ) (p : Place) → AllByRecursion IsDigit k → item_faults (last_check k p) ≡ []
 check_bound k p h = let a = word_bound no_scope 84 k (checked_place (condition_place (verification_place p))) refl h in λ i. (a i ++ []) ++ []
 
--- where the formula of a rule stands, and in it the input and the sum that it reads
+-- the places of the formula of a rule, and in it of the input and of the sum that it reads
 abbrev pub target_place : Place → ℕ → Place
 target_place q j = formula_place (decimal (j + 2)) q
 
@@ -141,7 +141,7 @@ end_parts d r k p before h =
     ap (λ b. cond b (Some (TooManyParts r)) (too_many d (before + 6) (last_check k p ∷ []))) (le-ltb 2000000 (before + 6) (omega arith))
     ∙ ap (λ b. cond b (Some (TooManyParts (verification_place p))) None) (le-ltb 2000000 (before + 6 + 4) (omega arith))
 
--- No loop and no letter of the rules has a fault, and their parts are not too many.
+-- No loop and no letter of the rules has a fault, and they have fewer parts than the limit.
 pub base_expands : (p : Place) (n : ℕ) (d : Declared) → 1 ≤ n → n ≤ 100000 → expand_fault (base_items p n) iliad d ≡ None
 base_expands p n d some few =
     let q = declared_after p n in
@@ -159,7 +159,7 @@ base_expands p n d some few =
     ∙ ap (λ fs. option_or (least None fs) (too_many d 0 (rules_and_check p n))) faults
     ∙ parts
 
--- ---- without letters words stay
+-- ---- without letters words are unchanged
 
 nothing_at : (n i : ℕ) → slice_index_or (replicate {A = Option (List ℕ)} n None) i None ≡ None
 nothing_at zero i = refl
@@ -189,7 +189,7 @@ abbrev pub plain_definitions : Place → ℕ → List Definition
 plain_definitions q zero = []
 plain_definitions q (suc j) = numbered_definition q j ∷ plain_definitions (after q (numbered_line j)) j
 
--- the condition of the check, for the sum of these digits, where the error stands at this place
+-- the condition of the check, for the sum with these digits, where the error is at this place
 abbrev pub si_place : Place → Place
 si_place e = condition_place (verification_place e)
 

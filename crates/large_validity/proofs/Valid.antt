@@ -19,7 +19,7 @@ use Rattle.large_validity.proofs.Base.{base_of, base_resolved}
 use Rattle.large_validity.proofs.Order.{base_acyclic}
 use Rattle.large_validity.proofs.RequestLemmas.{base_requested, base_light}
 
--- where the only rule file begins
+-- the place where the only rule file begins
 abbrev pub start : Place
 start = start_of 0
 

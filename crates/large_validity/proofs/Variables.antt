@@ -1,4 +1,4 @@
--- What the rule base of `large N` declares.
+-- The declarations of the rule base of `large N`.
 use Rattle.std.proofs.Common.{◌≡◌, ℕ, zero, suc, ◌+◌, ◌-◌, List, [], ◌∷◌, ◌++◌, map, decimal, length, replicate, refl, ap, ◌∙◌, append-nil, arith}
 use Rattle.std.specs.List.{filter_map, cons_option}
 use Rattle.std.proofs.lemmas.List.{map-append, length-append, length-replicate}
@@ -33,7 +33,7 @@ abbrev pub variables : Place → ℕ → List Variable
 variables p zero = []
 variables p (suc k) = variables p k ++ (input_variable p k ∷ sum_variable p k ∷ [])
 
--- where the error stands
+-- the place of the error
 abbrev pub error_place : Place → ℕ → Place
 error_place p n = after (rules_after (declared_after p n) (n - 1)) first_line
 
@@ -72,7 +72,7 @@ length-owners number first (v ∷ vs) =
     let m = length-replicate (variable_cells v) number in
     omega arith
 
--- ---- what the declarations are
+-- ---- the declarations
 
 pub placed_variables : (p : Place) (n : ℕ) → placed_from 0 (variable_items p n) ≡ variables p n
 placed_variables p zero = refl
@@ -109,7 +109,7 @@ made : (vs ws : List VariableItem) (us : List Variable) (es fs : List ErrorItem)
     right)
 made vs ws us es fs e f g = let h : placed_from 0 vs ≡ us = ap (placed_from 0) e ∙ f in λ i. record { variables = h i; errors = g i }
 
--- What the items declare.
+-- The declarations of the items.
 pub base_declares : (p : Place) (n : ℕ) → declared_by (base_items p n) ≡ declared p n
 base_declares p n =
     let q = declared_after p n in

@@ -1,14 +1,14 @@
--- What `large N` computes, as texts.
+-- The source of `large N`.
 use Rattle.std.specs.Prelude.{ℕ, ◌-◌, List, [], ◌∷◌, codes, decimal, Some, None}
 use Rattle.m_text.specs.Pieces.{joined, new_line}
 use Rattle.m_places.specs.declared.source.Source.{Source}
 use Rattle.m_large.specs.Large.{base_name, base_text}
 
--- what is asked for: the last of the sums
+-- the requests: the last of the sums
 abbrev pub large_requests : ℕ → List ℕ
 large_requests n = joined (codes "T" ∷ decimal (n - 1) ∷ new_line ∷ [])
 
--- The source: the one generated rule file, its application, no driver, and the last sum as what is asked for.
+-- The source: the generated rule file, its application, no driver, and the request of the last sum.
 abbrev pub large_source : ℕ → Source
 large_source n = record {
   application = codes "iliad";

@@ -8,7 +8,8 @@ use Rattle.m_compile.specs.Sources.{IsValid}
 use Rattle.m_large.specs.Large.{household_text}
 use Rattle.large_validity.specs.Sources.{large_source}
 
--- The source of `large N` declares this, its rules are this base, this is asked for, and no step of it has a fault; and its household reads to these pairs.
+-- The source of `large N` has these declarations, its rules are this base, these are the requested cells, and no step
+-- has a fault; and its household parses to these pairs.
 pub record IsLargeValid (n : ℕ) : Type 0 where
   pub declared : Declared
   pub base : Base

@@ -1,4 +1,4 @@
--- The clause on what is taken of the input.
+-- The clause on how much of the input was read.
 use Rattle.std.proofs.Common.{◌≡◌, ◌⊎◌, ℕ, ◌<◌, List, [], length, Option, None, Some, refl, sym, ap, ◌∙◌, inl, inr, arith}
 use Rattle.std.specs.Io.KnownBytes.{prepend_known}
 use Rattle.m_places.specs.declared.limits.TheConstants.{INPUT_BYTES}
@@ -17,7 +17,7 @@ nothing : (known : Option (List ℕ)) → prepend_known [] known ≡ known
 nothing None = refl
 nothing (Some bytes) = refl
 
--- nothing was taken
+-- nothing was read
 untouched : (heard reported : InputView) (status : Status) → reported ≡ heard → KeepsInputLimit heard reported status
 untouched heard reported status same = (
   [],
@@ -27,12 +27,12 @@ untouched heard reported status same = (
   λ full. absurd (omega (arith, full)),
 )
 
--- less was taken than may be
+-- less than the limit was read
 less : (heard reported : InputView) (status : Status) (taken : List ℕ) → heard.left ≡ prepend_known taken reported.left → length taken < INPUT_BYTES
     → KeepsInputLimit heard reported status
 less heard reported status taken moved few = (taken, moved, omega (arith, few), λ full. absurd (omega (arith, few, full)))
 
--- the line that says why was printed, or its write failed
+-- the error line was printed, or its write failed
 stated : (text : List ℕ) (old new : OutputView) (status : Status) → Prints text Refused old new status → (status ≡ Refused) ⊎ (status ≡ WriteFault)
 stated text old new status (inl p) = inl p.1
 stated text old new status (inr p) = inr p.1

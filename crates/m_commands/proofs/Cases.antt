@@ -1,4 +1,4 @@
--- Cases have one answer.
+-- `cases` has one answer.
 use Rattle.std.proofs.Common.{◌≡◌, ℕ, zero, suc, List, Some, Result, Ok, Err, refl, ap, subst}
 use Rattle.m_places.specs.declared.source.Source.{Source}
 use Rattle.m_cases.specs.Cases.{cases_of}
@@ -25,7 +25,7 @@ same_fault_line fault other t u e a b =
     let c : cases_fault_line other ≡ Some t = subst (λ (f : CasesFault). cases_fault_line f ≡ Some t) e a in
     cc (c, b)
 
--- a scheme answers in one way
+-- a scheme has one answer
 one_compared : (scheme : Scheme) (table t u : List ℕ) (s r : Status) → ComparedReplies scheme table t s → ComparedReplies scheme table u r
     → AreOneOutput t s u r
 one_compared scheme table t u s r (table_is_refused fault g k) (table_is_refused other h l) = the_same (same_fault_line fault other t u (cc (g, h)) k l) refl
@@ -35,7 +35,7 @@ one_compared scheme table t u s r (is_compared one g) (is_compared other h) =
     let e : one ≡ other = cc (g, h) in
     the_same (ap (cases_text scheme) e) (ap (λ (c : Cases). count_status (cases_count scheme c.rows c.expected)) e)
 
--- `cases` answers in one way
+-- `cases` has one answer for a source
 pub one_cases : (source : Source) (table t u : List ℕ) (s r : Status) → CasesReplies source table t s → CasesReplies source table u r → AreOneOutput t s u r
 one_cases source table t u s r (source_is_refused fault f k) (source_is_refused other g l) = one_line source.texts fault other t u
     (one_fault source fault other f g) k l
@@ -53,7 +53,7 @@ given_complete : (scheme : Scheme) (table text : List ℕ) (status : Status) (ca
 given_complete scheme table text status cases g (table_is_refused fault h k) = cc (g, h)
 given_complete scheme table text status cases g (is_compared other h) = count_complete (cases_count scheme other.rows other.expected)
 
--- what has an answer isn't refused
+-- what has an answer isn't rejected
 pub compared_complete : (source : Source) (table text : List ℕ) (status : Status) → CasesHasAnswer source table → CasesReplies source table text status
     → IsComplete status
 compared_complete source table text status h (source_is_refused fault f k) = absurd (no_scheme_and_fault source h.scheme fault h.valid f)

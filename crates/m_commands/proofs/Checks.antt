@@ -1,4 +1,4 @@
--- A check has one answer.
+-- `check` has one answer.
 use Rattle.std.proofs.Common.{◌≡◌, ℕ, ◌+◌, ℤ, List, Some, Ok, Err, refl, ap, subst}
 use Rattle.m_places.specs.declared.source.Source.{Source}
 use Rattle.tax_print.specs.FaultLines.{report_line}
@@ -25,7 +25,7 @@ one_report_line fault other t u e a b =
     let c : report_fault_line other ≡ Some t = subst (λ (f : ReportFault). report_fault_line f ≡ Some t) e a in
     cc (c, b)
 
--- what is found of the lines is the same
+-- the result over the lines is the same
 moved : (declared : Declared) (base : Base) (pairs given : List (ℕ × ℤ)) (lines others : List ReportLine) (position : ℕ) → pairs ≡ given → lines ≡ others
     → IsFirstUnsound base (given_by declared pairs) lines position → IsFirstUnsound base (given_by declared given) others position
 moved declared base pairs given lines others position p q first =
@@ -63,13 +63,13 @@ one_report declared base rows report t u s r (check.is_sound pairs lines g i k) 
     absurd (no_sound_and_unsound base (given_by declared pairs) lines position k (moved declared base given pairs others lines position p q l))
 one_report declared base rows report t u s r (check.is_sound pairs lines g i k) (check.is_sound given others h j l) = the_same refl refl
 
--- what is answered over one base is answered over the same
+-- an answer over a base is one over an equal base
 over_same : (declared others : Declared) (base other : Base) (rows report t : List ℕ) (s : Status) → (declared ≡ others) × (base ≡ other)
     → ReportReplies declared base rows report t s → ReportReplies others other rows report t s
 over_same declared others base other rows report t s same replied =
     subst (λ (d : Declared). ReportReplies d other rows report t s) same.0 (subst (λ (b : Base). ReportReplies declared b rows report t s) same.1 replied)
 
--- `check` answers in one way
+-- `check` has one answer for a source
 pub one_check : (source : Source) (rows report t u : List ℕ) (s r : Status) → CheckReplies source rows report t s → CheckReplies source rows report u r
     → AreOneOutput t s u r
 one_check source rows report t u s r (check.rules_are_refused fault f k) (check.rules_are_refused other g l) =
@@ -94,7 +94,7 @@ report_complete declared base rows report text status pairs lines g i k (check.i
     absurd (no_sound_and_unsound base (given_by declared pairs) lines position k (moved declared base given pairs others lines position p q l))
 report_complete declared base rows report text status pairs lines g i k (check.is_sound given others h j l) = tt
 
--- what has an answer isn't refused
+-- what has an answer isn't rejected
 pub checked_complete : (source : Source) (rows report text : List ℕ) (status : Status) → CheckHasAnswer source rows report
     → CheckReplies source rows report text status → IsComplete status
 checked_complete source rows report text status h (check.rules_are_refused fault f k) = absurd

@@ -1,4 +1,4 @@
--- The clauses on the text, where nothing failed, where a write did, and where there was no memory.
+-- The clauses on the text, for three cases: nothing failed, a write failed, memory ran out.
 use Rattle.std.proofs.Common.{◌≡◌, ℕ, true, false, List, Option, Some, Ok, Err, refl, sym, ap, ◌∙◌, subst, inl, inr}
 use Rattle.std.specs.Prelude.{◌⊎◌}
 use Rattle.std.specs.Option.{option_map_or}
@@ -26,12 +26,12 @@ use Rattle.m_commands.specs.inner.Courses.{Course, IsWorkOf, is_no_command, has_
 use Rattle.m_commands.proofs.Ways.{Way, way_of, observe, lacks_memory, breaks_off, serves_all, serves_part, serves_most, serves_front, serve_reads, typed_all}
 use Rattle.m_commands.proofs.Ways.{typed_rest}
 
--- a command whose plan asks for a file has files that are told
+-- a command whose plan requests a file has files with known contents
 pub asking : (words : List (List ℕ)) (disk : Disk) (before : FilesView) (command : Command) → KnowsDisk words before disk → command_of words ≡ Some command
     → requests_file (plan_of command) ≡ true → before.known_files ≡ Some disk
 asking words disk before command t c a = t (ap (λ (o : Option Command). option_map_or (λ (x : Command). requests_file (plan_of x)) o false) c ∙ a)
 
--- a plan that was refused has an output
+-- a plan that rejects has an output
 refused_output : (words : List (List ℕ)) (disk : Disk) (typed : List ℕ) (before after : FilesView) (command : Command) (refusal : Refusal)
     → KnowsDisk words before disk → command_of words ≡ Some command
     → GoesAlong (plan_of command) before after (Err (ending.Refused refusal)) → Output words disk typed (refusal_line refusal) Refused
@@ -39,7 +39,7 @@ refused_output words disk typed before after command refusal t c g =
     refuses command c (walks_to_end before.known_files disk (plan_of command) g.made g.spent (Err (ending.Refused refusal)) g.walk
     (asking words disk before command t c))
 
--- what a plan has gathered
+-- the result of a plan that has gathered its files
 pub gathers : (words : List (List ℕ)) (disk : Disk) (before after : FilesView) (command : Command) (work : Work) → KnowsDisk words before disk
     → command_of words ≡ Some command
     → GoesAlong (plan_of command) before after (Ok work) → end_of disk (plan_of command) ≡ gathered work
@@ -53,12 +53,12 @@ shown : (words : List (List ℕ)) (disk : Disk) (typed text : List ℕ) (own : S
 shown words disk typed text own old new status (inl p) f o = (text, p.0.0, subst (λ (s : Status). Output words disk typed text s) (sym p.1) o)
 shown words disk typed text own old new status (inr p) f o = absurd (subst IsFaultless p.1 f)
 
--- a failed read was told
+-- a failed read was reported
 read_failed : (text : List ℕ) (old new : OutputView) (status : Status) → Prints text ReadFault old new status → IsFaultless status → ⊥
 read_failed text old new status (inl p) f = subst IsFaultless p.1 f
 read_failed text old new status (inr p) f = subst IsFaultless p.1 f
 
--- ---- where nothing failed
+-- ---- nothing failed
 
 text_way : (words : List (List ℕ)) (disk : Disk) (typed : List ℕ) (heard reported : InputView) (old new : OutputView) (status : Status) (command : Command)
     (work : Work)
@@ -97,7 +97,7 @@ text_of words before after heard reported old new status (answered command work 
     text_way words disk typed heard reported old new status command work c (gathers words disk before after command work t c g) k i f
     (way_of work heard reported old new status a)
 
--- ---- where a write failed
+-- ---- a write failed
 
 -- a prefix of a whole text was written
 front : (words : List (List ℕ)) (disk : Disk) (typed text : List ℕ) (own : Status) (before after : FilesView) (heard reported : InputView)
@@ -144,9 +144,9 @@ writing_of words before after heard reported old new status (answered command wo
     writing_way words disk typed before after heard reported old new status command work c (gathers words disk before after command work t c g) k i e
     (way_of work heard reported old new status a)
 
--- ---- where there was no memory
+-- ---- memory ran out
 
--- a text that was printed doesn't end so
+-- the status isn't out of memory after a text was printed
 no_memory_reported : (text : List ℕ) (own : Status) (old new : OutputView) (status : Status) → Prints text own old new status → (own ≡ Memory → ⊥)
     → status ≡ Memory → ⊥
 no_memory_reported text own old new status (inl p) unlike m = unlike (sym p.1 ∙ m)

@@ -1,4 +1,4 @@
--- A source has one compiling, and a code file one answer.
+-- `compile` has one answer up to the compiled code, and a code file has one answer.
 use Rattle.std.proofs.Common.{◌≡◌, ◌≢◌, ℕ, ℤ, List, [], length, None, Some, Ok, Err, refl, sym, ap, ◌∙◌, subst}
 use Rattle.m_fixed.specs.declared.amount.Value.{Value}
 use Rattle.m_places.specs.declared.source.Source.{Source}
@@ -35,7 +35,7 @@ use Rattle.m_commands.proofs.Schemes.{one_line, same_line}
 
 -- ---- code files
 
--- loaded code that is the same, but for proofs
+-- loaded code with the same parts is equal (proofs are irrelevant)
 pub record IsSameCode (one other : Loaded) : Type 0 where
   pub code : one.code ≡ other.code
   pub inputs : one.face.inputs ≡ other.face.inputs
@@ -56,13 +56,13 @@ one_code_fault : (code line other_line : List ℕ) (fault other : CodeFault) →
     → code_fault_line other ≡ Some other_line → fault ≡ other
 one_code_fault code line other_line fault other f g k l = one-fault code fault other f g
 
--- ---- what code is to households
+-- ---- the schemes that code shows
 
--- the inputs are the same by one scheme and by the other
+-- two schemes of one program have the same inputs
 pub one_inputs : (face : Face) (runs : List Value → Answer) (one other : Scheme) → Shows one face runs → Shows other face runs → one.inputs ≡ other.inputs
 one_inputs face runs one other a b = sym a.inputs ∙ b.inputs
 
--- and so is what is told to a household
+-- they observe the same for a household
 pub one_reported : (face : Face) (runs : List Value → Answer) (one other : Scheme) (rows : List ℕ) (pairs : List (ℕ × ℤ)) → Shows one face runs
     → Shows other face runs
     → household_of one.inputs rows ≡ Ok pairs → household_of other.inputs rows ≡ Ok pairs → observation_for one pairs ≡ observation_for other pairs
@@ -72,7 +72,7 @@ one_reported face runs one other rows pairs a b g h =
     let y = b.answers (values_of pairs (length other.inputs)) (household_gives other.inputs rows pairs h) in
     cc (n, x, y)
 
--- what code is to households, the same code is too
+-- equal code shows the same scheme
 pub shown_other : (scheme : Scheme) (one other : Loaded) → IsSameCode one other → Shows scheme one.face (machine_run one.code)
     → Shows scheme other.face (machine_run other.code)
 shown_other scheme one other same s = record {
@@ -82,7 +82,7 @@ shown_other scheme one other same s = record {
       ∙ s.answers values given;
 }
 
--- a household is answered in one way by what the code is to it
+-- a household has one answer by the schemes that code shows
 one_answer : (face : Face) (runs : List Value → Answer) (one other : Scheme) (rows t u : List ℕ) (s r : Status) → Shows one face runs → Shows other face runs
     → HouseholdReplies [] one rows t s → HouseholdReplies [] other rows u r → AreOneOutput t s u r
 one_answer face runs one other rows t u s r a b (prepared.is_refused fault g k) (prepared.is_refused also h l) =
@@ -102,13 +102,13 @@ one_answer face runs one other rows t u s r a b (prepared.is_reported pairs g) (
     let n : one.names ≡ other.names = sym a.names ∙ b.names in
     the_same (λ i. observation_lines (n i) (e i)) (ap observation_status e)
 
--- two lines of one fault of a code file
+-- two lines of one fault of a code file are equal
 one_code_line : (fault other : CodeFault) (t u : List ℕ) → fault ≡ other → code_fault_line fault ≡ Some t → code_fault_line other ≡ Some u → t ≡ u
 one_code_line fault other t u e a b =
     let c : code_fault_line other ≡ Some t = subst (λ (f : CodeFault). code_fault_line f ≡ Some t) e a in
     cc (c, b)
 
--- `exec` answers in one way
+-- `exec` has one answer
 pub one_exec : (code rows t u : List ℕ) (s r : Status) → ExecReplies code rows t s → ExecReplies code rows u r → AreOneOutput t s u r
 one_exec code rows t u s r (exec.code_is_refused fault f k) (exec.code_is_refused other g l) = the_same
     (one_code_line fault other t u (one_code_fault code t u fault other f g k l) k l) refl
@@ -125,7 +125,7 @@ one_exec code rows t u s r (exec.is_answered one scheme form shown h) (exec.is_a
 pub code_not_refused : (code rows line : List ℕ) (fault : CodeFault) → ExecHasAnswer code rows → IsCodeFault code fault → code_fault_line fault ≡ Some line → ⊥
 code_not_refused code rows line fault h is reported = no_form_and_fault code line h.loaded fault h.form is reported
 
--- nor has the household
+-- the household of an answer has no fault
 pub rows_not_refused : (code rows : List ℕ) (loaded : Loaded) (scheme : Scheme) (fault : HouseholdFault) → ExecHasAnswer code rows → IsFormOf code loaded
     → Shows scheme loaded.face (machine_run loaded.code) → household_of scheme.inputs rows ≡ Err fault → ⊥
 rows_not_refused code rows loaded scheme fault h form shown g =
@@ -134,17 +134,17 @@ rows_not_refused code rows loaded scheme fault h form shown g =
     let f : household_of scheme.inputs rows ≡ Ok h.pairs = subst (λ inputs. household_of inputs rows ≡ Ok h.pairs) c h.given in
     cc (f, g)
 
--- ---- compiling
+-- ---- compile
 
 -- a source that has a scheme has no fault
 no_scheme_and_fault : (source : Source) (scheme : Scheme) (fault : SourceFault) → IsScheme source scheme → IsSourceFault source fault → ⊥
 no_scheme_and_fault source scheme fault v is = no_valid_and_fault source v.declared v.base v.written v.requests fault v.valid is
 
--- a valid source isn't refused
+-- a valid source isn't rejected
 pub compiled_not_refused : (source : Source) (fault : SourceFault) → CompileHasAnswer source → IsSourceFault source fault → ⊥
 compiled_not_refused source fault h is = no_scheme_and_fault source h.scheme fault h.valid is
 
--- `compile` answers in one way, but for the code
+-- `compile` has one answer, up to the code
 pub one_compile : (source : Source) (t u : List ℕ) (s r : Status) → CompileReplies source t s → CompileReplies source u r → AreOneOutput t s u r
 one_compile source t u s r (compiles.is_refused fault f k) (compiles.is_refused other g l) = one_line source.texts fault other t u
     (one_fault source fault other f g) k l

@@ -1,4 +1,4 @@
--- What `compile` has written.
+-- The text that `compile` has written.
 use Rattle.std.proofs.Common.{◌≡◌, ℕ, Bool, true, false, List, [], length, nat_le, Option, None, Some, refl, sym, ap, subst, cond}
 use Rattle.std.specs.Option.{option_map_or}
 use Rattle.code_file.specs.Reading.{IsFormOf}
@@ -24,7 +24,7 @@ use Rattle.m_commands.specs.declared.work.Work.TheVariants as work
 use Rattle.m_commands.specs.inner.Courses.{Course}
 use Rattle.m_commands.proofs.Clauses.{text_of}
 
--- ---- a plan, and what is made of what it gathers
+-- ---- a plan, and a function of what it gathers
 
 of_test : {A B : Type 0} (name : List ℕ) (f : A → B) (w : B) (one : End B) (other : End A) (test : Bool)
     → (one ≡ gathered w → (a : A) × (w ≡ f a) × (other ≡ gathered a))
@@ -38,7 +38,7 @@ of_file : {A B : Type 0} (name : List ℕ) (limit : ℕ) (f : A → B) (w : B) (
 of_file name limit f w one other None h e = absurd (cc e)
 of_file name limit f w one other (Some bytes) h e = of_test name f w (one bytes) (other bytes) (nat_le (length bytes) limit) (h bytes) e
 
--- a plan whose end makes something of what it gathered has gathered that
+-- if a plan's result is such a function of what was gathered, the plan has gathered it
 gathers_made : {A B : Type 0} (disk : Disk) (plan : Plan A) (f : A → B) (w : B) → end_of disk (and_then plan (λ a. done (f a))) ≡ gathered w
     → (a : A) × (w ≡ f a) × (end_of disk plan ≡ gathered a)
 gathers_made disk (done all) f w e = let s : f all ≡ w = cc e in (all, sym s, refl)
@@ -49,7 +49,7 @@ gathers_made disk (fetches name limit behind) f w e =
 
 -- ---- `compile`
 
--- what a compilation that did its work has written
+-- the text of a compilation that did its work
 pub written : (source : Source) (text : List ℕ) (status : Status) → status ≡ Done → CompileReplies source text status
     → (loaded : Loaded) × IsPreparedCode source loaded × IsFormOf text loaded
 written source text status d (is_refused fault f reported) = absurd (cc d)

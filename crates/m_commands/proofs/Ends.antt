@@ -1,4 +1,4 @@
--- The clause on where a session that did all of its work stands in its input.
+-- The clause that a session which did all of its work is at the input's end.
 use Rattle.std.proofs.Common.{◌≡◌, true, false, ℕ, List, Option, Some, None, sym, ap, ◌∙◌, inl, inr}
 use Rattle.std.specs.Option.{option_map_or}
 use Rattle.std.specs.Io.KnownBytes.{IsAtEnd}
@@ -18,7 +18,7 @@ use Rattle.m_commands.specs.declared.work.Work.TheVariants.{Run, Serve, Batch, L
 use Rattle.m_commands.specs.inner.Courses.{Course, WorkIsAnswered, work_form, is_no_command, has_no_memory, ended, answered}
 use Rattle.m_commands.proofs.Ways.{session_requested}
 
--- a text that was printed doesn't end so
+-- the status isn't `Done` after such a text was printed
 not_done : (text : List ℕ) (own : Status) (old new : OutputView) (status : Status) → Prints text own old new status → (own ≡ Done → ⊥) → status ≡ Done → ⊥
 not_done text own old new status (inl p) unlike e = unlike (sym p.1 ∙ e)
 not_done text own old new status (inr p) unlike e = cc (p.1, e)

@@ -1,4 +1,4 @@
--- By what `compile` has written `exec` answers as `run` does by the source.
+-- `exec` on the code file that `compile` wrote answers as `run` does on the source.
 use Rattle.std.proofs.Common.{◌≡◌, ℕ, List, [], Ok, Err, refl, sym, ap, ◌∙◌, subst}
 use Rattle.m_fixed.specs.declared.amount.Value.{Value}
 use Rattle.m_places.specs.declared.source.Source.{Source}
@@ -27,7 +27,7 @@ use Rattle.m_commands.proofs.Codes.{no_form_and_fault, one_inputs, one_loaded, o
 use Rattle.m_commands.proofs.Compiling.{written}
 use Rattle.m_commands.proofs.Schemes.{one_scheme}
 
--- what is answered to a household by one scheme is answered to it by the other
+-- the answer to a household by one scheme is that by the other
 same_replies : (face : Face) (runs : List Value → Answer) (one other : Scheme) (rows text : List ℕ) (status : Status) → Shows one face runs
     → Shows other face runs
     → HouseholdReplies [] one rows text status → HouseholdReplies [] other rows text status
@@ -44,13 +44,13 @@ same_replies face runs one other rows text status a b (prepared.is_reported pair
     subst (λ (s : Status). HouseholdReplies [] other rows (observation_lines one.names (observation_for one pairs)) s) (ap observation_status e)
     (subst (λ (x : List ℕ). HouseholdReplies [] other rows x (observation_status (observation_for other pairs))) t r)
 
--- what is answered to a household by the scheme of a source is what `run` answers
+-- the answer to a household by a source's scheme is the answer of `run`
 run_of : (source : Source) (scheme : Scheme) (rows text : List ℕ) (status : Status) → IsScheme source scheme → HouseholdReplies [] scheme rows text status
     → RunReplies source rows text status
 run_of source scheme rows text status v (prepared.is_refused fault g k) = run.is_refused (households_are_refused scheme fault v g k)
 run_of source scheme rows text status v (prepared.is_reported pairs g) = run.is_reported scheme pairs v g
 
--- what `exec` answers by a code file of what a source is compiled to, `run` answers by the source
+-- the answer of `exec` by a code file compiled from a source is an answer of `run` on the source
 executed : (source : Source) (loaded : Loaded) (code rows text : List ℕ) (status : Status) → IsPreparedCode source loaded → IsFormOf code loaded
     → ExecReplies code rows text status
     → RunReplies source rows text status
@@ -60,12 +60,12 @@ executed source loaded code rows text status p form (exec.is_answered other sche
     let a = shown_other scheme other loaded e shown in
     run_of source p.scheme rows text status p.valid (same_replies loaded.face (machine_run loaded.code) scheme p.scheme rows text status a p.shows replies)
 
--- the code is to households what each scheme of the source is
+-- the code shows each scheme of the source
 shown_by : (source : Source) (loaded : Loaded) (scheme : Scheme) → IsPreparedCode source loaded → IsScheme source scheme
     → Shows scheme loaded.face (machine_run loaded.code)
 shown_by source loaded scheme p v = subst (λ (s : Scheme). Shows s loaded.face (machine_run loaded.code)) (one_scheme source p.scheme scheme p.valid v) p.shows
 
--- and what `run` answers by the source, `exec` answers by the code file
+-- the answer of `run` on the source is an answer of `exec` by the code file
 ran : (source : Source) (loaded : Loaded) (code rows text : List ℕ) (status : Status) → IsPreparedCode source loaded → IsFormOf code loaded
     → RunReplies source rows text status
     → ExecReplies code rows text status
@@ -76,16 +76,16 @@ ran source loaded code rows text status p form (run.is_refused (households_are_r
 ran source loaded code rows text status p form (run.is_reported scheme pairs v g) = exec.is_answered loaded scheme form (shown_by source loaded scheme p v)
     (prepared.is_reported pairs g)
 
--- ---- what `compile` has written
+-- ---- the text that `compile` has written
 
--- `exec` answers by it what `run` answers by the source, and no other
+-- on it `exec` gives the answers of `run` on the source, and no others
 pub executed_as : (source : Source) (code rows text : List ℕ) (status : Status) → CompileReplies source code Done
     → (ExecReplies code rows text status → RunReplies source rows text status) × (RunReplies source rows text status → ExecReplies code rows text status)
 executed_as source code rows text status compiled =
     let w = written source code Done refl compiled in
     (executed source w.0 code rows text status w.1 w.2, ran source w.0 code rows text status w.1 w.2)
 
--- it has an answer where the source has one
+-- it has an answer if the source has one
 pub answered_as : (source : Source) (code rows : List ℕ) → CompileReplies source code Done → RunHasAnswer source rows → ExecHasAnswer code rows
 answered_as source code rows compiled h =
     let w = written source code Done refl compiled in

@@ -1,4 +1,4 @@
--- What the output, the input and the status say of each other.
+-- How the faults of output and input relate to the status.
 use Rattle.std.proofs.Common.{◌≡◌, ◌<◌, ℕ, Bool, true, false, List, Some, sym, ap, ◌∙◌, subst, arith, inl, inr}
 use Rattle.std.specs.Prelude.{◌⊎◌}
 use Rattle.m_ports.specs.Counts.{Rose}
@@ -18,9 +18,9 @@ use Rattle.m_commands.specs.inner.Courses.{Course, IsWorkOf, is_no_command, has_
 use Rattle.m_commands.proofs.Ways.{Way, way_of, observe, lacks_memory, breaks_off, serves_all, serves_part, serves_most, serves_front, serve_reads}
 use Rattle.m_commands.proofs.Ways.{batch_writes}
 
--- ---- the count of faults of the output
+-- ---- the output's count of faults
 
--- a write fault is told only where one happened and always where one did
+-- a write fault is reported exactly if one happened
 pub record Counted (old new : OutputView) (status : Status) : Type 0 where
   pub only : status ≡ WriteFault → Rose old.faults new.faults
   pub always : old.faults < new.faults → status ≡ WriteFault
@@ -68,7 +68,7 @@ not_memory text own old new status (inr p) unlike m = cc (p.1, m)
 no_bool : (b : Bool) → b ≡ true → b ≡ false → ⊥
 no_bool b t f = cc (t, f)
 
--- without memory nothing was written, but by a command that writes in parts
+-- if memory ran out nothing was written, except by a command that writes in parts
 memory_way : (words : List (List ℕ)) (command : Command) (work : Work) (heard reported : InputView) (old new : OutputView) (status : Status)
     → command_of words ≡ Some command → IsWorkOf command work
     → Way work heard reported old new status → status ≡ Memory → writes_early words ≡ false → new.written ≡ old.written
@@ -99,7 +99,7 @@ memory_of words before after heard reported old new status (answered command wor
 
 -- ---- the input
 
--- without memory nothing was taken
+-- if memory ran out nothing was read
 quiet_way : (work : Work) (heard reported : InputView) (old new : OutputView) (status : Status) → Way work heard reported old new status → status ≡ Memory
     → reported ≡ heard
 quiet_way work heard reported old new status (observe text own r o same p) m = same
@@ -118,7 +118,7 @@ quiet_of words before after heard reported old new status (ended command ending 
 quiet_of words before after heard reported old new status (answered command work c g k a) m = quiet_way work heard reported old new status
     (way_of work heard reported old new status a) m
 
--- a command that doesn't read the input leaves it
+-- a command that doesn't read the input leaves it unchanged
 left_way : (words : List (List ℕ)) (command : Command) (work : Work) (heard reported : InputView) (old new : OutputView) (status : Status)
     → command_of words ≡ Some command → IsWorkOf command work
     → Way work heard reported old new status → reads_input words ≡ false → reported ≡ heard
@@ -142,19 +142,19 @@ left_of words before after heard reported old new status (ended command ending c
 left_of words before after heard reported old new status (answered command work c g k a) f = left_way words command work heard reported old new status c k
     (way_of work heard reported old new status a) f
 
--- the count of faults is the same
+-- the count of faults is unchanged
 no_rise : (heard reported : InputView) → reported.faults ≡ heard.faults → heard.faults < reported.faults → ⊥
 no_rise heard reported same h = omega (arith, same, h)
 
 same_faults : (heard reported : InputView) → reported ≡ heard → reported.faults ≡ heard.faults
 same_faults heard reported same = ap (λ (v : InputView). v.faults) same
 
--- a failed read was told, or a write failed
+-- a failed read was reported, or a write failed
 read_written : (text : List ℕ) (old new : OutputView) (status : Status) → Prints text ReadFault old new status → (status ≡ ReadFault) ⊎ (status ≡ WriteFault)
 read_written text old new status (inl p) = inl p.1
 read_written text old new status (inr p) = inr p.1
 
--- a read of the input that failed is told, but where a write failed too
+-- a failed read of the input is reported, unless a write failed too
 reported_way : (work : Work) (heard reported : InputView) (old new : OutputView) (status : Status) → Way work heard reported old new status
     → heard.faults < reported.faults → (status ≡ ReadFault) ⊎ (status ≡ WriteFault)
 reported_way work heard reported old new status (observe text own r o same p) h = absurd (no_rise heard reported (same_faults heard reported same) h)
@@ -177,7 +177,7 @@ observation words before after heard reported old new status (answered command w
 
 -- ---- the usage line
 
--- a text was printed whose own status isn't that of the usage line
+-- a text was printed with a status other than `Usage`
 no_usage : (text : List ℕ) (own : Status) (old new : OutputView) (status : Status) → (own ≡ Usage → ⊥) → Prints text own old new status → status ≡ Usage → ⊥
 no_usage text own old new status u (inl p) e = u (sym p.1 ∙ e)
 no_usage text own old new status u (inr p) e = cc (p.1, e)

@@ -1,4 +1,4 @@
--- A lint has one answer, but for what the source is compiled to, and what it says is true.
+-- `lint` has one answer, up to the compiled source, and its findings are true.
 use Rattle.std.proofs.Common.{◌≡◌, ℕ, List, Option, refl, sym, ap, subst}
 use Rattle.std.specs.List.{AllByRecursion}
 use Rattle.m_places.specs.declared.source.Source.{Source}
@@ -27,11 +27,11 @@ use Rattle.m_commands.specs.Output.{AreOneOutput, both_linted}
 use Rattle.m_commands.proofs.Codes.{compiled_not_refused}
 use Rattle.m_commands.proofs.Schemes.{one_line}
 
--- what is compiled has no fault
+-- a compiled source has no fault
 no_fault : (source : Source) (compiled : Compiled) (fault : SourceFault) → IsCompiled source compiled → IsSourceFault source fault → ⊥
 no_fault source compiled fault is f = no_valid_and_fault source is.declared is.base is.written is.requests fault is.valid f
 
--- `lint` answers in one way, but for what the source is compiled to
+-- `lint` has one answer, up to the compiled source
 pub one_lint : (source : Source) (t u : List ℕ) (s r : Status) → LintReplies source t s → LintReplies source u r → AreOneOutput t s u r
 one_lint source t u s r (is_refused fault f k) (is_refused other g l) = one_line source.texts fault other t u (one_fault source fault other f g) k l
 one_lint source t u s r (is_refused fault f k) (is_linted declared base compiled rules is) = absurd (no_fault source compiled fault is f)
@@ -41,12 +41,12 @@ one_lint source t u s r (is_linted declared base one rules is) (is_linted others
     let e : lint_text declared base two ≡ lint_text others other two = λ i. lint_text (same.0 i) (same.1 i) two in
     subst (λ (x : List ℕ). AreOneOutput (lint_text declared base one) Done x Done) e (both_linted source declared base one two rules is was)
 
--- what has an answer isn't refused
+-- what has an answer isn't rejected
 pub linted_complete : (source : Source) (text : List ℕ) (status : Status) → CompileHasAnswer source → LintReplies source text status → IsComplete status
 linted_complete source text status h (is_refused fault f k) = absurd (compiled_not_refused source fault h f)
 linted_complete source text status h (is_linted declared base compiled rules is) = tt
 
--- what is found is true of what the source answers
+-- the findings are true of the source's observations
 found_true : (source : Source) (declared : Declared) (base : Base) (compiled : Compiled) (others : Declared) (other : Base) (written : Option Core)
     (requests : List ℕ) → HasRules source declared base
     → (is : IsCompiled source compiled) → IsValid source others other written requests

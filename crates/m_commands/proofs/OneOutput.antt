@@ -39,7 +39,7 @@ use Rattle.m_commands.proofs.Codes.{one_compile, one_exec}
 use Rattle.m_commands.proofs.Lints.{one_lint}
 use Rattle.m_commands.proofs.Schemes.{not_refused, one_refusal, one_scheme, stated_other}
 
--- the pairs of a household are the same by one scheme and by the other
+-- the pairs of a household are the same for two schemes of a source
 one_pairs : (source : Source) (rows : List ℕ) (one other : Scheme) (pairs given : List (ℕ × ℤ)) → IsScheme source one → IsScheme source other
     → household_of one.inputs rows ≡ Ok pairs → household_of other.inputs rows ≡ Ok given → pairs ≡ given
 one_pairs source rows one other pairs given a b p q = let c = stated_other source (λ inputs. household_of inputs rows) (Ok pairs) one other a b p in cc (c, q)
@@ -83,17 +83,17 @@ one_batch source table t u s r (batch.is_reported one rows v g) (batch.is_report
 
 -- ---- sessions
 
--- an input isn't both shorter than is taken and as long
+-- an input isn't both below the limit and at least as long
 not_both_lengths : (typed taken rest : List ℕ) → length typed < INPUT_BYTES → typed ≡ taken ++ rest → length taken ≡ INPUT_BYTES → ⊥
 not_both_lengths typed taken rest few e full = omega (arith, few, ap length e, length-append taken rest, full)
 
--- two prefixes of one length
+-- two prefixes of equal length
 one_front : (one other rest left : List ℕ) → one ++ rest ≡ other ++ left → length one ≡ length other → one ≡ other
 one_front one other rest left e same = sym (take-append-le (length one) one rest (omega arith) ∙ take_all (length one) one (omega arith))
     ∙ ap (take (length one)) e ∙ ap (λ n. take n (other ++ left)) same ∙ take-append-le (length other) other left (omega arith)
     ∙ take_all (length other) other (omega arith)
 
--- the same session, which may tell other reasons
+-- the same session, possibly with other reasons
 same_session : (source : Source) (rows : List ℕ) (one other : Scheme) (explains reasons : Explaining) (pairs given : List (ℕ × ℤ))
     → IsSession source rows one explains pairs → IsSession source rows other reasons given
     → (one ≡ other) × (pairs ≡ given)
@@ -129,7 +129,7 @@ one_serve source rows typed t u s r (serve.is_too_long one explains pairs taken 
     subst (λ (x : List ℕ). AreOneOutput (ended_replies one explains pairs taken ++ input_too_long_line) Refused x Refused) (sym text)
     (both_too_long source one explains reasons pairs taken v.valid v.explained w.explained)
 
--- a command answers what it gathered in one way
+-- a command has one answer to what it gathered
 one_reply : (work : Work) (typed t u : List ℕ) (s r : Status) → Replies work typed t s → Replies work typed u r → AreOneOutput t s u r
 one_reply (Run source rows) typed t u s r a b = one_run source rows t u s r a b
 one_reply (Serve source rows) typed t u s r a b = one_serve source rows typed t u s r a b

@@ -1,4 +1,4 @@
--- The clause on reading.
+-- The clause on the files that are read.
 use Rattle.std.proofs.Common.{◌≡◌, ℕ, true, false, List, [], ◌∷◌, ◌++◌, Some, Ok, Err, Result, refl, sym, ap, ◌∙◌, subst, inl, inr}
 use Rattle.std.proofs.lemmas.List.{append-nil}
 use Rattle.std.specs.Prelude.{◌⊎◌}
@@ -32,7 +32,7 @@ abbrev first_or : Attempt → List Attempt → Attempt
 first_or a [] = a
 first_or a (b ∷ bs) = b
 
--- none failed, so the last didn't
+-- if none failed, the last didn't
 none_last : (made before : List Attempt) (name : List ℕ) → NoneFailed made → made ≡ before ++ record { name = name; failed = true } ∷ [] → ⊥
 none_last [] [] name h e = cc
 none_last [] (b ∷ before) name h e = cc
@@ -42,7 +42,7 @@ none_last (m ∷ made) [] name h e =
     cc
 none_last (m ∷ made) (b ∷ before) name h e = none_last made before name h.1 (cc)
 
--- the names that a command tried, in order
+-- the names that a command attempted, in order
 in_order_of : (words : List (List ℕ)) (before after : FilesView) (command : Command) (result : Result Work Ending) (disk : Disk)
     → command_of words ≡ Some command
     → (g : GoesAlong (plan_of command) before after result) → before.known_files ≡ Some disk → BeginsWith (fetches_of words disk) (names_tried g.made)
@@ -50,7 +50,7 @@ in_order_of words before after command result disk c g t =
     let r = walks_in_order before.known_files disk (plan_of command) g.made g.spent result g.walk t in
     (r.0, ap (λ o. option_map_or (λ (x : Command). names_fetched disk (plan_of x)) o []) c ∙ r.1)
 
--- a read fault, if there is one, is of the input
+-- a read fault can only be of the input
 abbrev OfInput : List (List ℕ) → FilesView → InputView → InputView → OutputView → OutputView → Status → Type 0
 OfInput words before heard reported old new status = status ≡ ReadFault → (reads_input words ≡ true) × Rose heard.faults reported.faults
     × ReportsInput words before heard reported old new
@@ -70,7 +70,7 @@ reading_none words before after heard reported old new status made a i n r = rec
   cause = λ e. inr (r e);
 }
 
--- the status of a text that isn't a read fault's
+-- a status other than `ReadFault`
 not_read : (text : List ℕ) (own : Status) (old new : OutputView) (status : Status) → (own ≡ ReadFault → ⊥) → Prints text own old new status → status ≡ ReadFault
     → ⊥
 not_read text own old new status unlike (inl p) e = unlike (sym p.1 ∙ e)
@@ -84,7 +84,7 @@ still words before after heard reported old new status s r =
     (λ disk t. (fetches_of words disk, refl)) tt
     (λ e. absurd (r e))
 
--- the last attempt failed, and was told
+-- the last attempt failed, and was reported
 last_reported : (words : List (List ℕ)) (before after : FilesView) (heard reported : InputView) (old new : OutputView) (status : Status) (command : Command)
     (name : List ℕ) → command_of words ≡ Some command
     → GoesAlong (plan_of command) before after (Err (ending.Unreadable name)) → Prints (unreadable_line name) ReadFault old new status
@@ -106,7 +106,7 @@ last_reported words before after heard reported old new status command name c g 
     whole (inl q) e = q.0.0
     whole (inr q) e = cc (q.1, e)
 
--- what was printed tells of a read of the input that failed
+-- the text after a failed read of the input was printed
 whole : (text : List ℕ) (old new : OutputView) (status : Status) → Prints text ReadFault old new status → status ≡ ReadFault
     → new.written ≡ append_known old.written text
 whole text old new status (inl q) e = q.0.0

@@ -1,4 +1,4 @@
--- A source has one scheme, and isn't refused where it has one.
+-- A source has one scheme, and isn't rejected if it has one.
 use Rattle.std.proofs.Common.{◌≡◌, ℕ, List, Some, Result, Ok, Err, refl, sym, ◌∙◌, subst}
 use Rattle.m_places.specs.declared.source.Source.{Source}
 use Rattle.m_places.specs.declared.source.Text.{Text}
@@ -22,13 +22,13 @@ one_scheme source one other a b =
     let same = one_validity source a.declared b.declared a.base b.base a.written b.written a.requests b.requests a.valid b.valid in
     a.stated ∙ (λ i. source_scheme (same.0 i) (same.1 i) (same.2 i) (same.3 i)) ∙ sym b.stated
 
--- what a file says is the same by one scheme and by the other
+-- the contents of a file are the same for two schemes of a source
 pub stated_other : (source : Source) {Given : Type 0} (stated : List Coded → Result Given HouseholdFault) (result : Result Given HouseholdFault)
     (one other : Scheme) → IsScheme source one → IsScheme source other
     → stated one.inputs ≡ result → stated other.inputs ≡ result
 stated_other source stated result one other a b e = subst (λ (s : Scheme). stated s.inputs ≡ result) (one_scheme source one other a b) e
 
--- a valid source and a file without a fault aren't refused
+-- a valid source and a file without a fault aren't rejected
 pub not_refused : (source : Source) {Given : Type 0} (stated : List Coded → Result Given HouseholdFault) (line : List ℕ) (scheme : Scheme) (given : Given)
     → IsScheme source scheme → stated scheme.inputs ≡ Ok given
     → Refuses source stated line → ⊥
@@ -38,7 +38,7 @@ not_refused source stated line scheme given valid e (households_are_refused othe
     let c = stated_other source stated (Err fault) other scheme is valid faulty in
     cc (c, e)
 
--- ---- two errors of a source
+-- ---- two error lines of a source
 
 pub one_line : (texts : List Text) (fault other : SourceFault) (t u : List ℕ) → AreOneSourceFault fault other → source_line texts fault ≡ Some t
     → source_line texts other ≡ Some u → AreOneOutput t Refused u Refused

@@ -1,4 +1,4 @@
--- What is valid is answered.
+-- The clause that valid words and files are answered.
 use Rattle.std.proofs.Common.{◌≡◌, ◌<◌, ◌+◌, ℕ, Bool, true, List, [], ◌∷◌, ◌++◌, length, Some, Err, refl, sym, ap, ◌∙◌, subst, zero-add, arith, inl, inr}
 use Rattle.std.specs.Prelude.{if◌then◌else◌}
 use Rattle.m_places.specs.declared.limits.TheConstants.{INPUT_BYTES}
@@ -43,17 +43,17 @@ use Rattle.m_commands.proofs.Schemes.{not_refused as refusal_none}
 use Rattle.m_commands.proofs.Lints.{linted_complete}
 use Rattle.m_commands.proofs.Ways.{Way, way_of, observe, lacks_memory, breaks_off, serves_all, serves_part, serves_most, serves_front, serve_reads}
 
--- what is told is the end of a command that did all of its work
+-- an observation has the status of a command that did all of its work
 reported_complete : (reported : Observation) → IsComplete (observation_status reported)
 reported_complete (values notes vs) = tt
 reported_complete (stopped cause) = tt
 
--- nothing that is typed is as much as is taken
+-- an empty input is below the limit
 nothing_full : (taken rest : List ℕ) → [] ≡ taken ++ rest → length taken ≡ INPUT_BYTES → ⊥
 nothing_full [] rest e full = cc full
 nothing_full (byte ∷ taken) rest e full = absurd (cc e)
 
--- what has an answer is answered, and not refused, where nothing is typed
+-- for an empty input, what has an answer is answered and not rejected
 replies_complete : (work : Work) (text : List ℕ) (status : Status) → HasAnswer work → Replies work [] text status → IsComplete status
 replies_complete (Run source rows) text status h (run.is_refused {line = line} r) = absurd
     (refusal_none source (λ inputs. household_of inputs rows) line h.scheme h.pairs h.valid h.given r)
@@ -77,7 +77,7 @@ replies_complete (Check source rows report) text status h replies = checked_comp
 replies_complete (Lint source) text status h replies = linted_complete source text status h replies
 replies_complete (Cases source table) text status h replies = compared_complete source table text status h replies
 
--- valid words and files aren't refused
+-- valid words and files aren't rejected
 not_refused : (words : List (List ℕ)) (disk : Disk) (command : Command) (line : List ℕ) → IsValidCommand words disk → command_of words ≡ Some command
     → end_of disk (plan_of command) ≡ refused line → ⊥
 not_refused words disk command line valid c e =
@@ -85,7 +85,7 @@ not_refused words disk command line valid c e =
     let q : end_of disk (plan_of valid.command) ≡ refused line = subst (λ (x : Command). end_of disk (plan_of x) ≡ refused line) s e in
     cc (q, valid.gathers)
 
--- what valid words and files gather has an answer
+-- the work gathered by valid words and files has an answer
 has_answer : (words : List (List ℕ)) (disk : Disk) (command : Command) (work : Work) → IsValidCommand words disk → command_of words ≡ Some command
     → end_of disk (plan_of command) ≡ gathered work → HasAnswer work
 has_answer words disk command work valid c e =
@@ -99,7 +99,7 @@ none_counted [] h = refl
 none_counted (attempt ∷ made) h = ap (λ (failed : Bool). (if failed then 1 else 0) + failed_count made) h.0 ∙ zero-add (failed_count made)
     ∙ none_counted made h.1
 
--- the count of failed attempts rose by one where the last one failed
+-- the count of failed attempts rose by one if the last attempt failed
 rose : (before after : FilesView) (made : List Attempt) (name : List ℕ) → after.attempts ≡ before.attempts ++ made → LastFailed made name
     → failed_count after.attempts ≡ failed_count before.attempts + 1
 rose before after made name a l =
@@ -119,7 +119,7 @@ complete : (text : List ℕ) (own : Status) (old new : OutputView) (status : Sta
 complete text own old new status (inl p) d q = subst IsComplete (sym p.1) d
 complete text own old new status (inr p) d q = absurd (q p.0.1)
 
--- a text that was cut short for a failed read of the input
+-- a text cut short by a failed read of the input
 complete_way : (words : List (List ℕ)) (command : Command) (work : Work) (heard reported : InputView) (old new : OutputView) (status : Status)
     → command_of words ≡ Some command → IsWorkOf command work
     → HasAnswer work → (Rose heard.faults reported.faults → ⊥) → (Rose old.faults new.faults → ⊥) → TakesFew words heard reported

@@ -1,4 +1,4 @@
--- How what was gathered was answered, in one form for all commands.
+-- How any work was answered, in one form for all commands.
 use Rattle.std.proofs.Common.{◌≡◌, ℕ, ℤ, ◌-◌, ◌≤◌, Bool, true, false, List, ◌++◌, length, length-append, length-take, take, drop, Option, None, Some, refl, sym}
 use Rattle.std.proofs.Common.{ap, ◌∙◌, subst, append_assoc, inl, inr, arith}
 use Rattle.std.proofs.lemmas.Bool.{cases_lt}
@@ -42,7 +42,7 @@ form_in_parts (Some form.Serve) = false
 form_in_parts (Some form.Batch) = true
 form_in_parts (Some form.Cases) = true
 
--- whether commands of a form take from the input
+-- whether commands of a form read the input
 abbrev form_takes : Option Form → Bool
 form_takes None = false
 form_takes (Some form.Run) = false
@@ -50,15 +50,15 @@ form_takes (Some form.Serve) = true
 form_takes (Some form.Batch) = false
 form_takes (Some form.Cases) = false
 
--- The prefix of an answer was appended, where this is typed.
+-- A prefix of an answer was appended, for this input.
 pub record IsFront (work : Work) (typed : List ℕ) (old new : OutputView) : Type 0 where
   pub text : List ℕ
   pub own : Status
   pub replies : Replies work typed text own
   pub prefix : AppendsPrefix old.written new.written text
 
--- A text was printed, whatever is typed; or there was no memory, before anything was written or, where an answer is written in parts, on the way; or a session
--- had its input.
+-- A text was printed, for any input; or memory ran out, before anything was written, or while an answer was written in
+-- parts; or a session ran over its input.
 pub data Way (work : Work) (heard reported : InputView) (old new : OutputView) (status : Status) : Type 0 where
   observe : (text : List ℕ) (own : Status) → ((typed : List ℕ) → Replies work typed text own) → IsOfEnd own → reported ≡ heard → Prints text own old new status
       → Way work heard reported old new status
@@ -77,21 +77,21 @@ pub data Way (work : Work) (heard reported : InputView) (old new : OutputView) (
       → Rose old.faults new.faults
       → status ≡ WriteFault → Way work heard reported old new status
 
--- ---- what was typed and what was taken of it
+-- ---- the input and the part of it that was read
 
 -- all of it
 pub typed_all : (left : Option (List ℕ)) (typed taken : List ℕ) → Some typed ≡ prepend_known taken left → IsAtEnd left → typed ≡ taken
 typed_all None typed taken e none = absurd (cc e)
 typed_all (Some bytes) typed taken e none = let s : typed ≡ taken ++ bytes = cc e in s ∙ ap (λ rest. taken ++ rest) none ∙ append-nil taken
 
--- a prefix of it, before some rest
+-- a prefix of it
 pub typed_rest : (left : Option (List ℕ)) (typed taken : List ℕ) → Some typed ≡ prepend_known taken left → (rest : List ℕ) × (typed ≡ taken ++ rest)
 typed_rest None typed taken e = absurd (cc e)
 typed_rest (Some bytes) typed taken e = (bytes, cc e)
 
 -- ---- a session
 
--- what is written of the replies to lines of an input is the prefix of what is answered to all of it
+-- what is written of the replies to some lines of an input is a prefix of the answer to the whole input
 session_front : (source : Source) (rows : List ℕ) (scheme : Scheme) (explains : Explaining) (pairs : List (ℕ × ℤ)) (taken rest : List ℕ) (old new : OutputView)
     → IsSession source rows scheme explains pairs
     → length taken ≤ INPUT_BYTES → AppendsPrefix old.written new.written (ended_replies scheme explains pairs taken)
@@ -169,7 +169,7 @@ way_of (Cases source table) heard reported old new status (same, parts.broke_off
 
 -- ---- the command of a work
 
--- what a command does is told by its form
+-- the form determines the command
 form_does : (wanted : Command) → (takes_input wanted ≡ form_takes (command_form wanted)) × (writes_in_parts wanted ≡ form_in_parts (command_form wanted))
 form_does (command.Run names household) = (refl, refl)
 form_does (command.Serve names household) = (refl, refl)
@@ -181,7 +181,7 @@ form_does (command.Check list household report) = (refl, refl)
 form_does (command.Lint names) = (refl, refl)
 form_does (command.Cases names table) = (refl, refl)
 
--- one form alone takes from the input
+-- only one form reads the input
 one_takes : (own : Option Form) → form_takes own ≡ true → own ≡ Some form.Serve
 one_takes None e = absurd (cc e)
 one_takes (Some form.Run) e = absurd (cc e)
@@ -189,16 +189,16 @@ one_takes (Some form.Serve) e = refl
 one_takes (Some form.Batch) e = absurd (cc e)
 one_takes (Some form.Cases) e = absurd (cc e)
 
--- the command that takes from the input is a session
+-- the command that reads the input is a session
 pub session_requested : (wanted : Command) → takes_input wanted ≡ true → command_form wanted ≡ Some form.Serve
 session_requested wanted e = one_takes (command_form wanted) (sym (form_does wanted).0 ∙ e)
 
--- a session was asked for
+-- the command is a session
 pub serve_reads : (words : List (List ℕ)) (wanted : Command) (work : Work) → command_of words ≡ Some wanted → IsWorkOf wanted work
     → work_form work ≡ Some form.Serve → reads_input words ≡ true
 serve_reads words wanted work c k e = ap (λ o. option_map_or takes_input o false) c ∙ (form_does wanted).0 ∙ ap form_takes (sym k ∙ e)
 
--- what writes in parts was asked for
+-- the command writes in parts
 pub batch_writes : (words : List (List ℕ)) (wanted : Command) (work : Work) → command_of words ≡ Some wanted → IsWorkOf wanted work
     → form_in_parts (work_form work) ≡ true → writes_early words ≡ true
 batch_writes words wanted work c k e = ap (λ o. option_map_or writes_in_parts o false) c ∙ (form_does wanted).1 ∙ ap form_in_parts (sym k) ∙ e

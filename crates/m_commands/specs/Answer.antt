@@ -1,4 +1,4 @@
--- What a command answers with what it has gathered.
+-- The answer of a command, given what it gathered.
 use Rattle.std.specs.Prelude.{ℕ, ◌≤◌, List, length}
 use Rattle.m_places.specs.declared.limits.TheConstants.{CODE_FILE_BYTES, LARGE}
 use Rattle.m_places.specs.SourceLimits.{SourceKeepsLimits}
@@ -15,7 +15,7 @@ use Rattle.command_answers.specs.Serves.{ServeReplies, ServeCutOff}
 use Rattle.m_commands.specs.declared.work.Work.{Work}
 use Rattle.m_commands.specs.declared.work.Work.TheVariants.{Run, Serve, Batch, Large, Compile, Exec, Check, Lint, Cases}
 
--- The text and the status that a command answers with what it has gathered, where this is typed into the input.
+-- The text and the status of a command that gathered this, where `typed` is the whole input.
 abbrev pub Replies : Work → (typed : List ℕ) → List ℕ → Status → Type 0
 Replies (Run source rows) typed = RunReplies source rows
 Replies (Serve source rows) typed = ServeReplies source rows typed
@@ -27,12 +27,12 @@ Replies (Check source rows report) typed = CheckReplies source rows report
 Replies (Lint source) typed = LintReplies source
 Replies (Cases source table) typed = CasesReplies source table
 
--- The text where a read of the input fails after these bytes of it: only a session reads.
+-- The text if a read of the input fails after these bytes: only a session reads the input.
 abbrev pub CutOff : Work → (taken : List ℕ) → List ℕ → Type 0
 CutOff (Serve source rows) taken text = ServeCutOff source rows taken text
 CutOff _ taken text = ⊥
 
--- what was gathered has an answer that isn't an error: the generated source and household have one
+-- what was gathered has an answer that isn't an error; for the generated source and household this always holds
 abbrev pub HasAnswer : Work → Type 0
 HasAnswer (Run source rows) = RunHasAnswer source rows
 HasAnswer (Serve source rows) = RunHasAnswer source rows
@@ -44,7 +44,7 @@ HasAnswer (Check source rows report) = CheckHasAnswer source rows report
 HasAnswer (Lint source) = CompileHasAnswer source
 HasAnswer (Cases source table) = CasesHasAnswer source table
 
--- the files that were gathered keep the limits of what is made of them
+-- the gathered files are within the limits
 abbrev pub WorkKeepsLimits : Work → Type 0
 WorkKeepsLimits (Run source rows) = SourceKeepsLimits source
 WorkKeepsLimits (Serve source rows) = SourceKeepsLimits source

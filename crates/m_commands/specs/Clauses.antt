@@ -1,4 +1,4 @@
--- What a call of the program has read and written, clause by clause, from the views before and after it.
+-- The clauses of `m_tax`: what a call has read and written, given the views before and after it.
 use Rattle.std.specs.Prelude.{◌≡◌, ◌⊎◌, ℕ, ◌<◌, ◌≤◌, true, List, ◌++◌, length, Some, None}
 use Rattle.std.specs.Io.KnownBytes.{append_known, prepend_known}
 use Rattle.m_places.specs.declared.limits.TheConstants.{INPUT_BYTES}
@@ -26,43 +26,44 @@ use Rattle.m_commands.specs.declared.command.Command.{Command}
 use Rattle.m_commands.specs.declared.command.Command.TheVariants.{Compile}
 use Rattle.m_commands.specs.declared.work.Work.{Work}
 
--- what is known of the files, where the command fetches one
+-- the files have these known contents, if the command fetches a file
 abbrev pub KnowsDisk : List (List ℕ) → FilesView → Disk → Type 0
 KnowsDisk words files disk = reads_files words ≡ true → files.known_files ≡ Some disk
 
--- what is known of the input, where the command reads it
+-- the input has these known contents, if the command reads it
 abbrev pub IsTyped : List (List ℕ) → InputView → List ℕ → Type 0
 IsTyped words input typed = reads_input words ≡ true → input.left ≡ Some typed
 
--- Where the files and the input are told, as far as the command reads them, and nothing failed, the text that is appended and the
--- status are an `Output`.
+-- If the contents of the files and of the input are known, as far as the command reads them, and nothing failed, the
+-- appended text and the status are an `Output`.
 abbrev pub PrintsOutput : List (List ℕ) → FilesView → InputView → OutputView → OutputView → Status → Type 0
 PrintsOutput words files input old new status =
     (disk : Disk) (typed : List ℕ) → KnowsDisk words files disk → IsTyped words input typed → IsFaultless status
     → (text : List ℕ) × (new.written ≡ append_known old.written text) × Output words disk typed text status
 
--- the text of a command whose read of the input fails after these bytes
+-- the text of a command if its read of the input fails after these bytes
 pub data IsCutOff (words : List (List ℕ)) (disk : Disk) (taken text : List ℕ) : Type 0 where
   cuts_off : (command : Command) (work : Work) → command_of words ≡ Some command → end_of disk (plan_of command) ≡ gathered work → CutOff work taken text
       → IsCutOff words disk taken text
 
--- Where the files and the input are told, what is appended is the text of a read that failed after what was taken.
+-- If the contents of the files and of the input are known, the appended text is that of a read that failed after the
+-- bytes read.
 abbrev pub ReportsInput : List (List ℕ) → FilesView → InputView → InputView → OutputView → OutputView → Type 0
 ReportsInput words before heard reported old new =
     (disk : Disk) (typed : List ℕ) → before.known_files ≡ Some disk → heard.left ≡ Some typed
     → (taken text : List ℕ) × (heard.left ≡ prepend_known taken reported.left) × (new.written ≡ append_known old.written text) × IsCutOff words disk taken text
 
--- Of the input no more was taken than a session takes of one, and as much only at the status of an input that is too long, or of a failed write. So a
--- session that came to the input's end has taken less, and one whose read failed.
+-- A call reads at most `INPUT_BYTES` bytes of the input, and that many only if the status is that of an input that is
+-- too long or of a failed write. So a session that reached the input's end has read less, as has one with a failed
+-- read.
 abbrev pub KeepsInputLimit : (heard reported : InputView) → Status → Type 0
 KeepsInputLimit heard reported status =
     (taken : List ℕ) × (heard.left ≡ prepend_known taken reported.left) × (length taken ≤ INPUT_BYTES)
     × (length taken ≡ INPUT_BYTES → (status ≡ Refused) ⊎ (status ≡ WriteFault))
 
--- The attempts that a call made. Where the files are told, their names are fetched in the order of
--- `fetches_of`. At most the last of them failed, and then the status says so, or that writing did.
--- `ReadFault` comes only there or where a fault of the input rose, and the line that tells of an
--- unreadable file names it.
+-- The attempts of a call to read files. If the files' contents are known, the names are fetched in the order of
+-- `fetches_of`. At most the last attempt failed, and then the status reports this or a failed write. The status is
+-- `ReadFault` only then or after a failed read of the input, and the line of an unreadable file has its name.
 pub record ReadsInOrder (words : List (List ℕ)) (before after : FilesView) (heard reported : InputView) (old new : OutputView) (status : Status) : Type 0 where
   pub made : List Attempt
   pub appended : after.attempts ≡ before.attempts ++ made
@@ -72,8 +73,8 @@ pub record ReadsInOrder (words : List (List ℕ)) (before after : FilesView) (he
   pub cause : status ≡ ReadFault → ((name : List ℕ) × LastFailed made name × (new.written ≡ append_known old.written (unreadable_line name)))
       ⊎ ((reads_input words ≡ true) × Rose heard.faults reported.faults × ReportsInput words before heard reported old new)
 
--- A text that a call writes if no write fails: an output, the line of the file that can't be read, or the text of a read of the input that
--- failed.
+-- The whole text that a call writes if no write fails: an output, the line of the file that can't be read, or the text
+-- after a failed read of the input.
 pub data IsWholeText (words : List (List ℕ)) (disk : Disk) (typed : List ℕ) (before after : FilesView) (heard reported : InputView) (text : List ℕ) : Type 0
   where
     output : {status : Status} → Output words disk typed text status → IsWholeText words disk typed before after heard reported text
@@ -82,20 +83,22 @@ pub data IsWholeText (words : List (List ℕ)) (disk : Disk) (typed : List ℕ) 
     cut_off : (taken : List ℕ) → heard.left ≡ prepend_known taken reported.left → Rose heard.faults reported.faults → IsCutOff words disk taken text
         → IsWholeText words disk typed before after heard reported text
 
--- Where the files and the input are told, as far as the command reads them, and a write failed, what is appended is the prefix of a whole text.
+-- If the contents of the files and of the input are known, as far as the command reads them, and a write failed, the
+-- appended text is a prefix of a whole text.
 abbrev pub WritesFront : List (List ℕ) → FilesView → FilesView → InputView → InputView → OutputView → OutputView → Status → Type 0
 WritesFront words before after heard reported old new status =
     (disk : Disk) (typed : List ℕ) → KnowsDisk words before disk → IsTyped words heard typed → status ≡ WriteFault
     → (text : List ℕ) × IsWholeText words disk typed before after heard reported text × AppendsPrefix old.written new.written text
 
--- Where the files are told, if the command fetches one, and there was no memory, nothing is appended or the prefix of an output.
+-- If the files' contents are known (unless the command fetches none), and memory ran out, nothing or a prefix of an
+-- output is appended.
 abbrev pub StopsInFront : List (List ℕ) → FilesView → OutputView → OutputView → Status → Type 0
 StopsInFront words before old new status =
     (disk : Disk) (typed : List ℕ) → KnowsDisk words before disk → status ≡ Memory
     → (new.written ≡ old.written) ⊎ ((text : List ℕ) × (own : Status) × Output words disk typed text own × AppendsPrefix old.written new.written text)
 
--- Where the files are told, `compile` that did all of its work has written a code file, of what its source is compiled to: code that is to households
--- what the source is, with its face. The text has the form that `exec` takes.
+-- If the files' contents are known, a `compile` that did all of its work has written a code file of its compiled
+-- source: the code shows the source's scheme, with its face, and the text has the form that `exec` accepts.
 abbrev pub WritesCode : List (List ℕ) → FilesView → OutputView → OutputView → Status → Type 0
 WritesCode words before old new status =
     (disk : Disk) (names : SourceNames) → before.known_files ≡ Some disk → command_of words ≡ Some (Compile names) → status ≡ Done
@@ -108,18 +111,18 @@ abbrev pub NothingFailed : FilesView → FilesView → InputView → InputView �
 NothingFailed before after heard reported old new =
     (Rose (failed_count before.attempts) (failed_count after.attempts) → ⊥) × (Rose heard.faults reported.faults → ⊥) × (Rose old.faults new.faults → ⊥)
 
--- less is taken of the input than may be, where the command reads it
+-- fewer bytes of the input are read than the limit, if the command reads the input
 abbrev pub TakesFew : List (List ℕ) → InputView → InputView → Type 0
 TakesFew words heard reported = reads_input words ≡ true → (taken : List ℕ) → heard.left ≡ prepend_known taken reported.left → length taken < INPUT_BYTES
 
--- What is valid is answered, unless a read, a write or memory failed. Over files that the command doesn't fetch nothing has to be told.
+-- Valid words and files are answered, unless a read, a write or memory failed. The contents of files that the command
+-- doesn't fetch need not be known.
 abbrev pub AnswersValid : List (List ℕ) → FilesView → FilesView → InputView → InputView → OutputView → OutputView → Status → Type 0
 AnswersValid words before after heard reported old new status =
     (disk : Disk) → KnowsDisk words before disk → IsValidCommand words disk → NothingFailed before after heard reported old new → TakesFew words heard reported
     → IsComplete status
 
--- The usage line is printed only for words that are no command, and for these always but where a write
--- or memory failed.
+-- The usage line is printed only for words that are no command, and for these always unless a write or memory failed.
 pub record IsUsageReport (words : List (List ℕ)) (status : Status) : Type 0 where
   pub only : status ≡ Usage → command_of words ≡ None
   pub always : command_of words ≡ None → (status ≡ Usage) ⊎ (status ≡ WriteFault) ⊎ (status ≡ Memory)

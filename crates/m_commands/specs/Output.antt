@@ -1,4 +1,4 @@
--- What is fetched and what is printed for these words, files and input.
+-- The fetched names and the printed text, for given words, files and input.
 use Rattle.std.specs.Prelude.{◌≡◌, ℕ, ℤ, List, [], ◌++◌, Some, None}
 use Rattle.std.specs.Option.{option_map_or}
 use Rattle.tax_print.specs.FaultLines.{usage_line, cycle_line, input_too_long_line, recursion_line}
@@ -26,12 +26,12 @@ use Rattle.m_commands.specs.Command.{command_of, plan_of}
 use Rattle.m_commands.specs.declared.command.Command.{Command}
 use Rattle.m_commands.specs.declared.work.Work.{Work}
 
--- The names that are fetched, in order, up to the first that is missing or past its limit.
+-- The fetched names, in order, up to the first that is missing or too long.
 abbrev pub fetches_of : List (List ℕ) → Disk → List (List ℕ)
 fetches_of words disk = option_map_or (λ command. names_fetched disk (plan_of command)) (command_of words) []
 
--- The text that is printed and the status, where nothing fails: the usage line for words that are no command,
--- the line by which the command's plan is refused, or what the command answers with what it gathered.
+-- The printed text and the status if nothing fails: the usage line for words that are no command, the error line of
+-- the command's plan, or the command's answer to what it gathered.
 pub data Output (words : List (List ℕ)) (disk : Disk) (typed : List ℕ) : List ℕ → Status → Type 0 where
   usage : command_of words ≡ None → Output words disk typed usage_line Usage
   refuses : {line : List ℕ} (command : Command) → command_of words ≡ Some command → end_of disk (plan_of command) ≡ refused line
@@ -40,8 +40,8 @@ pub data Output (words : List (List ℕ)) (disk : Disk) (typed : List ℕ) : Lis
       → end_of disk (plan_of command) ≡ gathered work
       → Replies work typed text status → Output words disk typed text status
 
--- Words and files for which a command has all that it wants: its files are there and keep their limits, its plan isn't
--- refused, and what it gathers has an answer.
+-- The words are a command that can be answered over these files: its files exist and are within their limits, its plan
+-- rejects nothing, and what it gathers has an answer.
 pub record IsValidCommand (words : List (List ℕ)) (disk : Disk) : Type 0 where
   pub command : Command
   pub is_command : command_of words ≡ Some command
@@ -49,9 +49,10 @@ pub record IsValidCommand (words : List (List ℕ)) (disk : Disk) : Type 0 where
   pub gathers : end_of disk (plan_of command) ≡ gathered work
   pub answer : HasAnswer work
 
--- Two outputs are one: they have the same text and the same status; or they refuse rule files that have several cycles, or a driver that has
--- several recursions, and show one of them each; or they are the code files of code that one source is compiled to, or what is found of one base and of
--- what its source is compiled to; or they are the replies to one input, and tell reasons of the values of one source's variables where they are asked for.
+-- Two outputs that count as one: they have the same text and status; or they reject rule files with several cycles, or
+-- a driver with several recursions, and show one of these each; or they are code files compiled from one source, or
+-- findings about one base and its compiled source; or they are the replies to one input, and may give different
+-- reasons for the values of one source's variables.
 pub data AreOneOutput : List ℕ → Status → List ℕ → Status → Type 0 where
   the_same : {text other : List ℕ} {status outcome : Status} → text ≡ other → status ≡ outcome → AreOneOutput text status other outcome
   both_cycles : (names others : List (List ℕ)) → AreOneOutput (cycle_line names) Refused (cycle_line others) Refused

@@ -1,2 +1,2 @@
--- What the contracts of inner functions speak of. The theorem of `m_tax` needs none of it.
+-- Definitions for the contracts of inner functions. The theorem of `m_tax` doesn't need them.
 pub mod Courses

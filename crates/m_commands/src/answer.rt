@@ -1,4 +1,4 @@
-//! What a command answers with what it has gathered, printed as it is made.
+//! The answer of a command to what it gathered, printed as it is made.
 ghost use Rattle.command_plans.specs.Views.{input_view, output_view};
 ghost use Rattle.m_commands.specs.Answer.{WorkKeepsLimits};
 ghost use Rattle.m_commands.specs.inner.Courses.{WorkIsAnswered};
@@ -14,7 +14,7 @@ use rule_answers::{check_source, lint_source};
 use std::alloc::Global;
 use std::thread::Threads;
 
-/// Answers what was gathered, and tells how the command ended.
+/// Answers what was gathered, and gives the status.
 pub fn answer<R: Threads + Sync, S: Source, K: Sink>(
     rt: &R,
     alloc: Global,

@@ -14,7 +14,8 @@ use std::alloc::{AllocError, Global};
 pub enum Command {
     /// Compiles the source, and prints the answer to the household of this name.
     Run(SourceNames, Name),
-    /// Compiles the source, and does the lines of the input in a session that begins with the household of this name.
+    /// Compiles the source, and executes the lines of the input in a session that starts with the household of this
+    /// name.
     Serve(SourceNames, Name),
     /// Compiles the source, and prints the answers to the rows of the table of this name.
     Batch(SourceNames, Name),
@@ -24,16 +25,16 @@ pub enum Command {
     Compile(SourceNames),
     /// Reads the code file of the first name, and prints its answer to the household of the second.
     Exec(Name, Name),
-    /// Makes the base of the rules that the list of the first name has, and prints whether the report of the third is a sound derivation over
-    /// the household of the second.
+    /// Makes the base of the rules of the list (the first name), and prints whether the report (the third) is a sound
+    /// derivation over the household (the second).
     Check(Name, Name, Name),
-    /// Compiles the source, and prints what is found of it.
+    /// Compiles the source, and prints the findings about it.
     Lint(SourceNames),
-    /// Compiles the source, and prints what the cases of the table of this name expect and aren't told.
+    /// Compiles the source, and prints the expectations of the table of this name that aren't met.
     Cases(SourceNames, Name),
 }
 
-/// The commands over a source and one more file.
+/// The forms of the commands over a source and one more file.
 #[derive(Clone, Copy)]
 pub enum Form {
     Run,
@@ -42,7 +43,7 @@ pub enum Form {
     Cases,
 }
 
-/// The command that the words are, if they are one. Its only error is running out of memory.
+/// The command of these words, or None. The only error is out of memory.
 pub fn command_of(alloc: Global, words: &[Word]) -> Result<Option<Command>, AllocError>
     ensures command { IfOk result (λ command. command ≡ command_of words.now) }
     ensures in_reach { IfOk result (λ command. IfSome command IsInReach) }
@@ -65,7 +66,7 @@ pub fn command_of(alloc: Global, words: &[Word]) -> Result<Option<Command>, Allo
     source_command(alloc, words)
 }
 
-// The command `large N` that the words are, if they are one.
+// The command `large N` of these words, or None.
 fn large_command(words: &[Word]) -> Option<Command>
     ensures command { result ≡ large_command words.now }
     ensures in_reach { IfSome result IsInReach }
@@ -80,7 +81,7 @@ fn large_command(words: &[Word]) -> Option<Command>
     Some(Command::Large(n))
 }
 
-// The number of a word of one to six digits that is one of `large N`.
+// The number of a word of one to six digits that `large N` accepts.
 fn large_number(word: &[u8]) -> Option<u32>
     ensures number { result ≡ large_number word.now }
     ensures in_reach { IfSome result (λ n. IsInReach (Command.Large n)) }
@@ -92,7 +93,7 @@ fn large_number(word: &[u8]) -> Option<u32>
     if 1 <= n && n <= LARGE { Some(n) } else { None }
 }
 
-// The command `exec` that the words are, if they are one. Its only error is running out of memory.
+// The command `exec` of these words, or None. The only error is out of memory.
 fn exec_command(alloc: Global, words: &[Word]) -> Result<Option<Command>, AllocError>
     ensures command { IfOk result (λ command. command ≡ exec_command words.now) }
     ensures in_reach { IfOk result (λ command. IfSome command IsInReach) }
@@ -110,7 +111,7 @@ fn exec_command(alloc: Global, words: &[Word]) -> Result<Option<Command>, AllocE
     Ok(Some(Command::Exec(code, household.copy(alloc)?)))
 }
 
-// The command `compile` that the words are, if they are one. Its only error is running out of memory.
+// The command `compile` of these words, or None. The only error is out of memory.
 fn compile_command(alloc: Global, words: &[Word]) -> Result<Option<Command>, AllocError>
     ensures command { IfOk result (λ command. command ≡ compile_command words.now) }
     ensures in_reach { IfOk result (λ command. IfSome command IsInReach) }
@@ -129,7 +130,7 @@ fn compile_command(alloc: Global, words: &[Word]) -> Result<Option<Command>, All
     Ok(Some(Command::Compile(names)))
 }
 
-// The command `check` that the words are, if they are one. Its only error is running out of memory.
+// The command `check` of these words, or None. The only error is out of memory.
 fn check_command(alloc: Global, words: &[Word]) -> Result<Option<Command>, AllocError>
     ensures command { IfOk result (λ command. command ≡ check_command words.now) }
     ensures in_reach { IfOk result (λ command. IfSome command IsInReach) }
@@ -149,7 +150,7 @@ fn check_command(alloc: Global, words: &[Word]) -> Result<Option<Command>, Alloc
     Ok(Some(Command::Check(list, household, report.copy(alloc)?)))
 }
 
-// The command `lint` that the words are, if they are one. Its only error is running out of memory.
+// The command `lint` of these words, or None. The only error is out of memory.
 fn lint_command(alloc: Global, words: &[Word]) -> Result<Option<Command>, AllocError>
     ensures command { IfOk result (λ command. command ≡ lint_command words.now) }
     ensures in_reach { IfOk result (λ command. IfSome command IsInReach) }
@@ -168,7 +169,7 @@ fn lint_command(alloc: Global, words: &[Word]) -> Result<Option<Command>, AllocE
     Ok(Some(Command::Lint(names)))
 }
 
-// The command over a source and one more file that the words are, if they are one. Its only error is running out of memory.
+// The command over a source and one more file of these words, or None. The only error is out of memory.
 fn source_command(alloc: Global, words: &[Word]) -> Result<Option<Command>, AllocError>
     ensures command { IfOk result (λ command. command ≡ source_command words.now) }
     ensures in_reach { IfOk result (λ command. IfSome command IsInReach) }
@@ -191,7 +192,7 @@ fn source_command(alloc: Global, words: &[Word]) -> Result<Option<Command>, Allo
     Ok(Some(of_form(form, names, behind)))
 }
 
-// The names of a source. Its only error is running out of memory.
+// The names of a source. The only error is out of memory.
 fn names_of(
     alloc: Global,
     list: &Word,
@@ -207,7 +208,7 @@ fn names_of(
     })
 }
 
-// The command of a word over a source and one more file.
+// The form of a command over a source and one more file, by its word.
 fn form_of(word: &[u8]) -> Option<Form>
     ensures { result ≡ form_of word.now }
 {
@@ -224,7 +225,7 @@ fn form_of(word: &[u8]) -> Option<Form>
     }
 }
 
-// The command of a form over a source and one more file.
+// The command of this form.
 fn of_form(form: Form, names: SourceNames, behind: Name) -> Command
     ensures command { result ≡ of_form form names behind }
     ensures in_reach { IsInReach result }

@@ -1,4 +1,4 @@
-//! The files of a command, gathered along its plan.
+//! Gathers the files of a command, following its plan.
 ghost use Rattle.std.specs.Prelude.{◌≡◌, IfOk, None, Some};
 ghost use Rattle.m_places.specs.SourceLimits.{SourceKeepsLimits};
 ghost use Rattle.command_plans.specs.Trips.{GoesAlong};
@@ -15,7 +15,7 @@ use m_places::{Name, Seq, Source};
 use m_ports::Files;
 use std::alloc::{AllocError, Global};
 
-/// Gathers the files of a command. What ends it before it has them is the error.
+/// Gathers the files of a command. The error is what ends the command before they are gathered.
 pub fn gather<F: Files>(alloc: Global, files: &mut F, command: &Command) -> Result<Work, Ending>
     requires { IsInReach command.now }
     ensures along { GoesAlong (plan_of command.now) (files_view F.known_files F.attempts F.taken files.old)
@@ -40,7 +40,7 @@ pub fn gather<F: Files>(alloc: Global, files: &mut F, command: &Command) -> Resu
     }
 }
 
-// Gathers a source alone.
+// Gathers only a source.
 fn gather_compile<F: Files>(
     alloc: Global,
     files: &mut F,
@@ -55,7 +55,7 @@ fn gather_compile<F: Files>(
     Ok(Work::Compile(source))
 }
 
-// Gathers a code file, and a household after it.
+// Gathers a code file, and then a household.
 fn gather_exec<F: Files>(
     alloc: Global,
     files: &mut F,
@@ -72,7 +72,7 @@ fn gather_exec<F: Files>(
     Ok(Work::Exec(code, rows))
 }
 
-// Gathers a source alone.
+// Gathers only a source.
 fn gather_lint<F: Files>(alloc: Global, files: &mut F, names: &SourceNames) -> Result<Work, Ending>
     ensures along { GoesAlong (lint_plan names.now) (files_view F.known_files F.attempts F.taken files.old)
         (files_view F.known_files F.attempts F.taken files.new) result }
@@ -83,7 +83,7 @@ fn gather_lint<F: Files>(alloc: Global, files: &mut F, names: &SourceNames) -> R
     Ok(Work::Lint(source))
 }
 
-// Gathers the rules of a list, and a household and a report after them.
+// Gathers the rules of a list, and then a household and a report.
 fn gather_check<F: Files>(
     alloc: Global,
     files: &mut F,
@@ -103,7 +103,7 @@ fn gather_check<F: Files>(
     Ok(Work::Check(source, rows, report))
 }
 
-// The names of a source of rules alone. Its only error is running out of memory.
+// The names of a source that has rules only. The only error is out of memory.
 fn rules_only(alloc: Global, list: &Name) -> Result<SourceNames, AllocError>
     ensures { IfOk result (λ names. names ≡ rules_only list.now) }
 {
@@ -114,7 +114,7 @@ fn rules_only(alloc: Global, list: &Name) -> Result<SourceNames, AllocError>
     })
 }
 
-// Gathers a source, and the one file after it.
+// Gathers a source, and then one more file.
 fn gather_work<F: Files>(
     alloc: Global,
     files: &mut F,
@@ -132,7 +132,7 @@ fn gather_work<F: Files>(
     Ok(work_of(form, source, bytes))
 }
 
-// What a command of a form has gathered.
+// The work of a command of this form.
 fn work_of(form: Form, source: Source, bytes: Seq<u8>) -> Work
     requires { SourceKeepsLimits source }
     ensures work { result ≡ work_of form source bytes }

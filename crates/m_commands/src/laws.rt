@@ -1,4 +1,4 @@
-//! What the commands have to do with each other.
+//! Laws that relate the commands to each other.
 ghost use Rattle.std.specs.Prelude.{◌≡◌, ℕ, List, Option};
 ghost use Rattle.command_plans.specs.declared.status.Status.{Status};
 ghost use Rattle.command_plans.specs.declared.status.Status.TheVariants.{Done};
@@ -18,16 +18,17 @@ ghost use Rattle.driver_core.specs.Inputs.{inputs_declared};
 ghost use Rattle.m_compile.specs.Sources.{IsValid};
 ghost use Rattle.rule_answers.specs.Lints.{LintReplies};
 
-/// By what `compile` writes of a source, `exec` answers each household as `run` does by the source: with the same texts and statuses, and
-/// no others. So it takes that code file, and has an answer where `run` has one.
+/// `exec` on the code file that `compile` writes for a source answers each household as `run` does on the source: the
+/// two can print the same texts with the same statuses. So `exec` accepts that code file, and has an answer where
+/// `run` has one.
 pub fn executed_as_run()
     ensures same { (source : Source) (code rows text : List ℕ) (status : Status) → CompileReplies source code Done →
         (ExecReplies code rows text status → RunReplies source rows text status) × (RunReplies source rows text status → ExecReplies code rows text status) }
     ensures answered { (source : Source) (code rows : List ℕ) → CompileReplies source code Done → RunHasAnswer source rows → ExecHasAnswer code rows }
 {}
 
-/// What `lint` answers of a valid source are the lines of findings that are true of its rules, and of what it tells households, whatever amounts of
-/// their inputs' types these have.
+/// What `lint` prints for a valid source are the lines of findings that are true of its rules and of its observations,
+/// for all households with amounts of the inputs' types.
 pub fn linted_truly()
     ensures { (source : Source) (text : List ℕ) (status : Status) (declared : Declared) (base : Base) (written : Option Core) (requests : List ℕ) →
         IsValid source declared base written requests → LintReplies source text status →

@@ -1,7 +1,11 @@
-//! The commands: the words of the command line, the order in which files are fetched, and what is answered.
+//! The commands of `m_tax`: the words of the command line, the order in which files are fetched, and the answers.
 //!
-//! `m_tax` is the one call that a program makes, and carries its theorem. It knows files, input and output only
-//! as the traits of `m_ports`.
+//! Uses command_plans for what all commands share, and the crates of answers. Knows nothing of files, input and output
+//! but the traits of `m_ports`.
+//!
+//! `m_tax` is the one call that a program makes, and carries its theorem. Its clauses follow from the `Course` of a
+//! call. In the proofs `Way` is how any work was answered, in seven constructors; `IsWorkOf` relates a command to its
+//! work.
 #![tactic(auto)]
 
 mod answer;

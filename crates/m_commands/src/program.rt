@@ -20,7 +20,7 @@ use std::alloc::Global;
 use std::thread::Threads;
 use tax_print::Fault;
 
-// Does the command that the words are.
+// Executes the command of these words.
 fn perform<R: Threads + Sync, F: Files, S: Source, K: Sink>(
     rt: &R,
     alloc: Global,
@@ -44,7 +44,7 @@ fn perform<R: Threads + Sync, F: Files, S: Source, K: Sink>(
     }
 }
 
-// Does a command: gathers its files, and answers them.
+// Executes a command: gathers its files, and answers them.
 fn act<R: Threads + Sync, F: Files, S: Source, K: Sink>(
     rt: &R,
     alloc: Global,
@@ -73,9 +73,9 @@ fn act<R: Threads + Sync, F: Files, S: Source, K: Sink>(
     }
 }
 
-/// Does the command that the words are: fetches its files, and prints its answer.
+/// Executes the command of these words: fetches its files, and prints its answer.
 ///
-/// The words are those after the program's name. All that is printed, faults too, goes to `out`.
+/// The words are those after the program's name. Everything is written to `out`, errors too.
 pub fn m_tax<R: Threads + Sync, F: Files, S: Source, K: Sink>(
     rt: &R,
     alloc: Global,
@@ -84,19 +84,20 @@ pub fn m_tax<R: Threads + Sync, F: Files, S: Source, K: Sink>(
     input: &mut S,
     out: &mut K,
 ) -> Status
-    // Where the files and the input are told, as far as the command reads them, and neither reading, writing nor memory failed, the
-    // text that is appended and the status are an `Output` of the words and the files.
+    // If the contents of the files and of the input are known, as far as the command reads them, and neither reading,
+    // writing nor memory failed, the appended text and the status are an `Output` of the words, the files and the
+    // input.
     ensures text { PrintsOutput words.now (files_view F.known_files F.attempts F.taken files.old) (input_view S.left S.faults input.old)
         (output_view K.written K.faults out.old) (output_view K.written K.faults out.new) result }
 
-    // What `compile` has written, where it did all of its work, is the code file of what its source is compiled to, in the form
-    // that `exec` takes.
+    // A `compile` that did all of its work has written the code file of its compiled source, in the form that `exec`
+    // accepts.
     ensures compiled { WritesCode words.now (files_view F.known_files F.attempts F.taken files.old)
         (output_view K.written K.faults out.old) (output_view K.written K.faults out.new) result }
 
-    // The attempts on files are those of `fetches_of`, at most the last of them failed, and a read fault
-    // is told only there or where a read of the input failed. All files together give at most one byte past
-    // the limit for each that was tried.
+    // The attempts to read files are those of `fetches_of`, and at most the last of them failed. A read fault is
+    // reported only then or after a failed read of the input. For each attempt at most one byte past the file's limit
+    // is read.
     ensures reading { ReadsInOrder words.now (files_view F.known_files F.attempts F.taken files.old) (files_view F.known_files F.attempts F.taken files.new)
         (input_view S.left S.faults input.old) (input_view S.left S.faults input.new)
         (output_view K.written K.faults out.old) (output_view K.written K.faults out.new) result }
@@ -105,44 +106,45 @@ pub fn m_tax<R: Threads + Sync, F: Files, S: Source, K: Sink>(
     ensures input_left { reads_input words.now ≡ false → S.left input.new ≡ S.left input.old }
     ensures input_faults { reads_input words.now ≡ false → S.faults input.new ≡ S.faults input.old }
 
-    // A session that did all of its work stands at the end of the input.
+    // A session that did all of its work has read the input to its end.
     ensures input_end { reads_input words.now ≡ true → result ≡ Status.Done → IsAtEnd (S.left input.new) }
 
-    // However a session ends, it has taken no more of the input than may be taken.
+    // However a session ends, it has read no more of the input than the limit.
     ensures input_taken { KeepsInputLimit (input_view S.left S.faults input.old) (input_view S.left S.faults input.new) result }
 
-    // A read of the input that failed is told, but where a write failed too.
+    // A failed read of the input is reported, unless a write failed too.
     ensures read_reported { S.faults input.old < S.faults input.new → (result ≡ Status.ReadFault) ⊎ (result ≡ Status.WriteFault) }
 
-    // A write fault is told only where one happened and always where one did, and what was written is
-    // the prefix of a text, or of the replies to all of an input.
+    // A write fault is reported exactly if a write failed, and what was written is a prefix of a whole text, or of the
+    // replies to a whole input.
     ensures write_fault { result ≡ Status.WriteFault → Rose (K.faults out.old) (K.faults out.new) }
     ensures write_reported { K.faults out.old < K.faults out.new → result ≡ Status.WriteFault }
     ensures writing { WritesFront words.now (files_view F.known_files F.attempts F.taken files.old) (files_view F.known_files F.attempts F.taken files.new)
         (input_view S.left S.faults input.old) (input_view S.left S.faults input.new)
         (output_view K.written K.faults out.old) (output_view K.written K.faults out.new) result }
 
-    // Without memory nothing was written, but by a command that writes in parts, which has written the prefix of an output. Nothing was
-    // taken from the input then.
+    // If memory ran out, nothing was written, except by a command that writes in parts, which has written a prefix of
+    // an output; and nothing was read from the input.
     ensures memory { result ≡ Status.Memory → writes_early words.now ≡ false → K.written out.new ≡ K.written out.old }
     ensures memory_front { StopsInFront words.now (files_view F.known_files F.attempts F.taken files.old)
         (output_view K.written K.faults out.old) (output_view K.written K.faults out.new) result }
     ensures memory_input { result ≡ Status.Memory → S.left input.new ≡ S.left input.old }
 
-    // What is valid is answered, unless a read, a write or memory failed, or as much was taken of the input as may be.
+    // Valid words and files are answered, unless a read, a write or memory failed, or the limit of the input was
+    // reached.
     ensures completeness { AnswersValid words.now (files_view F.known_files F.attempts F.taken files.old) (files_view F.known_files F.attempts F.taken files.new)
         (input_view S.left S.faults input.old) (input_view S.left S.faults input.new)
         (output_view K.written K.faults out.old) (output_view K.written K.faults out.new) result }
 
-    // The usage line is printed exactly for words that are no command.
+    // The usage line is printed only for words that are no command, and for these unless a write or memory failed.
     ensures usage { IsUsageReport words.now result }
 {
     perform(rt, alloc, words, files, input, out)
 }
 
-/// The same words, files and input have one output: one text and one status. Left open are which of several cycles or recursions
-/// an error shows; what a source is compiled to, from which `compile` has its code and `lint` its findings; and in which order the
-/// lines of a reason stand that a session tells. It holds of each command.
+/// The same words, files and input have one output: one text and one status. This leaves open which of several cycles
+/// or recursions an error shows; the code of a compiled source, on which the text of `compile` and the findings of
+/// `lint` depend; and the order of the lines of a reason that a session explains. The law holds for each command.
 pub fn one_output()
     ensures { (words : List (List ℕ)) (disk : Disk) (typed one other : List ℕ) (status outcome : Status) →
         Output words disk typed one status → Output words disk typed other outcome → AreOneOutput one status other outcome }

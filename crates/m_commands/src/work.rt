@@ -1,11 +1,11 @@
 use m_places::{Seq, Source};
 
-/// What a command has gathered, and is left to answer.
+/// What a command has gathered, and has to answer.
 #[derive(Drop)]
 pub enum Work {
     /// A run of this source on this household.
     Run(Source, Seq<u8>),
-    /// A session of this source that begins with this household.
+    /// A session of this source that starts with this household.
     Serve(Source, Seq<u8>),
     /// A batch of this source over this table.
     Batch(Source, Seq<u8>),

@@ -11,13 +11,13 @@ declaration k =
     joined (codes "R" ∷ decimal k ∷ codes " : saisie revenu classe = 0 alias C" ∷ decimal k ∷ codes " : \"r\" ;" ∷ new_line
     ∷ codes "T" ∷ decimal k ∷ codes " : calculee : \"t\" ;" ∷ new_line ∷ [])
 
--- the first n of these, in order
+-- the first n declarations, in order
 abbrev pub declarations : ℕ → List ℕ
 declarations zero = []
 declarations (suc k) = declarations k ++ declaration k
 
--- the rule with this number, of the sum k, which reads the sum j:
--- `regle 2 : application : iliad ;` and `T1 = max(0, R1 - 1000) + T0 ;`
+-- the rule with this number, of sum k, which reads sum j: `regle 2 : application : iliad ;` and `T1 = max(0, R1 -
+-- 1000) + T0 ;`
 abbrev pub rule : ℕ → ℕ → ℕ → List ℕ
 rule number k j =
     joined (codes "regle " ∷ decimal number ∷ codes " : application : iliad ;" ∷ new_line
@@ -28,12 +28,12 @@ abbrev pub rules : ℕ → List ℕ
 rules zero = []
 rules (suc j) = rule (j + 2) (suc j) j ++ rules j
 
--- the rule of the sum 0
+-- the rule of sum 0
 abbrev pub first_rule : List ℕ
 first_rule =
     joined (codes "regle 1 : application : iliad ;" ∷ new_line ∷ codes "T0 = max(0, R0 - 1000) ;" ∷ new_line ∷ [])
 
--- the error, and the verification that the sum k isn't negative
+-- the error, and the verification that sum k isn't negative
 abbrev pub check : ℕ → List ℕ
 check k =
     joined (codes "E1 : anomalie : \"E\" : \"1\" : \"0\" : \"negative\" ;" ∷ new_line

@@ -9,10 +9,10 @@ use m_places::{Name, Seq, Text};
 use m_text::append_pieces;
 use std::alloc::{AllocError, Global};
 
-/// The rule file `large.m` of `large N`, for the application `iliad`. Its only error is running out of memory.
+/// The rule file `large.m` of `large N`, for the application `iliad`. The only error is out of memory.
 ///
-/// Of 1 it has `R0 : saisie revenu classe = 0 alias C0 : "r" ;`, `T0 : calculee : "t" ;`, a rule for T0
-/// and a verification of it.
+/// For N = 1 it has `R0 : saisie revenu classe = 0 alias C0 : "r" ;`, `T0 : calculee : "t" ;`, a rule for T0 and a
+/// verification of it.
 pub fn large_base(alloc: Global, n: u32) -> Result<Text, AllocError>
     requires some { 1 ≤ n }
     requires few { n ≤ LARGE }
@@ -51,7 +51,7 @@ fn append_declarations(text: &mut Vec<u8>, n: u32) -> Result<(), AllocError>
     Ok(())
 }
 
-// The rules from this number down to 1.
+// Appends the rules of the sums from this one down to 1.
 fn append_rules(text: &mut Vec<u8>, last: u32) -> Result<(), AllocError>
     requires { last < LARGE }
     ensures { OnOk result (text.new.items ≡ text.old.items ++ rules last) }

@@ -8,9 +8,9 @@ use itoa::Buffer;
 use m_text::append_pieces;
 use std::alloc::{AllocError, Global};
 
-/// The household of `large N`: a row for each input of `large_base`. Its only error is running out of memory.
+/// The household of `large N`: a row for each input of `large_base`. The only error is out of memory.
 ///
-/// Of 3 it is `code,amount`, `C0,0`, `C1,997` and `C2,1994`.
+/// For N = 3: `code,amount`, `C0,0`, `C1,997` and `C2,1994`.
 pub fn large_household(alloc: Global, n: u32) -> Result<Vec<u8>, AllocError>
     requires some { 1 ≤ n }
     requires few { n ≤ LARGE }

@@ -1,7 +1,10 @@
-//! The rule base and the household of `large N`: N inputs and N sums, each of which reads the next, and
-//! a row for each input.
+//! The rule base and the household of `large N`: N inputs, N sums of which each reads the previous one, and a row for
+//! each input.
 //!
-//! This crate writes texts, and knows nothing of what they mean.
+//! Uses decimal numbers and byte texts alone. Knows nothing of what the texts mean: that they are valid is proved in
+//! large_validity.
+//!
+//! The rule of sum k has the number k + 1. Input k has the remainder of 997 k divided by 5000.
 #![tactic(auto)]
 
 mod base;

@@ -1,5 +1,8 @@
-//! The program: `main` alone, which hands the words, the real files, the real input and the real output to `m_tax` of
-//! `m_commands`. That call carries the program's theorem. It is made on a thread that has stack for the deepest terms, whatever the
+//! The program `m_tax`: `main`, which passes the words, the real files, the real input and the real output to `m_tax`
+//! of m_commands.
+//!
+//! Uses the adapters of m_ports to the system. Knows nothing of the commands: the call to `m_commands` carries the
+//! program's theorem. The call is made on a thread with a stack large enough for the deepest terms, whatever stack the
 //! system gives the first thread.
 #![tactic(auto)]
 
@@ -13,10 +16,10 @@ use std::process::ExitCode;
 use std::thread::{Builder, Promise};
 use std::{env, io};
 
-// The bytes of stack that the work may take. The deepest term of the formats takes under two megabytes.
+// The stack of the thread in bytes. The deepest term of the formats takes less than two megabytes.
 const STACK: usize = 16_777_216;
 
-// Nothing is promised of the status here: the contract of `m_tax` says what it is.
+// The thread promises nothing about the status: the contract of `m_tax` specifies it.
 #[derive(Drop)]
 struct AnyStatus;
 
@@ -24,8 +27,8 @@ impl Promise<u8> for AnyStatus {
     ghost kept_by = { λ _ _. ⊤ };
 }
 
-/// The words after the program's name. A command line that can't be read as text has none, and so is
-/// no command. The only error is running out of memory.
+/// The words after the program's name. A command line that can't be decoded as text has no words, and so is no
+/// command. The only error is out of memory.
 fn command_words<R: env::Env + AllocGlobal>(rt: &R) -> Result<Vec<Word>, AllocError> {
     let mut words = Vec::new(rt.alloc());
     match env::args(rt) {
@@ -59,7 +62,7 @@ fn main(rt: HostRuntime) -> ExitCode {
         .spawn_with(&rt, AnyStatus, work)
     {
         Ok(thread) => ExitCode::from(thread.join(&rt)),
-        // Where no thread can be made, the first one does the work.
+        // If no thread can be made, the first one does the work.
         Err(refused) => ExitCode::from((refused.value)()),
     }
 }

@@ -1,4 +1,4 @@
--- The literals of rules without loops: those that were spelled, and the numbers that letters and `X` stand for.
+-- The literals of rules without loops: the literals of the text, and the numbers that replace letters and `X`.
 use Rattle.std.proofs.Common.{◌≡◌, ℕ, zero, suc, ◌+◌, ◌*◌, ◌<◌, ◌≤◌, Bool, true, false, cond, nat_le, List, [], ◌∷◌, length, map, filter, Option, None, Some}
 use Rattle.std.proofs.Common.{pos, refl, leb-true, arith}
 use Rattle.std.specs.Prelude.{IfSome, IsTrue}

@@ -32,7 +32,7 @@ use Rattle.m_compile.proofs.words.Items.{all_append}
 use Rattle.report_laws.proofs.Operators.{opposite_amount}
 use Rattle.report_laws.proofs.Literals.{SaysAmounts, HasAmount, HaveAmount, lexed_amounts, left_amounts, Keeps, first_left, term_keeps}
 
--- a constant's amount is one
+-- a constant's amount is within the bounds
 abbrev pub IsOfAmount : Role → Type 0
 IsOfAmount (Input code) = Unit {0}
 IsOfAmount (Computed size) = Unit {0}
@@ -41,7 +41,7 @@ IsOfAmount (Constant z) = IsAmount z
 abbrev pub FormulaSays : Formula → Type 0
 FormulaSays f = SaysAmounts f.term
 
--- of an item: its constant, and the terms of its formulas
+-- an item's constant and the literals of its formulas are amounts
 abbrev pub ItemSays : Item → Type 0
 ItemSays (Variable v) = IsOfAmount v.role
 ItemSays (Rule r) = AllByRecursion FormulaSays r.formulas

@@ -81,14 +81,14 @@ lexed_amounts l = lexed_each HasAmount spelled_amount l
 pub left_amounts : {ts rest : List Token} → Behind rest ts → HaveAmount ts → HaveAmount rest
 left_amounts b a = behind_each HasAmount b a
 
--- What is spelled by tokens whose numbers are amounts has amounts, and so have the tokens that are left.
+-- A form spelled by tokens whose numbers are amounts has amounts, and so have the remaining tokens.
 abbrev pub Keeps : {A : Type 0} → (A → Type 0) → (A → List Token → List Token → Type 0) → Type 0
 Keeps {A} Good R = (x : A) (ts rest : List Token) → R x ts rest → HaveAmount ts → Good x × HaveAmount rest
 
 pub first_left : {B : Type 0} {table : Token → Option B} {b : B} {ts rest : List Token} → First table b ts rest → HaveAmount ts → HaveAmount rest
 first_left (first e) a = a.1
 
--- ---- what stands any number of times
+-- ---- repetitions
 
 chain_keeps : {A B X : Type 0} (opens : Token → Option B) (made : B → A → X) (R : A → List Token → List Token → Type 0) (Good : A → Type 0) (Fine : X → Type 0)
     → Keeps Good R → ((b : B) (x : A) → Good x → Fine (made b x))

@@ -1,4 +1,4 @@
--- The printed name of a cell names it.
+-- The printed name of a cell resolves to it.
 use Rattle.std.proofs.Common.{◌≡◌, ℕ, zero, suc, ◌+◌, ◌-◌, ◌==◌, ◌<◌, ◌≤◌, ◌⊎◌, true, false, cond, ◌||◌, nat_lt, nat_le, List, [], ◌∷◌, ◌++◌, length, get_or}
 use Rattle.std.proofs.Common.{replicate, decimal, Option, Some, None, slice_get, refl, sym, ap, ◌∙◌, subst, inl, inr, add-one, ne_eqb, eq-eqb, lt-ltb, le-leb}
 use Rattle.std.proofs.Common.{length-append, arith}
@@ -111,7 +111,8 @@ variable_back declared i v d e = ap (option_and_then (slice_get declared.variabl
 
 -- ---- the variable of a cell
 
--- A cell, counted from the first cell of these variables, is one of this variable's, which has this number where the first has `number`.
+-- A cell, counted from the first cell of these variables, belongs to the variable with this number, where the first
+-- variable has `number`.
 record IsOwned (vs : List Variable) (number first cell : ℕ) : Type 0 where
   pub owner : Variable
   pub number_on : number ≤ get_or (owners_from number vs) cell 0
@@ -167,7 +168,7 @@ owned (v ∷ items) first number cell h =
 
 -- ---- the name of a cell of a variable
 
--- what is asked of a variable: its name has no bracket, and as a table it has few cells
+-- the conditions on a variable: its name has no bracket, and a table has few cells
 abbrev pub IsNameable : VariableItem → Type 0
 IsNameable v = AllByRecursion IsNoBracket v.name × IfSome (variable_size v) (λ size. size ≤ TABLE_CELLS)
 
@@ -198,7 +199,7 @@ at_number P [] i v a e = absurd (cc)
 at_number P (w ∷ vs) zero v a e = let s : w ≡ v = cc in subst P s a.0
 at_number P (w ∷ vs) (suc i) v a e = at_number P vs i v a.1 e
 
--- The printed name of each cell names it, where names of variables are distinct.
+-- The printed name of each cell resolves to it, if the names of variables are distinct.
 pub cell_back : (declared : Declared) (c : ℕ) → IsPlaced declared → AreDistinct (names_of declared.variables)
     → AllByRecursion (λ (v : Variable). IsNameable v.item) declared.variables
     → c < length (owners_from 0 declared.variables) → request_cell declared (cell_name declared c) ≡ Some c
@@ -216,7 +217,7 @@ cell_back declared c placed distinct good low =
     ap (λ w. request_cell declared (option_map_or (printed_cell c) w [])) at
     ∙ cell_of_text declared v (variable_size v.item) c (variable_back declared number v distinct at) refl is.0 is.1 (omega (arith, b)) (omega (arith, e))
 
--- ---- a cell that is named
+-- ---- the cell of a name
 
 at_variable : (declared : Declared) (i : ℕ) (index : Option (List ℕ)) (o : Option Variable) → IsPlaced declared → slice_get declared.variables i ≡ o
     → IfSome (option_and_then (λ (v : Variable). cell_by index (variable_size v.item) v.first_cell) o) (λ c. c < length (owners_from 0 declared.variables))
@@ -229,7 +230,7 @@ at_index : (declared : Declared) (index : Option (List ℕ)) (n : Option ℕ) �
 at_index declared index None p = tt
 at_index declared index (Some i) p = at_variable declared i index (slice_get declared.variables i) p refl
 
--- what a name names is a cell
+-- a name resolves to a cell
 pub requested_below : (declared : Declared) (name : List ℕ) (c : ℕ) → IsPlaced declared → request_cell declared name ≡ Some c
     → c < length (owners_from 0 declared.variables)
 requested_below declared name c p e =

@@ -1,4 +1,5 @@
--- What operators, terms and cells have for values: where literals and what is given are values of amounts, so are all.
+-- The values of operators, terms and cells: if literals and given values are within the bounds of amounts, so are all
+-- values.
 use Rattle.std.proofs.Common.{◌≡◌, ℕ, zero, suc, ◌+◌, ◌==◌, Bool, true, false, not, cond, nat_lt, nat_le, List, [], ◌∷◌, length, get_or, Option, None, Some, Ok}
 use Rattle.std.proofs.Common.{Err, ℤ, pos, negsuc, neg_ℤ, unsigned_abs, refl, ap, arith}
 use Rattle.std.specs.Prelude.{IfSome}
@@ -106,7 +107,7 @@ abbrev mutual
   StepsHaveAmounts end = Unit {0}
   StepsHaveAmounts (step op operand rest) = HasAmounts operand × StepsHaveAmounts rest
 
--- each cell has a value of amounts
+-- each cell has a value within the bounds of amounts
 abbrev pub AreValues : Environment → Type 0
 AreValues values = (c : ℕ) → IsValue (values c)
 
@@ -176,6 +177,6 @@ cell_value_in base given d g (suc turns) c =
     by_definition (value_in base given turns) (λ x. cell_value_in base given d g turns x) (definition_of base c) (given c) (among_amounts base.definitions c d)
     (g c)
 
--- The value of each cell is one of amounts, where literals and what is given are.
+-- The value of each cell is within the bounds of amounts, if literals and given values are.
 pub cell_value : (base : Base) (given : Environment) → AreOfAmounts base.definitions → AreValues given → (c : ℕ) → IsValue (value_of base given c)
 cell_value base given d g c = cell_value_in base given d g (length base.definitions + 1) c

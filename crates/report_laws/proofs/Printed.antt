@@ -1,4 +1,4 @@
--- What is printed of lines reads back as these lines.
+-- Printed lines parse to these lines.
 use Rattle.std.proofs.Common.{◌≡◌, ℕ, ◌+◌, ◌==◌, Bool, true, false, not, cond, ◌&&◌, true≢false, List, [], ◌∷◌, ◌++◌, Option, Some, ℤ, Result, Ok, Err, codes}
 use Rattle.std.proofs.Common.{refl, sym, ap, ◌∙◌, subst, append_assoc, append-nil, ne_eqb, arith}
 use Rattle.std.specs.Prelude.{IsTrue}
@@ -27,7 +27,7 @@ use Rattle.why_report.specs.Reports.{parsed_report}
 use Rattle.why_session.specs.Explains.{report_lines_of}
 use Rattle.report_laws.specs.Readable.{IsInside, CanBeRead}
 
--- ---- bytes that end no line
+-- ---- bytes other than a line feed
 
 abbrev GoesOn : ℕ → Type 0
 GoesOn b = b ≡ 10 → ⊥
@@ -35,7 +35,7 @@ GoesOn b = b ≡ 10 → ⊥
 abbrev goes_on : ℕ → Bool
 goes_on b = not (b == 10)
 
--- of a text that is written out
+-- the bytes of a literal text
 word_goes_on : (text : List ℕ) → list_all goes_on text ≡ true → AllByRecursion GoesOn text
 word_goes_on [] h = tt
 word_goes_on (b ∷ text) h =
@@ -64,7 +64,7 @@ amount_goes_on : (text : List ℕ) (z : ℤ) → SpellsAmount text z → AllByRe
 amount_goes_on text z (plain n s e) = number_goes_on text n s
 amount_goes_on text z (below_zero number n et s e) = subst (AllByRecursion GoesOn) (sym et) ((word_goes_on (minus ∷ []) refl).0, number_goes_on number n s)
 
--- ---- what stands after a name and a space
+-- ---- the value after a name and a space
 
 abbrev stated_text : Value → List ℕ
 stated_text Undef = codes "undefined"
@@ -82,7 +82,7 @@ stated_back Undef h = refl
 stated_back (Num z) h = ap amount_value (is_read z h)
 stated_back Over h = refl
 
--- what a line has before its end
+-- a line before its line feed
 abbrev body : List ℕ → Value → List ℕ
 body name v = name ++ 32 ∷ stated_text v
 
@@ -133,7 +133,7 @@ no_end name text (next ∷ lines) = refl
 
 -- ---- all lines
 
--- a text after the lines that says no more
+-- a text after the lines that adds none
 abbrev SaysNoMore : Declared → List ℕ → Type 0
 SaysNoMore declared after = (number : ℕ) (before : List ReportLine) → parsed_lines declared number before (exact_lines_of after) ≡ Ok before
 

@@ -1,4 +1,4 @@
--- The lines of a reason can be read, and what is told of them is sound.
+-- The lines of a reason can be read, and their explanation is sound.
 use Rattle.std.proofs.Common.{◌≡◌, ℕ, ◌<◌, ℤ, List, [], ◌∷◌, length, codes, Some, Ok, sym, ap, ◌∙◌, subst}
 use Rattle.std.specs.List.{AllByRecursion}
 use Rattle.std.specs.Option.{option_map_or}
@@ -40,7 +40,7 @@ needed_below base c [] valid low h = tt
 needed_below base c (d ∷ []) valid low h = (subst (λ n. n < base.cells) (sym h) low, tt)
 needed_below base c (d ∷ x ∷ later) valid low h = (Reads-within base h.0.0 d valid h.0.2, needed_below base c (x ∷ later) valid low h.1)
 
--- ---- its lines
+-- ---- the lines of a reason
 
 lines_readable : (declared : Declared) (base : Base) (given : Environment) → IsOfRules declared base → ((c : ℕ) → IsValue (value_of base given c))
     → (lines : List ReportLine)
@@ -62,7 +62,7 @@ reason_readable source declared base values c lines rules amounts low reason =
     (needed_below base c (reported_cells lines) is.made.valid low reason.needed)
     (recursion_from_All (λ line. line.value ≡ value_of base given line.cell) lines (sound-values base given lines reason.sound))
 
--- ---- what is told
+-- ---- the explanation
 
 observation_by : (source : Source) (explains : Explaining) (is : IsExplained source explains) (rows name : List ℕ) (pairs : List (ℕ × ℤ)) (c : ℕ)
     → household_of (inputs_declared is.declared) rows ≡ Ok pairs → request_cell is.declared name ≡ Some c

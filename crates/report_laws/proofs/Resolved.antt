@@ -1,4 +1,4 @@
--- The literals of the base: those of the rules without loops.
+-- The literals of the base are those of the rules without loops.
 use Rattle.std.proofs.Common.{◌≡◌, ℕ, Bool, true, false, List, [], ◌∷◌, ◌++◌, Result, Ok, subst}
 use Rattle.std.specs.List.{AllByRecursion}
 use Rattle.m_fixed.specs.declared.operator.Op.TheVariants.{Or}
@@ -127,7 +127,7 @@ definitions_have d before (x ∷ all) made a h e =
 
 -- ---- the base
 
--- What is known of a base that rules without loops are.
+-- Properties of a base that is the resolved rules without loops.
 pub record IsMade (base : Base) : Type 0 where
   pub valid : IsValidBase base
   pub amounts : AreOfAmounts base.definitions

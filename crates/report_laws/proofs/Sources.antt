@@ -1,4 +1,4 @@
--- What is known of what a source declares, and of the base of its rules.
+-- Properties of a source's declarations, and of the base of its rules.
 use Rattle.std.proofs.Common.{◌≡◌, ◌≢◌, ℕ, ◌<◌, List, [], ◌∷◌, ◌++◌, length, codes, decimal, Some, ◌≤◌, ap, sym, subst, inl, inr, arith}
 use Rattle.std.specs.Prelude.{IfSome}
 use Rattle.std.specs.List.{AllByRecursion}
@@ -77,7 +77,8 @@ few_cells (v ∷ vs) h = (h.0.1, few_cells vs h.1)
 
 -- ---- the whole
 
--- What is known of a source's declarations and base: printed names of cells name them and have plain bytes, and the literals and constants are amounts.
+-- A source's declarations and base: printed names of cells resolve to them and have plain bytes, and the literals and
+-- constants are amounts.
 pub record IsOfRules (declared : Declared) (base : Base) : Type 0 where
   pub named : (c : ℕ) → c < base.cells → request_cell declared (cell_name declared c) ≡ Some c
   pub inside : (c : ℕ) → c < base.cells → AllByRecursion IsInside (cell_name declared c)

@@ -1,4 +1,4 @@
--- What cells begin with has values of amounts, where constants and the values of inputs are such.
+-- The start values of cells are within the bounds of amounts, if constants and the values of inputs are.
 use Rattle.std.proofs.Common.{◌≡◌, ℕ, ◌+◌, ◌==◌, Bool, true, false, cond, zero, suc, List, [], ◌∷◌, map, replicate, Ok, ℤ}
 use Rattle.std.specs.List.{AllByRecursion, AllZip, range_with_len}
 use Rattle.m_fixed.specs.declared.amount.Value.{Value}

@@ -1,4 +1,4 @@
--- Lines of a derivation that can be read as they are printed.
+-- Lines of a derivation whose printed text can be read.
 use Rattle.std.specs.Prelude.{◌≡◌, ◌≢◌, ℕ, Some}
 use Rattle.std.specs.List.{AllByRecursion}
 use Rattle.m_fixed.specs.Laws.{IsValue}
@@ -11,8 +11,9 @@ use Rattle.why_report.specs.declared.line.ReportLine.{ReportLine}
 abbrev pub IsInside : ℕ → Type 0
 IsInside b = (b ≢ space) × (b ≢ line_feed)
 
--- A line can be read as it is printed: the printed name of its cell names this cell and has neither spaces nor ends of lines, and its value is undefined,
--- over, or within the bounds of amounts. A line of a cell that isn't declared can't, since no name names it.
+-- The printed text of a line can be read: the printed name of its cell resolves to this cell and has neither spaces
+-- nor line feeds, and its value is undefined, over, or within the bounds of amounts. A line of an undeclared cell
+-- can't be read, since no name resolves to it.
 pub record CanBeRead (declared : Declared) (line : ReportLine) : Type 0 where
   pub named : request_cell declared (cell_name declared line.cell) ≡ Some line.cell
   pub inside : AllByRecursion IsInside (cell_name declared line.cell)

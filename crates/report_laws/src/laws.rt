@@ -1,4 +1,5 @@
-//! Laws of reports, as sessions tell them and checkers read them. Each function does nothing: its contract is the law.
+//! Laws of reports, as sessions print them and `check` reads them. Each function does nothing: its contract is the
+//! law.
 
 ghost use Rattle.std.specs.Prelude.{◌≡◌, ◌<◌, ℕ, ℤ, List, length, Some, Ok};
 ghost use Rattle.std.specs.List.{AllByRecursion};
@@ -22,7 +23,8 @@ ghost use Rattle.rule_answers.specs.Checks.{CheckReplies, sound_line};
 ghost use Rattle.command_answers.specs.Explained.{IsExplained};
 ghost use Rattle.report_laws.specs.Readable.{CanBeRead};
 
-/// What is printed of lines reads back as these lines, where each can be read; so does the same with the line `.` after it, as a session tells it.
+/// Printed lines parse to these lines, if each can be read; so does the text of a session, which has the line `.`
+/// after them.
 pub fn printed_reports_read_back()
     ensures printed { (declared : Declared) (lines : List ReportLine) → AllByRecursion (CanBeRead declared) lines
         → parsed_report declared (report_text declared lines) ≡ Ok lines }
@@ -30,21 +32,22 @@ pub fn printed_reports_read_back()
         → parsed_report declared (report_lines_of declared lines) ≡ Ok lines }
 {}
 
-/// The printed name of each cell of a source's rules names this cell. So no two cells have one printed name.
+/// The printed name of each cell of a source's rules resolves to this cell. So the printed names of cells are
+/// distinct.
 pub fn cells_are_named()
     ensures { (source : Source) (declared : Declared) (base : Base) (c : ℕ) → HasRules source declared base → c < base.cells
         → request_cell declared (cell_name declared c) ≡ Some c }
 {}
 
-/// The lines of a reason by a source's rules can be read, where the inputs are undefined or have amounts.
+/// The lines of a reason by a source's rules can be read, if the inputs are undefined or have amounts.
 pub fn reasons_can_be_read()
     ensures { (source : Source) (declared : Declared) (base : Base) (values : List Value) (c : ℕ) (lines : List ReportLine)
         → HasRules source declared base → AllByRecursion IsValue values → c < base.cells → IsReasonOf base (environment (start_of declared values)) c lines
         → AllByRecursion (CanBeRead declared) lines }
 {}
 
-/// What a session tells of a cell's name is sound: where the inputs have the values that a household gives them, a check of what is told, by the same rules
-/// and this household, answers `sound` with status 0.
+/// A session's explanation of a cell's name is sound: if the inputs have the values that a household gives them, a
+/// check of the explanation, with the same rules and household, prints `sound` with status 0.
 pub fn printed_reasons_are_sound()
     ensures { (source : Source) (explains : Explaining) (declared : Declared) (base : Base) (rows name : List ℕ) (pairs : List (ℕ × ℤ))
         (c : ℕ) → IsExplained source explains → HasRules source declared base → household_of (inputs_declared declared) rows ≡ Ok pairs

@@ -1,6 +1,8 @@
-//! A session's reply to `why` reads back as the lines it was made of, and `check` accepts it with the same rules and household.
+//! A session's reply to `why` parses to the lines it was printed from, and `check` accepts it with the same rules and
+//! household.
 //!
-//! This crate has no code: what it proves are the contracts of laws.
+//! Uses the definitions of rules, reports, sessions and checks, and has no code: it proves the contracts of laws.
+//! Knows nothing of programs and how they are run.
 #![tactic(auto)]
 
 mod laws;

@@ -1,12 +1,15 @@
-//! The worked rows: what the programs print for these words, files and input.
+//! The program of the worked rows: it checks what `m_tax` and `m_survey` print for given words, files and input.
 //!
-//! The rows whose names begin with `survey_` are those of `m_survey`, and all others are those of `m_tax`.
+//! Uses the two programs' calls over files in memory, and worked_rows for the rows. Knows nothing of what the commands
+//! mean.
 //!
-//! A row is a folder of `rows/` in `data/`, as worked_rows says; those of the files that it lacks are the ones of `shared/`. Rows that differ are printed, and
-//! at the end how many did not.
+//! Rows whose names begin with `survey_` are rows of `m_survey`, all others are rows of `m_tax`.
 //!
-//! A run has the row's text, status and `tried` whatever befalls it; but where a write fails before the end of the text, what comes before is
-//! written, and the status is 4.
+//! A row is a folder of `rows/` in `data/`, as worked_rows specifies; files that it doesn't have are taken from
+//! `shared/`. Rows that differ are printed, and at the end the numbers of rows that passed and failed.
+//!
+//! Each run must have the row's text, status and `tried`, also with an injected failure; only if a write fails before
+//! the end of the text, the text before it is written, and the status is 4.
 #![tactic(auto)]
 
 use m_commands::m_tax;
@@ -18,7 +21,7 @@ use std::thread::Threads;
 use survey_commands::m_survey;
 use worked_rows::{Mishap, Mishaps, Row, read_row, row_names};
 
-/// Does a row that this befalls. Answers what is seen of it, as it is wanted.
+/// Runs a row with this failure. Gives the observation in the form of the expected one.
 fn run<R: Threads + Sync>(
     rt: &R,
     alloc: Global,
@@ -41,7 +44,7 @@ fn run<R: Threads + Sync>(
     row.seen(alloc, &out, status.number(), &files)
 }
 
-/// Does a row once, and prints it where it differs. Answers whether it did not.
+/// Runs a row once, and prints the observation if it differs. Gives whether the row passed.
 fn run_holds<R: Threads + Sync + Print + AllocGlobal>(
     rt: &R,
     name: &str,
@@ -60,7 +63,7 @@ fn run_holds<R: Threads + Sync + Print + AllocGlobal>(
     Ok(false)
 }
 
-/// Does a row for each number of a line of its mishaps.
+/// Runs a row for each number of a line of its `mishaps`.
 fn line_holds<R: Threads + Sync + Print + AllocGlobal>(
     rt: &R,
     name: &str,
@@ -79,7 +82,7 @@ fn line_holds<R: Threads + Sync + Print + AllocGlobal>(
     Ok(true)
 }
 
-/// Does a row for each line of its mishaps.
+/// Runs a row for each line of its `mishaps`.
 fn row_holds<R: Threads + Sync + Print + AllocGlobal>(
     rt: &R,
     name: &str,
@@ -93,7 +96,7 @@ fn row_holds<R: Threads + Sync + Print + AllocGlobal>(
     Ok(true)
 }
 
-/// Does the row of this name.
+/// Runs the row of this name.
 fn is_done<R: Threads + Sync + Files + Print + AllocGlobal + Clone + Drop>(
     rt: &R,
     name: &str,

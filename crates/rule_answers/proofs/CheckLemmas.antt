@@ -1,4 +1,4 @@
--- What a check answers, from what was told.
+-- The answer of a check, from what was printed.
 use Rattle.std.proofs.Common.{◌≡◌, ◌≤◌, ◌<◌, ℕ, List, length, Option, None, Some, Ok, Err, ap, ◌∙◌, subst, inl, inr, arith}
 use Rattle.std.specs.List.{All}
 use Rattle.std.specs.Prelude.{IfSome}
@@ -89,7 +89,7 @@ pub report_answered : (declared : Declared) (base : Base) (given : Environment) 
 report_answered declared base given report lines old new status stated a =
     answered_as (LinesReplies base given lines) (SaidReplies declared base given report) old new status (λ text own replied. reported lines stated replied) a
 
--- what is found of lines was told
+-- the result over the lines was printed
 pub found_answered : (base : Base) (given : Environment) (lines : List ReportLine) (found : Option ℕ) (old new : OutputView) (status : Status)
     → IsFindingOf base given lines found
     → Prints (found_text found) (found_status found) old new status → IsAnswered (LinesReplies base given lines) old new status

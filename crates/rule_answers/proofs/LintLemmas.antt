@@ -1,4 +1,4 @@
--- What a lint answers, from what was told.
+-- The answer of a lint, from what was printed.
 use Rattle.std.proofs.Common.{◌≡◌, ℕ, List, length, map, take, Some, sym, ap, ◌∙◌, subst, inl, inr}
 use Rattle.m_places.specs.declared.source.Source.{Source}
 use Rattle.m_symbols.specs.Declarations.{Declared, inputs_from}

@@ -1,4 +1,4 @@
--- Errors of sources and reports that were told.
+-- Errors of sources and reports that were reported.
 use Rattle.std.proofs.Common.{◌≡◌, Some, refl, ap}
 use Rattle.std.specs.Prelude.{◌≢◌}
 use Rattle.m_places.specs.declared.source.Source.{Source}
@@ -14,14 +14,14 @@ use Rattle.rule_answers.specs.Checks.{report_fault_line}
 use Rattle.code_answers.specs.inner.Refusals.{ReportsLine}
 use Rattle.code_answers.proofs.Refusals.{ReportsRefusal, reported_either}
 
--- a source was refused by a fault
+-- a source was rejected by a fault
 pub fault_reported : (s : Source) (fault : SourceFault) (old new : OutputView) (status : Status) → (fault ≢ source.Memory → IsSourceFault s fault)
     → ReportsLine (source_line s.texts fault) old new status → ReportsRefusal (λ line. IsSourceFault s fault × (source_line s.texts fault ≡ Some line)) old new
     status
 fault_reported s fault old new status h reported = reported_either (source_line s.texts fault) (source_line s.texts fault) old new status refl h
     (λ m. ap (source_line s.texts) m) reported
 
--- the rules of a source were refused by a fault
+-- the rules of a source were rejected by a fault
 pub base_reported : (s : Source) (fault : SourceFault) (old new : OutputView) (status : Status)
     → (fault ≢ source.Memory → IsBaseFault s.texts s.application fault)
     → ReportsLine (source_line s.texts fault) old new status
@@ -29,7 +29,7 @@ pub base_reported : (s : Source) (fault : SourceFault) (old new : OutputView) (s
 base_reported s fault old new status h reported = reported_either (source_line s.texts fault) (source_line s.texts fault) old new status refl h
     (λ m. ap (source_line s.texts) m) reported
 
--- a report was refused by a fault
+-- a report was rejected by a fault
 pub report_reported : {IsFault : Type 0} (fault : ReportFault) (old new : OutputView) (status : Status) → (fault ≢ report.Memory → IsFault)
     → ReportsLine (report_fault_line fault) old new status → ReportsRefusal (λ line. IsFault × (report_fault_line fault ≡ Some line)) old new status
 report_reported fault old new status h reported = reported_either (report_fault_line fault) (report_fault_line fault) old new status refl h

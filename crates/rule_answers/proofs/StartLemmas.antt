@@ -1,4 +1,4 @@
--- What the cells of variables begin with, variable by variable.
+-- The start values of cells, variable by variable.
 use Rattle.std.proofs.Common.{◌≡◌, ℕ, ◌+◌, ◌≤◌, List, ◌∷◌, ◌++◌, length, drop, replicate, Some, sym, ap, ◌∙◌, append_assoc, append-nil, add-one, arith}
 use Rattle.std.specs.Prelude.{slice_get}
 use Rattle.std.proofs.lemmas.List.{drop_all}
@@ -9,7 +9,7 @@ use Rattle.m_symbols.specs.declared.variable.Variable.{Variable}
 use Rattle.driver_core.specs.Answers.{first_value, next_input, start_from}
 use Rattle.mpp_inline.proofs.BeginLemmas.{drop-get}
 
--- the cells of one variable more
+-- the cells of one more variable
 pub start_next : (inputs env more whole : List Value) (vs : List Variable) (next behind i : ℕ) (v : Variable) (value : Value) → slice_get vs i ≡ Some v
     → value ≡ first_value inputs next v.item.role
     → behind ≡ next_input next v.item.role → more ≡ env ++ replicate v.cells value → env ++ start_from inputs next (drop i vs) ≡ whole
@@ -27,7 +27,7 @@ next_few n (Input code) = omega arith
 next_few n (Computed size) = omega arith
 next_few n (Constant amount) = omega arith
 
--- and of no more
+-- no variables are left
 pub start_end : (inputs env whole : List Value) (vs : List Variable) (next i : ℕ) → length vs ≤ i → env ++ start_from inputs next (drop i vs) ≡ whole
     → env ≡ whole
 start_end inputs env whole vs next i all so_far = sym (append-nil env) ∙ ap (λ l. env ++ start_from inputs next l) (sym (drop_all i vs all)) ∙ so_far

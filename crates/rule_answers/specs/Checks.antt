@@ -1,4 +1,4 @@
--- What `check` answers.
+-- The answer of `check`.
 use Rattle.std.specs.Prelude.{◌≡◌, ℕ, ◌+◌, ℤ, List, [], ◌∷◌, length, codes, Option, None, Some, Ok, Err}
 use Rattle.m_text.specs.Pieces.{joined, new_line}
 use Rattle.tax_print.specs.FaultLines.{report_line}
@@ -24,7 +24,8 @@ use Rattle.command_plans.specs.declared.status.Status.{Status}
 use Rattle.command_plans.specs.declared.status.Status.TheVariants.{Done, Refused}
 use Rattle.code_answers.specs.Households.{household_fault_line}
 
--- The line of a fault of a report; running out of memory has none. A second line that is none of a report's has `refused report line 2: bad line`.
+-- The line of a fault of a report; none for out of memory. A malformed second line has `refused report line 2: bad
+-- line`.
 abbrev pub report_fault_line : ReportFault → Option (List ℕ)
 report_fault_line (BadLine number) = Some (report_line number words.BadLine)
 report_fault_line Memory = None
@@ -33,12 +34,13 @@ report_fault_line Memory = None
 abbrev pub sound_line : List ℕ
 sound_line = joined (codes "sound" ∷ new_line ∷ [])
 
--- what each cell begins with, by what is declared and the pairs of a household
+-- the value that each cell starts with, given the declarations and the pairs of a household
 abbrev pub given_by : Declared → List (ℕ × ℤ) → Environment
 given_by declared pairs = environment (start_of declared (values_of pairs (length (inputs_declared declared))))
 
--- What is answered to the household and the report of these bytes, over what is declared and a base: the line of the first fault of the household or of
--- the report; or that of its first line that isn't sound, by its number from 1; or that it is sound.
+-- The answer to the household and the report of these bytes, over declarations and a base: the line of the first fault
+-- of the household or of the report; or the number, from 1, of the report's first line that isn't sound; or that the
+-- report is sound.
 pub data ReportReplies (declared : Declared) (base : Base) (rows report : List ℕ) : List ℕ → Status → Type 0 where
   household_is_refused : {line : List ℕ} (fault : HouseholdFault) → household_of (inputs_declared declared) rows ≡ Err fault
       → household_fault_line fault ≡ Some line
@@ -51,8 +53,8 @@ pub data ReportReplies (declared : Declared) (base : Base) (rows report : List �
   is_sound : (pairs : List (ℕ × ℤ)) (lines : List ReportLine) → household_of (inputs_declared declared) rows ≡ Ok pairs
       → parsed_report declared report ≡ Ok lines → IsSound base (given_by declared pairs) lines → ReportReplies declared base rows report sound_line Done
 
--- The answer of a check of the rules of a source, whose driver and requests play no part: the line of the fault of its rule files, or what is answered over
--- what they declare and the base of their rules.
+-- The answer of a check of the rules of a source (its driver and requests aren't used): the line of the fault of its
+-- rule files, or the answer over their declarations and the base of their rules.
 pub data CheckReplies (source : Source) (rows report : List ℕ) : List ℕ → Status → Type 0 where
   rules_are_refused : {line : List ℕ} (fault : SourceFault) → IsBaseFault source.texts source.application fault → source_line source.texts fault ≡ Some line
       → CheckReplies source rows report line Refused

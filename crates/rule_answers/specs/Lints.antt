@@ -1,4 +1,4 @@
--- What `lint` answers.
+-- The answer of `lint`.
 use Rattle.std.specs.Prelude.{◌≡◌, ℕ, List, Some}
 use Rattle.m_places.specs.declared.source.Source.{Source}
 use Rattle.m_symbols.specs.Declarations.{Declared}
@@ -14,11 +14,12 @@ use Rattle.m_compile.specs.declared.fault.SourceFault.{SourceFault}
 use Rattle.command_plans.specs.declared.status.Status.{Status}
 use Rattle.command_plans.specs.declared.status.Status.TheVariants.{Done, Refused}
 
--- the lines of what is found of a base and of what its source is compiled to
+-- the lines of the findings about a base and about the compiled source
 abbrev pub lint_text : Declared → Base → Compiled → List ℕ
 lint_text declared base compiled = findings_text declared base (findings_of declared base compiled.tidy compiled.face)
 
--- The answer of a lint of a source: the line of its fault, or the lines of what is found of its rules and of what it is compiled to.
+-- The answer of a lint of a source: the line of its fault, or the lines of the findings about its rules and the
+-- compiled source.
 pub data LintReplies (source : Source) : List ℕ → Status → Type 0 where
   is_refused : {line : List ℕ} (fault : SourceFault) → IsSourceFault source fault → source_line source.texts fault ≡ Some line → LintReplies source line Refused
   is_linted : (declared : Declared) (base : Base) (compiled : Compiled) → HasRules source declared base → IsCompiled source compiled

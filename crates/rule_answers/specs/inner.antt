@@ -1,3 +1,3 @@
--- What inner functions' contracts speak of. No reader of the public contract needs it.
+-- Definitions for the contracts of inner functions. Readers of the public contracts don't need them.
 pub mod Checking
 pub mod Linting

@@ -36,8 +36,9 @@ use std::thread::Threads;
 use tax_print::{Fault, ReportFault};
 use why_report::{ReportLine, first_unsound, read_report};
 
-/// Makes the base of the rules of a source, and prints whether the report of these bytes is a sound derivation over the household
-/// of these bytes, or the line by which one of the three is refused. The source's driver and requests play no part.
+/// Makes the base of the rules of a source, and prints whether the report of these bytes is a sound derivation over
+/// the household of these bytes, or the line of the first fault of the three. The source's driver and requests aren't
+/// used.
 pub fn check_source<R: Threads + Sync, K: Sink>(
     rt: &R,
     alloc: Global,
@@ -66,7 +67,7 @@ pub fn check_source<R: Threads + Sync, K: Sink>(
     }
 }
 
-// The same over the base.
+// The answer over the base.
 fn answer_check<K: Sink>(
     alloc: Global,
     made: &RuleBase,
@@ -89,7 +90,7 @@ fn answer_check<K: Sink>(
     }
 }
 
-// What the cells begin with for the household of these bytes, or its fault.
+// The values that cells start with for the household of these bytes, or its fault.
 fn start_cells(
     alloc: Global,
     symbols: &Symbols,
@@ -103,7 +104,7 @@ fn start_cells(
     report_cells(alloc, symbols, stated.as_slice(), household)
 }
 
-// The same, where these are the inputs.
+// The same, for these inputs.
 fn report_cells(
     alloc: Global,
     symbols: &Symbols,
@@ -119,7 +120,7 @@ fn report_cells(
     Ok(given_cells(alloc, symbols, &given, codes.len())?)
 }
 
-// What the cells begin with for a household over so many inputs.
+// The values that cells start with for a household; `count` is the number of the inputs.
 fn given_cells(
     alloc: Global,
     symbols: &Symbols,
@@ -133,7 +134,7 @@ fn given_cells(
     first_cells(alloc, symbols, &amounts)
 }
 
-// The same over what the cells begin with.
+// The answer over the cells' start values.
 fn answer_report<K: Sink>(
     alloc: Global,
     made: &RuleBase,
@@ -156,7 +157,7 @@ fn answer_report<K: Sink>(
     }
 }
 
-// The same over the report's lines.
+// The answer over the report's lines.
 fn answer_lines<K: Sink>(
     alloc: Global,
     base: &Base,
@@ -177,7 +178,8 @@ fn answer_lines<K: Sink>(
     }
 }
 
-// Tells which line, by its position, is the first that isn't sound, or that there is none. It takes no memory.
+// Reports the number of the first line that isn't sound, given by its position, or that there is none. Takes no
+// memory.
 fn report_found<K: Sink>(found: Option<u32>, out: &mut K) -> Status
     requires { IfSome found (λ position. position ≤ CELLS) }
     ensures { Prints (found_text found) (found_status found) (output_view K.written K.faults out.old) (output_view K.written K.faults out.new) result }

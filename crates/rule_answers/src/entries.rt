@@ -1,4 +1,4 @@
-//! What is told of a source that has a fault, and what a fault of a report is told as.
+//! The lines of a source's faults and of a report's faults.
 ghost use Rattle.std.specs.Prelude.{◌≡◌};
 ghost use Rattle.std.specs.Option.{option_map};
 ghost use Rattle.tax_print.specs.FaultLines.{fault_line};
@@ -15,8 +15,8 @@ use m_ports::Sink;
 use tax_print::{Fault, ReportFault as ReportWords};
 use why_report::ReportFault;
 
-/// Tells the fault of a source by its line, or that there was no memory. The fault ends here, and not in an arm of each caller, whose borrows would take half
-/// a minute to check.
+/// Reports the fault of a source by its line, or out of memory by no line. It takes the fault by value, so that the
+/// fault is dropped here: if an arm of each caller dropped it, the callers' borrow check would take half a minute.
 pub(crate) fn report_source<K: Sink>(source: &Source, fault: SourceFault, out: &mut K) -> Status
     ensures { ReportsLine (source_line source.now.texts fault) (output_view K.written K.faults out.old) (output_view K.written K.faults out.new) result }
 {
@@ -25,7 +25,7 @@ pub(crate) fn report_source<K: Sink>(source: &Source, fault: SourceFault, out: &
     status
 }
 
-/// What the fault of a report is told as. Nothing is told of running out of memory.
+/// Maps a fault of a report to its line; none for out of memory.
 pub(crate) fn report_entry<'a>(fault: ReportFault) -> Option<Fault<'a>>
     ensures { option_map fault_line result ≡ report_fault_line fault }
 {

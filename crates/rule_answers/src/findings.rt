@@ -1,4 +1,4 @@
-//! The lines of findings go to the output through a buffer, in pieces of one size.
+//! Findings are written through a buffer, in pieces of one size.
 ghost use Rattle.std.specs.Prelude.{◌≡◌, ◌<◌, length};
 ghost use Rattle.m_ports.specs.Giving.{Gives};
 ghost use Rattle.m_symbols.specs.Declarations.{inputs_from, owners_from};
@@ -11,10 +11,10 @@ use m_ports::{BufferedSink, Failed, Origin, Printed, Sink};
 use rule_base::RuleBase;
 use std::marker::Brand;
 
-// The room of the buffer.
+// The size of the buffer in bytes.
 const BUFFER_ROOM: usize = 65_536;
 
-/// Gives the lines of findings, in pieces of one size. It takes no memory.
+/// Writes the lines of findings, in pieces of one size. Takes no memory.
 pub(crate) fn give_findings<K: Sink>(
     made: &RuleBase,
     findings: &[Finding],
@@ -30,7 +30,7 @@ pub(crate) fn give_findings<K: Sink>(
     printed.result
 }
 
-// The same through this room.
+// Writes them through a buffer over these bytes.
 fn buffer_findings<'a, K: Sink, O: Origin>(
     made: &RuleBase,
     findings: &[Finding],

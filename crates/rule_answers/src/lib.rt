@@ -1,6 +1,8 @@
-//! What is answered of the rules of a source, printed as it is made: whether a report is a sound derivation over them, and findings.
+//! Answers about the rules of a source, printed as they are made: whether a report is a sound derivation over them,
+//! and findings.
 //!
-//! No program is run here. This crate knows nothing of the words of the command line, and fetches no file.
+//! Uses the rule base, the compiler, and the reports and findings over them; runs no program. Knows nothing of the
+//! words of the command line, and fetches no file.
 #![tactic(auto)]
 
 mod check;

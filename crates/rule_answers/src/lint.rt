@@ -1,4 +1,4 @@
-//! A lint: what is found of the rules of a source and of what it is compiled to.
+//! A lint: findings about the rules of a source and the compiled source.
 ghost use Rattle.std.specs.Prelude.{◌≡◌, ◌<◌, ◌^◌, length, map, take};
 ghost use Rattle.m_places.specs.SourceLimits.{SourceKeepsLimits};
 ghost use Rattle.m_symbols.specs.Declarations.{inputs_from, owners_from};
@@ -21,7 +21,7 @@ use rule_base::RuleBase;
 use std::alloc::{AllocError, Global};
 use std::thread::Threads;
 
-/// Compiles a source and keeps its rules, and prints what is found of the two, or the line by which the source is refused.
+/// Compiles a source and keeps its rules, and prints the findings about the two, or the line of the source's fault.
 pub fn lint_source<R: Threads + Sync, K: Sink>(
     rt: &R,
     alloc: Global,
@@ -42,7 +42,7 @@ pub fn lint_source<R: Threads + Sync, K: Sink>(
     }
 }
 
-// Prints what is found of a base and what its source is compiled to.
+// Prints the findings about a base and its compiled source.
 fn answer_lint<K: Sink>(alloc: Global, made: &RuleBase, compiled: &Compiled, out: &mut K) -> Status
     requires valid { IsValidBase made.now.ordered.base }
     requires cells { made.now.ordered.base.cells ≡ length (owners_from 0 made.now.symbols.variables) }

@@ -1,4 +1,4 @@
-//! What the cells of declarations begin with.
+//! The values that cells start with.
 ghost use Rattle.std.specs.Prelude.{◌≡◌, ◌<◌, ◌++◌, IfOk, OnOk, replicate};
 ghost use Rattle.driver_core.specs.Answers.{first_value, next_input, start_of};
 
@@ -7,8 +7,8 @@ use m_fixed::Value;
 use m_symbols::Symbols;
 use std::alloc::{AllocError, Global};
 
-/// The value that each cell begins with, for these values of the inputs: an input has its value, a constant its amount, and each
-/// other cell is undefined. Its only error is running out of memory.
+/// The start value of each cell, for these values of the inputs: an input has its value, a constant its amount, and
+/// each other cell is undefined. The only error is out of memory.
 pub(crate) fn first_cells(
     alloc: Global,
     symbols: &Symbols,
@@ -27,7 +27,7 @@ pub(crate) fn first_cells(
     Ok(env)
 }
 
-// What a variable begins with, where the next input has this number.
+// The start value of a variable, where `next` is the number of the next input.
 fn first_value(role: &Role, inputs: &[Value], next: usize) -> Value
     ensures { result ≡ first_value inputs.now next role.now }
 {
@@ -53,7 +53,7 @@ fn next_input(role: &Role, next: usize) -> usize
     }
 }
 
-// Adds so many cells with this value.
+// Adds this many cells with this value.
 fn add_cells(env: &mut Vec<Value>, cells: u32, value: &Value) -> Result<(), AllocError>
     ensures { OnOk result (env.new.items ≡ env.old.items ++ replicate cells value.now) }
 {

@@ -1,4 +1,4 @@
--- What `facts` answers, from what was told.
+-- The answer of `facts`, from what was printed.
 use Rattle.std.proofs.Common.{◌≡◌, ℕ, List, Option, Some, Ok, Err, length, map, take, refl, sym, ap, ◌∙◌, subst, inl, inr}
 use Rattle.std.specs.Prelude.{◌≢◌}
 use Rattle.m_places.specs.declared.source.Source.{Source}
@@ -33,13 +33,13 @@ use Rattle.survey_commands.proofs.Schemes.{no_scheme_and_fault}
 
 -- ---- one source
 
--- what a source is compiled to once and again has the same inputs
+-- two compilations of a source have the same inputs
 pub same_inputs : (source : Source) (one other : Compiled) → IsCompiled source one → IsCompiled source other → one.face.inputs ≡ other.face.inputs
 same_inputs source one other is was =
     let same = (one_validity source is.declared was.declared is.base was.base is.written was.written is.requests was.requests is.valid was.valid).0 in
     is.inputs ∙ ap inputs_declared same ∙ sym was.inputs
 
--- and they are those of its scheme
+-- these are the inputs of its scheme
 pub scheme_inputs : (source : Source) (scheme : Scheme) (compiled : Compiled) → IsScheme source scheme → IsCompiled source compiled
     → compiled.face.inputs ≡ scheme.inputs
 scheme_inputs source scheme compiled v is =
@@ -53,7 +53,7 @@ labels_first source declared base compiled rules is =
     let same = (one_rules source is.declared declared is.base base is.valid.rules rules).1 in
     subst (λ (b : Base). take (length b.labels) compiled.face.labels ≡ map Verif b.labels) same is.first_labels
 
--- ---- from what was told to what is answered
+-- ---- from what was printed to the answer
 
 pub facts_refused : (source : Source) (ranges : Option (List ℕ)) (fault : SourceFault) (old new : OutputView) (status : Status)
     → ReportsRefusal (λ line. IsSourceFault source fault × (source_line source.texts fault ≡ Some line)) old new status
@@ -97,7 +97,7 @@ pub facts_answered : (source : Source) (declared : Declared) (base : Base) (comp
 facts_answered source declared base compiled ranges old new status rules is a =
     answered_as (IsFactsOf base compiled ranges) (FactsReplies source ranges) old new status (facts_as source declared base compiled ranges rules is) a
 
--- ---- what has an answer isn't refused
+-- ---- what has an answer isn't rejected
 
 pub facts_complete : (source : Source) (ranges : Option (List ℕ)) (text : List ℕ) (status : Status) → FactsHaveAnswer source ranges
     → FactsReplies source ranges text status → IsComplete status

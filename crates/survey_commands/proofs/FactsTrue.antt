@@ -1,4 +1,4 @@
--- What `facts` answers is true of what the source tells.
+-- The answer of `facts` is true of the source's observations.
 use Rattle.std.proofs.Common.{◌≡◌, ℕ, ◌+◌, List, [], ◌∷◌, length, map, Option, Some, Ok, refl, sym, ap, ◌∙◌, subst}
 use Rattle.std.specs.List.{AllByRecursion, AllZip}
 use Rattle.m_fixed.specs.declared.amount.Value.{Value}
@@ -31,7 +31,7 @@ use Rattle.survey_commands.specs.Facts.{FactsReplies, facts_are_found, given_by,
 use Rattle.survey_commands.specs.FactsTruths.{AreTrueFacts}
 use Rattle.survey_commands.proofs.FactsLemmas.{scheme_inputs}
 
--- what the program tells is what the scheme tells
+-- the program's observations are those of the scheme
 reported_same : (source : Source) (scheme : Scheme) (compiled : Compiled) → IsScheme source scheme → IsCompiled source compiled → (vs : List Value)
     → AreValuesOf compiled.face.inputs vs
     → observation compiled.face.labels (notes_of compiled.face.outputs) (flat_run compiled.tidy vs) ≡ Some (scheme.observe vs)
@@ -47,7 +47,7 @@ names_same source scheme compiled v is =
     let same = one_validity source is.declared v.declared is.base v.base is.written v.written is.requests v.requests is.valid v.valid in
     (λ i. map (cell_name (same.0 i)) (same.3 i)) ∙ sym (ap (λ (s : Scheme). s.names) v.stated)
 
--- of each of these outputs the inputs on which it may depend
+-- the inputs on which each of these outputs may depend
 reads_true : (flat : Flat) (face : Face) (given : List Possible) (observe : List Value → Observation) → IsFlat flat → IsFaceOf face flat
     → ((vs : List Value) → AreValuesOf face.inputs vs → observation face.labels (notes_of face.outputs) (flat_run flat vs) ≡ Some (observe vs)) → (ks : List ℕ)
     → AllZip (λ k ns. (place : ℕ) → k ≡ length (notes_of face.outputs) + place → DependsOn face.inputs given observe place ns) ks

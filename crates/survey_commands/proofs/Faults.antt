@@ -1,4 +1,4 @@
--- What the output and the status say of each other.
+-- How the faults of the output relate to the status.
 use Rattle.std.proofs.Common.{◌≡◌, ℕ, Bool, true, false, List, Some, sym, ap, ◌∙◌, subst, arith, inl, inr}
 use Rattle.std.specs.Prelude.{◌⊎◌}
 use Rattle.tax_print.specs.FaultLines.{unreadable_line}
@@ -18,7 +18,7 @@ use Rattle.survey_commands.specs.inner.Courses.{Course, IsWorkOf, is_no_command,
 use Rattle.survey_commands.proofs.Clauses.{no_memory_reported}
 use Rattle.survey_commands.proofs.Ways.{Way, way_of, observe, lacks_memory, breaks_off, parts_requested}
 
--- ---- the count of faults of the output
+-- ---- the output's count of faults
 
 -- no write failed
 calm : (old new : OutputView) (status : Status) → new.faults ≡ old.faults → (status ≡ WriteFault → ⊥) → ReportsWrites old new status
@@ -53,7 +53,7 @@ counted_of words before after old new status (answered command work c g k a) = c
 no_bool : (b : Bool) → b ≡ true → b ≡ false → ⊥
 no_bool b t f = cc (t, f)
 
--- without memory nothing was written, but by a command that writes in parts
+-- if memory ran out nothing was written, except by a command that writes in parts
 memory_way : (words : List (List ℕ)) (command : Command) (work : Work) (old new : OutputView) (status : Status) → command_of words ≡ Some command
     → IsWorkOf command work
     → Way work old new status → status ≡ Memory → writes_early words ≡ false → new.written ≡ old.written
@@ -77,7 +77,7 @@ memory_of words before after old new status (answered command work c g k a) m ea
 
 -- ---- the usage line
 
--- a text was printed whose own status isn't that of the usage line
+-- a text was printed with a status other than `Usage`
 no_usage : (text : List ℕ) (own : Status) (old new : OutputView) (status : Status) → (own ≡ Usage → ⊥) → Prints text own old new status → status ≡ Usage → ⊥
 no_usage text own old new status u (inl p) e = u (sym p.1 ∙ e)
 no_usage text own old new status u (inr p) e = cc (p.1, e)

@@ -49,7 +49,7 @@ use Rattle.survey_commands.specs.declared.work.Work.{Work}
 use Rattle.survey_commands.specs.declared.work.Work.TheVariants.{Table, Facts, CodeTable, Version}
 use Rattle.survey_commands.proofs.Schemes.{no_form_and_fault, no_scheme_and_fault, one_inputs, one_loaded, one_scheme, shown_other}
 
--- ---- two errors
+-- ---- two error lines
 
 one_line : (texts : List Text) (fault other : SourceFault) (t u : List ℕ) → AreOneSourceFault fault other → source_line texts fault ≡ Some t
     → source_line texts other ≡ Some u → AreOneOutput t Refused u Refused
@@ -78,11 +78,11 @@ one_code_line fault other t u e a b =
 
 -- ---- tables
 
--- rows give values that the inputs of a scheme may have
+-- rows give values of the types of a scheme's inputs
 abbrev AreGiven : Scheme → List Row → Type 0
 AreGiven scheme rows = AllByRecursion (λ row. AreValuesOf scheme.inputs (values_of row.household.pairs (length scheme.inputs))) rows
 
--- two schemes of one program tell a row the same
+-- two schemes of one program observe the same for a row
 row_same : (face : Face) (runs : List Value → Answer) (one other : Scheme) (row : Row) → Shows one face runs → Shows other face runs
     → AreValuesOf one.inputs (values_of row.household.pairs (length one.inputs))
     → AreValuesOf other.inputs (values_of row.household.pairs (length other.inputs))
@@ -111,7 +111,7 @@ text_same face runs one other rows a b g h =
     let rest = rows_same face runs one other rows a b g h in
     λ i. header (names i) ++ rest i
 
--- a table is answered in one way by what a program is to it
+-- a table has one answer by the schemes that a program shows
 one_answer : (face : Face) (runs : List Value → Answer) (one other : Scheme) (table t u : List ℕ) (s r : Status) → Shows one face runs → Shows other face runs
     → SchemeReplies one table t s → SchemeReplies other table u r → AreOneOutput t s u r
 one_answer face runs one other table t u s r a b (table_is_refused fault g k) (table_is_refused also h l) =
@@ -130,7 +130,7 @@ one_answer face runs one other table t u s r a b (rows_are_answered rows g) (row
     the_same (text_same face runs one other rows a b (table_gives one.inputs table rows g) (table_gives other.inputs table rows f) ∙ ap (table_text other) p)
     refl
 
--- a scheme answers a table in one way
+-- a scheme has one answer to a table
 one_reply_of : (scheme : Scheme) (table t u : List ℕ) (s r : Status) → SchemeReplies scheme table t s → SchemeReplies scheme table u r → AreOneOutput t s u r
 one_reply_of scheme table t u s r (table_is_refused fault g k) (table_is_refused other h l) = the_same (same_line fault other t u (cc (g, h)) k l) refl
 one_reply_of scheme table t u s r (table_is_refused fault g k) (rows_are_answered rows h) = cc (g, h)
@@ -155,7 +155,7 @@ one_code code table t u s r (code_answers loaded scheme form shown h) (code_is_r
 one_code code table t u s r (code_answers one scheme form shown h) (code_answers other also part seen i) =
     one_answer other.face (machine_run other.code) scheme also table t u s r (shown_other scheme one other (one_loaded code one other form part) shown) seen h i
 
--- what a source is compiled to has no fault
+-- a compiled source has no fault
 no_compiled_and_fault : (source : Source) (compiled : Compiled) (fault : SourceFault) → IsCompiled source compiled → IsSourceFault source fault → ⊥
 no_compiled_and_fault source compiled fault is f = no_valid_and_fault source is.declared is.base is.written is.requests fault is.valid f
 
@@ -164,7 +164,7 @@ same_ranges_line fault other t u e a b =
     let c : ranges_fault_line other ≡ Some t = subst (λ (f : HouseholdFault). ranges_fault_line f ≡ Some t) e a in
     cc (c, b)
 
--- the ranges say the same by what a source is compiled to once and again
+-- ranges give the same facts for two compilations of a source
 given_again : (source : Source) (ranges : Option (List ℕ)) (one other : Compiled) (stated : Result (List Possible) HouseholdFault) → IsCompiled source one
     → IsCompiled source other
     → given_by one.face.inputs ranges ≡ stated → given_by other.face.inputs ranges ≡ stated
@@ -197,7 +197,7 @@ one_facts source ranges t u s r (facts_are_found declared base one given rules i
     let q : facts_text base two.tidy two.face given ≡ facts_text other two.tidy two.face possible = λ i. facts_text (bases i) two.tidy two.face (e i) in
     subst (λ (x : List ℕ). AreOneOutput (facts_text base one.tidy one.face given) Done x Done) q (both_found source declared base one two given rules is was)
 
--- a command answers what it gathered in one way
+-- a command has one answer to what it gathered
 one_reply : (work : Work) (t u : List ℕ) (s r : Status) → Replies work t s → Replies work u r → AreOneOutput t s u r
 one_reply (Table source table) t u s r a b = one_source source table t u s r a b
 one_reply (Facts source ranges) t u s r a b = one_facts source ranges t u s r a b

@@ -18,7 +18,7 @@ use Rattle.observables.specs.Outputs.{are_named, names_of, notes_of, notes_stand
 use Rattle.survey_commands.specs.Records.{cause_field, empty_fields, more_notes, name_fields, observation_fields, value_field, value_fields}
 use Rattle.survey_commands.specs.inner.Outputs.{note_text, output_empties, output_names, output_note, output_notes, output_value, output_values}
 
--- ---- from one of them on
+-- ---- from some output on
 
 pub values_at : (outputs : List FaceOutput) (vs : List Value) (k : ℕ) (output e : FaceOutput) (v d : Value) → k < length outputs → k < length vs
     → output ≡ get_or outputs k e → v ≡ get_or vs k d
@@ -69,7 +69,7 @@ empties_are [] = refl
 empties_are (Named name ∷ outputs) = ap (λ rest. codes "," ++ rest) (empties_are outputs)
 empties_are (Noted number ∷ outputs) = empties_are outputs
 
--- ---- outputs in their order are notes, and then names
+-- ---- the outputs are notes first, then names
 
 nothing_named : (names : List (List ℕ)) → value_fields names [] ≡ []
 nothing_named [] = refl
@@ -123,7 +123,7 @@ notes_are some labels (Noted number ∷ outputs) (v ∷ vs) h =
 
 -- ---- stops
 
--- the fields of a stop, where it has a label
+-- the fields of a stop that has a label
 pub stop_fields : (names : List (List ℕ)) (labels : List FaceLabel) (stop : Stop) (found : Option FaceLabel) (label : FaceLabel) → found ≡ Some label
     → option_map_or (observation_fields names) (option_map (λ label. stopped (cause_of stop label)) found) []
     ≡ joined (codes "," ∷ option_map_or (λ label. cause_field (cause_of stop label)) found [] ∷ codes "," ∷ empty_fields names ∷ new_line ∷ [])

@@ -1,4 +1,4 @@
--- The clause on reading.
+-- The clause on the files that are read.
 use Rattle.std.proofs.Common.{◌≡◌, ℕ, true, false, List, [], ◌∷◌, ◌++◌, Some, Ok, Err, Result, refl, sym, ap, ◌∙◌, subst, inl, inr}
 use Rattle.std.proofs.lemmas.List.{append-nil}
 use Rattle.std.specs.Prelude.{◌⊎◌}
@@ -31,7 +31,7 @@ abbrev first_or : Attempt → List Attempt → Attempt
 first_or a [] = a
 first_or a (b ∷ bs) = b
 
--- none failed, so the last didn't
+-- if none failed, the last didn't
 none_last : (made before : List Attempt) (name : List ℕ) → NoneFailed made → made ≡ before ++ record { name = name; failed = true } ∷ [] → ⊥
 none_last [] [] name h e = cc
 none_last [] (b ∷ before) name h e = cc
@@ -41,7 +41,7 @@ none_last (m ∷ made) [] name h e =
     cc
 none_last (m ∷ made) (b ∷ before) name h e = none_last made before name h.1 (cc)
 
--- the names that a command tried, in order
+-- the names that a command attempted, in order
 in_order_of : (words : List (List ℕ)) (before after : FilesView) (command : Command) (result : Result Work Ending) (disk : Disk)
     → command_of words ≡ Some command
     → (g : GoesAlong (plan_of command) before after result) → before.known_files ≡ Some disk → BeginsWith (fetches_of words disk) (names_tried g.made)
@@ -63,7 +63,7 @@ reading_none words before after old new status made a i n r = record {
   cause = λ e. absurd (r e);
 }
 
--- the status of a text that isn't a read fault's
+-- a status other than `ReadFault`
 not_read : (text : List ℕ) (own : Status) (old new : OutputView) (status : Status) → (own ≡ ReadFault → ⊥) → Prints text own old new status → status ≡ ReadFault
     → ⊥
 not_read text own old new status unlike (inl p) e = unlike (sym p.1 ∙ e)
@@ -76,7 +76,7 @@ still words before after old new status s r =
     reading_none words before after old new status [] (ap (λ (v : FilesView). v.attempts) s ∙ sym (append-nil before.attempts))
     (λ disk t. (fetches_of words disk, refl)) tt r
 
--- the last attempt failed, and was told
+-- the last attempt failed, and was reported
 last_reported : (words : List (List ℕ)) (before after : FilesView) (old new : OutputView) (status : Status) (command : Command) (name : List ℕ)
     → command_of words ≡ Some command
     → GoesAlong (plan_of command) before after (Err (ending.Unreadable name)) → Prints (unreadable_line name) ReadFault old new status

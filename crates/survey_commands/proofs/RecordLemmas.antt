@@ -54,7 +54,7 @@ fields_reported scheme face runs vs shown given =
     ap (λ (t : Option Observation). option_map_or (observation_fields (names_of face.outputs)) t []) (shown.answers vs given)
     ∙ ap (λ names. observation_fields names (scheme.observe vs)) shown.names
 
--- rows by code are rows by its scheme, where they give the inputs values that it may be asked for
+-- rows by code are rows by its scheme, if they give the inputs values of their types
 rows_reported : (scheme : Scheme) (loaded : Loaded) (at : ℕ) (rows : List Row) → Shows scheme loaded.face (machine_run loaded.code)
     → loaded.code.counts.inputs ≡ length scheme.inputs
     → AllByRecursion (λ row. AreValuesOf scheme.inputs (values_of row.household.pairs (length scheme.inputs))) rows

@@ -1,4 +1,4 @@
--- A source has one scheme, and a code file one form; neither is refused where it has one.
+-- A source has one scheme, and a code file one form; neither is rejected if it has one.
 use Rattle.std.proofs.Common.{◌≡◌, ℕ, List, sym, ap, ◌∙◌}
 use Rattle.m_fixed.specs.declared.amount.Value.{Value}
 use Rattle.m_places.specs.declared.source.Source.{Source}
@@ -28,7 +28,7 @@ one_scheme source one other a b =
 pub no_scheme_and_fault : (source : Source) (scheme : Scheme) (fault : SourceFault) → IsScheme source scheme → IsSourceFault source fault → ⊥
 no_scheme_and_fault source scheme fault v is = no_valid_and_fault source v.declared v.base v.written v.requests fault v.valid is
 
--- loaded code that is the same, but for proofs
+-- loaded code with the same parts is equal (proofs are irrelevant)
 pub record IsSameCode (one other : Loaded) : Type 0 where
   pub code : one.code ≡ other.code
   pub inputs : one.face.inputs ≡ other.face.inputs
@@ -43,11 +43,11 @@ one_loaded code one other a b = let same = one-form code one other a b in record
 pub no_form_and_fault : (code : List ℕ) (loaded : Loaded) (fault : CodeFault) → IsFormOf code loaded → IsCodeFault code fault → ⊥
 no_form_and_fault code loaded fault form f = no-fault-of-form code loaded fault form f
 
--- the inputs are the same by one scheme and by the other
+-- two schemes of one program have the same inputs
 pub one_inputs : (face : Face) (runs : List Value → Answer) (one other : Scheme) → Shows one face runs → Shows other face runs → one.inputs ≡ other.inputs
 one_inputs face runs one other a b = sym a.inputs ∙ b.inputs
 
--- what code is to households, the same code is too
+-- equal code shows the same scheme
 pub shown_other : (scheme : Scheme) (one other : Loaded) → IsSameCode one other → Shows scheme one.face (machine_run one.code)
     → Shows scheme other.face (machine_run other.code)
 shown_other scheme one other same s = record {

@@ -1,4 +1,4 @@
--- The clause on the bytes that were taken.
+-- The clause on how many bytes were read.
 use Rattle.std.proofs.Common.{◌≡◌, ◌≤◌, ◌+◌, ◌*◌, ℕ, Bool, true, false, cond, List, ◌++◌, length, None, Some, Ok, Err, sym, ap, ◌∙◌, subst, arith}
 use Rattle.std.proofs.Common.{length-append}
 use Rattle.std.specs.Option.{option_map_or}
@@ -23,12 +23,12 @@ use Rattle.survey_commands.specs.inner.Courses.{Course, is_no_command, has_no_me
 file_fits : FILE_BYTES ≤ CODE_FILE_BYTES
 file_fits = omega arith
 
--- ranges keep the limit of a file, where there are any
+-- ranges are within the limit of a file
 chosen : (test : Bool) (name : List ℕ) → KeepsWithin FILE_BYTES (cond test (done None) (present name))
 chosen true name = tt
 chosen false name = (omega arith, λ bytes. tt)
 
--- the files of a command keep its limit
+-- the files of a command are within its limit
 keeps_limit : (command : Command) → KeepsWithin (file_limit command) (plan_of command)
 keeps_limit (Table names table) = within_then FILE_BYTES (source_plan names) _ (source_within names) (λ source. (omega arith, λ bytes. tt))
 keeps_limit (Facts names ranges) = within_then FILE_BYTES (source_plan names) _ (source_within names)
@@ -36,7 +36,7 @@ keeps_limit (Facts names ranges) = within_then FILE_BYTES (source_plan names) _ 
 keeps_limit (CodeTable code table) = (omega arith, λ bytes. (file_fits, λ rows. tt))
 keeps_limit Version = tt
 
--- what is taken without a slack for lack of memory
+-- the bound for a call that didn't run out of memory
 no_slack : (most : ℕ) (before after : FilesView) (status : Status) → after.taken + allowance most before.attempts ≤ before.taken + allowance most after.attempts
     → TakesWithin most before after status
 no_slack most before after Done h = h
@@ -47,7 +47,7 @@ no_slack most before after WriteFault h = h
 no_slack most before after Memory h = omega (arith, h)
 no_slack most before after Stopped h = h
 
--- the allowance of attempts and of those that were made
+-- the allowance of all attempts is that of the earlier ones and of those of the call
 allowed : (most : ℕ) (before after : FilesView) (made : List Attempt) → after.attempts ≡ before.attempts ++ made
     → allowance most after.attempts ≡ allowance most before.attempts + allowance most made
 allowed most before after made e =
@@ -65,7 +65,7 @@ within most before after made spent slack e t s = rw (allowed most before after 
     sums : (a b x y s k : ℕ) → a ≤ b + s → s ≤ y + k → a + x ≤ b + (x + y) + k
     sums a b x y s k h i = omega (arith, h, i)
 
--- where nothing was fetched
+-- no file was fetched
 still : (most : ℕ) (before after : FilesView) (status : Status) → after ≡ before → TakesWithin most before after status
 still most before after status s = subst (λ (v : FilesView). TakesWithin most before v status) (sym s) (no_slack most before before status (omega arith))
 

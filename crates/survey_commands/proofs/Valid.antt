@@ -1,4 +1,4 @@
--- What is valid is answered.
+-- The clause that valid words and files are answered.
 use Rattle.std.proofs.Common.{◌≡◌, ◌+◌, ℕ, Bool, true, List, [], ◌∷◌, ◌++◌, Some, Ok, Err, refl, sym, ap, ◌∙◌, subst, zero-add, arith, inl, inr}
 use Rattle.std.specs.Prelude.{if◌then◌else◌}
 use Rattle.m_ports.specs.Counts.{Rose}
@@ -31,13 +31,13 @@ use Rattle.survey_commands.proofs.FactsLemmas.{facts_complete}
 use Rattle.survey_commands.proofs.Schemes.{no_form_and_fault, no_scheme_and_fault, one_loaded, one_scheme}
 use Rattle.survey_commands.proofs.Ways.{Way, way_of, observe, lacks_memory, breaks_off}
 
--- a table without a fault isn't refused
+-- a table without a fault isn't rejected
 table_complete : (scheme : Scheme) (table text : List ℕ) (status : Status) (rows : List Row) → table_of scheme.inputs table ≡ Ok rows
     → SchemeReplies scheme table text status → IsComplete status
 table_complete scheme table text status rows g (table_is_refused fault h k) = cc (g, h)
 table_complete scheme table text status rows g (rows_are_answered others h) = tt
 
--- what has an answer is answered, and not refused
+-- what has an answer is answered, and not rejected
 replies_complete : (work : Work) (text : List ℕ) (status : Status) → HasAnswer work → Replies work text status → IsComplete status
 replies_complete (Table source table) text status h (source_is_refused fault f k) = absurd (no_scheme_and_fault source h.scheme fault h.valid f)
 replies_complete (Table source table) text status h (source_answers scheme v a) =
@@ -50,7 +50,7 @@ replies_complete (CodeTable code table) text status h (code_answers loaded schem
     ∙ shown.inputs) h.given) a
 replies_complete Version text status h r = subst IsComplete (sym r.1) tt
 
--- valid words and files aren't refused
+-- valid words and files aren't rejected
 not_refused : (words : List (List ℕ)) (disk : Disk) (command : Command) (line : List ℕ) → IsValidCommand words disk → command_of words ≡ Some command
     → end_of disk (plan_of command) ≡ refused line → ⊥
 not_refused words disk command line valid c e =
@@ -58,7 +58,7 @@ not_refused words disk command line valid c e =
     let q : end_of disk (plan_of valid.command) ≡ refused line = subst (λ (x : Command). end_of disk (plan_of x) ≡ refused line) s e in
     cc (q, valid.gathers)
 
--- what valid words and files gather has an answer
+-- the work gathered by valid words and files has an answer
 has_answer : (words : List (List ℕ)) (disk : Disk) (command : Command) (work : Work) → IsValidCommand words disk → command_of words ≡ Some command
     → end_of disk (plan_of command) ≡ gathered work → HasAnswer work
 has_answer words disk command work valid c e =
@@ -72,7 +72,7 @@ none_counted [] h = refl
 none_counted (attempt ∷ made) h = ap (λ (failed : Bool). (if failed then 1 else 0) + failed_count made) h.0 ∙ zero-add (failed_count made)
     ∙ none_counted made h.1
 
--- the count of failed attempts rose by one where the last one failed
+-- the count of failed attempts rose by one if the last attempt failed
 rose : (before after : FilesView) (made : List Attempt) (name : List ℕ) → after.attempts ≡ before.attempts ++ made → LastFailed made name
     → failed_count after.attempts ≡ failed_count before.attempts + 1
 rose before after made name a l =

@@ -1,4 +1,5 @@
--- From what was told and written to how a table was answered, and how what was gathered was answered, in one form for all commands.
+-- From what was found and written to how a table was answered, and how any work was answered, in one form for all
+-- commands.
 use Rattle.std.proofs.Common.{◌≡◌, ℕ, List, Err, refl, subst, ◌∙◌, sym, inl, inr}
 use Rattle.std.specs.Prelude.{true, false, Some}
 use Rattle.std.proofs.Common.{ap}
@@ -77,7 +78,7 @@ code_answered code table loaded scheme old new status form shown a =
 
 -- ---- all commands
 
--- A text was printed; or there was no memory, before anything was written or, where an answer is written in parts, on the way.
+-- A text was printed; or memory ran out, before anything was written, or while an answer was written in parts.
 pub data Way (work : Work) (old new : OutputView) (status : Status) : Type 0 where
   observe : (text : List ℕ) (own : Status) → Replies work text own → IsOfEnd own → Prints text own old new status → Way work old new status
   lacks_memory : new ≡ old → status ≡ Memory → Way work old new status
@@ -96,7 +97,7 @@ way_of (CodeTable code table) old new status (parts.no_memory n m) = lacks_memor
 way_of (CodeTable code table) old new status (parts.broke_off text own r a f m) = breaks_off text own r refl a f m
 way_of Version old new status p = observe version_line Done (refl, refl) tt p
 
--- what writes in parts was asked for
+-- the command writes in parts
 pub parts_requested : (words : List (List ℕ)) (wanted : Command) (work : Work) → command_of words ≡ Some wanted → IsWorkOf wanted work
     → work_in_parts work ≡ true → writes_early words ≡ true
 parts_requested words wanted work c k e = ap (λ o. option_map_or writes_in_parts o false) c ∙ sym k ∙ e

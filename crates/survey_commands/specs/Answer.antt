@@ -1,4 +1,4 @@
--- What a command answers with what it has gathered.
+-- The answer of a command, given what it gathered.
 use Rattle.std.specs.Prelude.{◌≡◌, ℕ, ◌≤◌, List, length}
 use Rattle.m_places.specs.declared.limits.TheConstants.{CODE_FILE_BYTES}
 use Rattle.m_places.specs.SourceLimits.{SourceKeepsLimits}
@@ -11,7 +11,7 @@ use Rattle.survey_commands.specs.Tables.{CodeHasAnswer, CodeReplies, SourceRepli
 use Rattle.survey_commands.specs.declared.work.Work.{Work}
 use Rattle.survey_commands.specs.declared.work.Work.TheVariants.{Table, Facts, CodeTable, Version}
 
--- The text and the status that a command answers with what it has gathered.
+-- The text and the status of a command that gathered this.
 abbrev pub Replies : Work → List ℕ → Status → Type 0
 Replies (Table source table) = SourceReplies source table
 Replies (Facts source ranges) = FactsReplies source ranges
@@ -25,7 +25,7 @@ HasAnswer (Facts source ranges) = FactsHaveAnswer source ranges
 HasAnswer (CodeTable code table) = CodeHasAnswer code table
 HasAnswer Version = Unit {0}
 
--- the files that were gathered keep the limits of what is made of them
+-- the gathered files are within the limits
 abbrev pub WorkKeepsLimits : Work → Type 0
 WorkKeepsLimits (Table source table) = SourceKeepsLimits source
 WorkKeepsLimits (Facts source ranges) = SourceKeepsLimits source

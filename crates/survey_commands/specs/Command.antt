@@ -1,4 +1,4 @@
--- What the words of the command line ask for, and the plan of each command.
+-- The words of the command line as commands, and the plan of each command.
 use Rattle.std.specs.Prelude.{ℕ, Bool, true, false, List, [], ◌∷◌, Option, Some, None, if◌then◌else◌, codes, option_map}
 use Rattle.std.specs.List.{list_all}
 use Rattle.std.specs.Option.{option_map_or, option_or}
@@ -16,18 +16,19 @@ use Rattle.survey_commands.specs.declared.work.Work.TheVariants as work
 
 -- ---- words
 
--- the command `version`, if the words are it
+-- the command `version` of these words, or none
 abbrev pub version_command : List (List ℕ) → Option Command
 version_command (word ∷ []) = if bytes_eq word (codes "version") then Some Version else None
 version_command _ = None
 
--- the command `table` over a code file that the words are, if they are one: its word, and the names of a code file and a table, in UTF-8
+-- the command `table` over a code file of these words, or none: its word, and the names of a code file and a table, in
+-- UTF-8
 abbrev pub code_command : List (List ℕ) → Option Command
 code_command (word ∷ code ∷ table ∷ []) =
     if bytes_eq word (codes "table") then (if list_all is_utf8 (code ∷ table ∷ []) then Some (CodeTable code table) else None) else None
 code_command _ = None
 
--- what a word asks for that is done with a source and one file more, `table` or `facts`
+-- the command over a source and one more file with this word, `table` or `facts`
 abbrev pub over_source : List ℕ → Option OverSource
 over_source word = if bytes_eq word (codes "table") then Some over.Table else if bytes_eq word (codes "facts") then Some over.Facts else None
 
@@ -35,8 +36,8 @@ abbrev pub command_over : OverSource → SourceNames → List ℕ → Command
 command_over over.Table names file = Table names file
 command_over over.Facts names file = Facts names file
 
--- The command over a source and one file more that the words are, if they are one: `table` or `facts`, what stands at each place of a source, and
--- the name of a table or of ranges, all in UTF-8.
+-- The command over a source and one more file of these words, or none: `table` or `facts`, a name at each place of a
+-- source, and the name of a table or of ranges, all in UTF-8.
 abbrev pub source_command : List (List ℕ) → Option Command
 source_command (word ∷ list ∷ driver ∷ requests ∷ file ∷ []) =
     if list_all is_utf8 (list ∷ driver ∷ requests ∷ file ∷ [])
@@ -44,49 +45,50 @@ source_command (word ∷ list ∷ driver ∷ requests ∷ file ∷ []) =
     else None
 source_command _ = None
 
--- The command that the words are, if they are the form of one: `version`, `table` over a code file or a source and a table, or `facts` over
--- a source and ranges.
+-- The command of these words, or none: `version`, `table` over a code file or a source and a table, or `facts` over a
+-- source and ranges.
 abbrev pub command_of : List (List ℕ) → Option Command
 command_of words = option_or (version_command words) (option_or (code_command words) (source_command words))
 
 -- ---- plans
 
--- a source is gathered, and after it a table
+-- a source is gathered, and then a table
 abbrev pub source_table_plan : SourceNames → List ℕ → Plan Work
 source_table_plan names table = and_then (source_plan names) (λ source. and_then (file_plan table FILE_BYTES) (λ bytes. done (work.Table source bytes)))
 
--- a source is gathered, and after it ranges, where there are any
+-- a source is gathered, and then ranges, unless their name is `-`
 abbrev pub facts_plan : SourceNames → List ℕ → Plan Work
 facts_plan names ranges = and_then (source_plan names) (λ source. and_then (optional_plan ranges) (λ bytes. done (work.Facts source bytes)))
 
--- a code file is gathered, and after it a table
+-- a code file is gathered, and then a table
 abbrev pub code_table_plan : List ℕ → List ℕ → Plan Work
 code_table_plan code table = and_then (file_plan code CODE_FILE_BYTES)
     (λ bytes. and_then (file_plan table FILE_BYTES) (λ rows. done (work.CodeTable bytes rows)))
 
--- The plan of a command: which files it fetches in which order, where it refuses, and what it has gathered at its end. `version` fetches none.
+-- The plan of a command: which files it fetches, in which order, where it rejects them, and what it has gathered in
+-- the end. `version` fetches none.
 abbrev pub plan_of : Command → Plan Work
 plan_of (Table names table) = source_table_plan names table
 plan_of (Facts names ranges) = facts_plan names ranges
 plan_of (CodeTable code table) = code_table_plan code table
 plan_of Version = done work.Version
 
--- whether the words are a command that fetches a file: one whose plan asks for one
+-- whether the words are a command that fetches a file: its plan requests one
 abbrev pub reads_files : List (List ℕ) → Bool
 reads_files words = option_map_or (λ command. requests_file (plan_of command)) (command_of words) false
 
--- the most bytes of a file that a command fetches
+-- the greatest number of bytes of a file that a command fetches
 abbrev pub file_limit : Command → ℕ
 file_limit (Table names table) = FILE_BYTES
 file_limit (Facts names ranges) = FILE_BYTES
 file_limit (CodeTable code table) = CODE_FILE_BYTES
 file_limit Version = 0
 
--- the most bytes of a file that the words' command fetches; none where they are no command
+-- the greatest number of bytes of a file that the words' command fetches; 0 for words that are no command
 abbrev pub limit_of : List (List ℕ) → ℕ
 limit_of words = option_map_or file_limit (command_of words) 0
 
--- whether a command writes before all its work is done, so that memory may end it after a part of its text
+-- whether a command writes before all its work is done, so that memory may run out after a part of its text
 abbrev pub writes_in_parts : Command → Bool
 writes_in_parts (Table names table) = true
 writes_in_parts (Facts names ranges) = false

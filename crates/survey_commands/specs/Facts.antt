@@ -1,4 +1,4 @@
--- What `facts` answers.
+-- The answer of `facts`.
 use Rattle.std.specs.Prelude.{◌≡◌, ℕ, List, [], ◌∷◌, Option, Some, None, Result, Ok, Err, codes, decimal}
 use Rattle.m_text.specs.Pieces.{joined, new_line}
 use Rattle.m_places.specs.declared.source.Source.{Source}
@@ -23,7 +23,7 @@ use Rattle.command_answers.specs.Sources.{IsScheme}
 
 -- ---- ranges
 
--- What may be given of each input, by the bytes of ranges; where there are none, by the inputs' types.
+-- The possible values of each input, by the bytes of ranges, or without ranges by the inputs' types.
 abbrev pub given_by : List Coded → Option (List ℕ) → Result (List Possible) HouseholdFault
 given_by inputs None = Ok (type_facts inputs)
 given_by inputs (Some bytes) = ranges_of inputs bytes
@@ -34,7 +34,8 @@ file_line words = joined (codes "refused ranges: " ∷ words ∷ new_line ∷ []
 abbrev pub row_line : ℕ → List ℕ → List ℕ
 row_line line words = joined (codes "refused ranges line " ∷ decimal line ∷ codes ": " ∷ words ∷ new_line ∷ [])
 
--- The line of a fault of ranges; running out of memory has none. A code that is no input's in record 2 has `refused ranges line 2: unknown code`.
+-- The line of a fault of ranges; none for out of memory. An unknown code in record 2 has `refused ranges line 2:
+-- unknown code`.
 abbrev pub ranges_fault_line : HouseholdFault → Option (List ℕ)
 ranges_fault_line BadHeader = Some (file_line (codes "bad header"))
 ranges_fault_line TooManyRows = Some (file_line (codes "too many rows"))
@@ -47,8 +48,8 @@ ranges_fault_line Memory = None
 
 -- ---- answers
 
--- The answer of a source and ranges: the line of the source's fault; or that of the fault of the ranges, by the inputs of what the source is compiled to;
--- or the lines of what holds by that of all households within the ranges.
+-- The answer of a source and ranges: the line of the source's fault; or the line of the fault of the ranges, for the
+-- inputs of the compiled source; or the lines of the facts that it has for all households within the ranges.
 pub data FactsReplies (source : Source) (ranges : Option (List ℕ)) : List ℕ → Status → Type 0 where
   source_is_refused : {line : List ℕ} (fault : SourceFault) → IsSourceFault source fault → source_line source.texts fault ≡ Some line
       → FactsReplies source ranges line Refused
@@ -59,7 +60,7 @@ pub data FactsReplies (source : Source) (ranges : Option (List ℕ)) : List ℕ 
       → IsCompiled source compiled
       → given_by compiled.face.inputs ranges ≡ Ok given → FactsReplies source ranges (facts_text base compiled.tidy compiled.face given) Done
 
--- a valid source, and ranges without a fault by its inputs
+-- a valid source, and ranges without a fault for its inputs
 pub record FactsHaveAnswer (source : Source) (ranges : Option (List ℕ)) : Type 0 where
   pub scheme : Scheme
   pub valid : IsScheme source scheme

@@ -1,4 +1,4 @@
--- When the lines of `facts` are true of a source: they hold of whatever it tells to households within the ranges.
+-- When the lines of `facts` are true of a source: they hold for the observations of all households within the ranges.
 use Rattle.std.specs.Prelude.{◌≡◌, ℕ, ◌+◌, List, Option, Ok, length}
 use Rattle.std.specs.List.{AllByRecursion, AllZip}
 use Rattle.m_places.specs.declared.source.Source.{Source}
@@ -14,10 +14,10 @@ use Rattle.m_compile.specs.Sources.{HasRules}
 use Rattle.code_answers.specs.Schemes.{Scheme}
 use Rattle.survey_commands.specs.Facts.{given_by}
 
--- The text is lines that are true of what a source tells: the ranges have no fault, and for all households within them each value that is told is possible by
--- the line of its cell, a verification that is said never to stop is told by none, and two that agree on the inputs of a cell's line, of
--- which neither stops, are
--- told the same value of it. The place of a value that is told is the number of its output without the notes, which stand first.
+-- The text has lines that are true of a source's observations. The ranges have no fault, and for all households within
+-- them: each observed value is possible by the line of its cell; a verification whose line says that it never stops a
+-- run stops none; and two households that agree on the inputs in a cell's line, and stop at nothing, have the same
+-- value of that cell. The place of a value is the number of its output without the notes, which come first.
 pub record AreTrueFacts (source : Source) (ranges : Option (List ℕ)) (scheme : Scheme) (text : List ℕ) : Type 0 where
   pub declared : Declared
   pub base : Base

@@ -1,6 +1,5 @@
--- The records that `table` prints. The label of a household may have any byte from 32 on, and is in quotes where it needs them. No other
--- field needs any: names, numbers
--- of verifications and names of errors are words of M.
+-- The records that `table` prints. The label of a household may have any byte from 32 on, and is quoted if necessary.
+-- No other field needs quotes: names, numbers of verifications and names of errors are words of M.
 use Rattle.std.specs.Prelude.{ℕ, Bool, true, false, List, [], ◌∷◌, ◌++◌, codes, decimal, if◌then◌else◌}
 use Rattle.std.specs.List.{flat_map}
 use Rattle.m_text.specs.Pieces.{joined, new_line}
@@ -17,21 +16,21 @@ use Rattle.survey_commands.specs.Csv.{field_text}
 abbrev pub name_fields : List (List ℕ) → List ℕ
 name_fields names = flat_map (λ name. joined (codes "," ∷ name ∷ [])) names
 
--- The first record: `name,stop,notes,IRN,T[1]`, where `IRN` and `T[1]` are asked for.
+-- The first record: `name,stop,notes,IRN,T[1]`, where `IRN` and `T[1]` are requested.
 abbrev pub header : List (List ℕ) → List ℕ
 header names = joined (codes "name,stop,notes" ∷ name_fields names ∷ new_line ∷ [])
 
--- the field of what ended a run: `failed 2000 A20`, `over verification 2000 A20` or `over driver line 2`
+-- the field of a stop: `failed 2000 A20`, `over verification 2000 A20` or `over driver line 2`
 abbrev pub cause_field : Cause → List ℕ
 cause_field (failed label) = joined (codes "failed " ∷ label.verif ∷ codes " " ∷ label.error ∷ [])
 cause_field (over label) = joined (codes "over verification " ∷ label.verif ∷ codes " " ∷ label.error ∷ [])
 cause_field (over_driver line) = joined (codes "over driver line " ∷ decimal line ∷ [])
 
--- what stands before a note: something where there is one before it
+-- the separator before a note: none before the first
 abbrev pub between : Bool → List ℕ
 between some = if some then codes "; " else []
 
--- notes, where there are some before them or none
+-- notes, where the flag means that there are others before them
 abbrev pub more_notes : Bool → List Label → List ℕ
 more_notes some [] = []
 more_notes some (label ∷ labels) = joined (between some ∷ label.verif ∷ codes " " ∷ label.error ∷ []) ++ more_notes true labels
@@ -55,17 +54,17 @@ value_fields _ _ = []
 abbrev pub empty_fields : List (List ℕ) → List ℕ
 empty_fields names = flat_map (λ name. codes ",") names
 
--- What a household is told, as the fields after its label and the end of the record: its stop, its notes and its values. One that stops has neither notes
--- nor values.
+-- An observation as the fields after a household's label, with the end of the record: its stop, its notes and its
+-- values. A stopped run has neither notes nor values.
 abbrev pub observation_fields : List (List ℕ) → Observation → List ℕ
 observation_fields names (values notes vs) = joined (codes ",," ∷ notes_field notes ∷ value_fields names vs ∷ new_line ∷ [])
 observation_fields names (stopped cause) = joined (codes "," ∷ cause_field cause ∷ codes "," ∷ empty_fields names ∷ new_line ∷ [])
 
--- The record of a household: its label, and what its amounts are told.
+-- The record of a household: its label, and what is observed for its amounts.
 abbrev pub row_record : Scheme → Row → List ℕ
 row_record scheme row = field_text row.label ++ observation_fields scheme.names (observation_for scheme row.household.pairs)
 
--- The records of a table's rows, in their order.
+-- The records of a table's rows, in order.
 abbrev pub rows_records : Scheme → List Row → List ℕ
 rows_records scheme [] = []
 rows_records scheme (row ∷ rows) = row_record scheme row ++ rows_records scheme rows

@@ -1,4 +1,4 @@
--- What the contracts of inner functions speak of. The theorem of `m_survey` needs none of it.
+-- Definitions for the contracts of inner functions. The theorem of `m_survey` doesn't need them.
 pub mod Courses
 pub mod Finding
 pub mod Outputs

@@ -1,4 +1,4 @@
-//! What a command answers with what it has gathered, printed as it is made.
+//! The answer of a command to what it gathered, printed as it is made.
 ghost use Rattle.command_plans.specs.Printing.{Prints};
 ghost use Rattle.command_plans.specs.Views.{output_view};
 ghost use Rattle.command_plans.specs.declared.status.Status.TheVariants.{Done};
@@ -15,10 +15,10 @@ use m_ports::{Sink, give_pieces};
 use std::alloc::Global;
 use std::thread::Threads;
 
-// The version of this program and of the packages over it.
+// The version of this program and of the packages built on it.
 const VERSION: &[u8] = b"1.0.0";
 
-/// Answers what was gathered, and tells how the command ended.
+/// Answers what was gathered, and gives the status.
 pub fn answer<R: Threads + Sync, K: Sink>(rt: &R, alloc: Global, work: &Work, out: &mut K) -> Status
     requires { WorkKeepsLimits work.now }
     ensures { WorkIsAnswered work.now (output_view K.written K.faults out.old) (output_view K.written K.faults out.new) result }
@@ -33,7 +33,7 @@ pub fn answer<R: Threads + Sync, K: Sink>(rt: &R, alloc: Global, work: &Work, ou
     }
 }
 
-// Prints the line of `version`. It takes no memory.
+// Prints the line of `version`. Takes no memory.
 fn print_version<K: Sink>(out: &mut K) -> Status
     ensures { Prints version_line Done (output_view K.written K.faults out.old) (output_view K.written K.faults out.new) result }
 {

@@ -1,4 +1,4 @@
-//! A table by a code file.
+//! `table` for a code file.
 ghost use Rattle.std.specs.Prelude.{◌≡◌, ◌≤◌, length};
 ghost use Rattle.std.specs.Option.{option_map};
 ghost use Rattle.m_places.specs.declared.limits.TheConstants.{CODE_FILE_BYTES};
@@ -17,8 +17,8 @@ use std::alloc::Global;
 use std::thread::Threads;
 use tax_print::{CodeFault as Words, Fault};
 
-/// Reads the code file of these bytes, and prints what its code answers to the rows of the table of these bytes as csv, or the line by which one
-/// of them is refused.
+/// Reads the code file of these bytes, and prints the answers of its code to the rows of the table of these bytes as
+/// CSV, or the line of the first fault of the two.
 pub(crate) fn table_code<R: Threads + Sync, K: Sink>(
     rt: &R,
     alloc: Global,
@@ -35,7 +35,7 @@ pub(crate) fn table_code<R: Threads + Sync, K: Sink>(
     }
 }
 
-// What the fault of a code file is told as. Nothing is told of running out of memory.
+// Maps a fault of a code file to its line; none for out of memory.
 fn code_entry<'a>(fault: CodeFault) -> Option<Fault<'a>>
     ensures { option_map fault_line result ≡ code_fault_line fault }
 {

@@ -1,4 +1,4 @@
-//! The first record, and the fields of a household that stops.
+//! The first record, and the fields of a household whose run stops.
 ghost use Rattle.m_ports.specs.Giving.{Gives};
 ghost use Rattle.observables.specs.Outputs.{names_of};
 ghost use Rattle.survey_commands.specs.Records.{header};
@@ -7,10 +7,10 @@ ghost use Rattle.survey_commands.specs.inner.Outputs.{output_empties, output_emp
 use m_ports::{Failed, FixedText, Sink, give_all, give_pieces};
 use observables::FaceOutput;
 
-/// The room for the first record.
+/// The size in bytes of the text for the first record.
 pub(crate) const HEADER_ROOM: usize = 65_536;
 
-/// Gives the first record: from a text that holds it, or where it has no room there, piece by piece.
+/// Writes the first record: by one call from a text, or if it doesn't fit there, piece by piece.
 pub(crate) fn give_header<K: Sink>(
     outputs: &[FaceOutput],
     held: &mut FixedText,
@@ -25,7 +25,7 @@ pub(crate) fn give_header<K: Sink>(
     }
 }
 
-// Gives it piece by piece.
+// Writes it piece by piece.
 fn print_header<K: Sink>(outputs: &[FaceOutput], out: &mut K) -> Result<(), Failed>
     ensures { Gives K.written K.faults out.old out.new result (header (names_of outputs.now)) }
 {
@@ -52,7 +52,7 @@ fn give_name<K: Sink>(output: &FaceOutput, out: &mut K) -> Result<(), Failed>
     }
 }
 
-/// Gives an empty field for each output with a name.
+/// Writes an empty field for each output with a name.
 pub(crate) fn give_empties<K: Sink>(outputs: &[FaceOutput], out: &mut K) -> Result<(), Failed>
     ensures { Gives K.written K.faults out.old out.new result (output_empties outputs.now) }
 {

@@ -10,24 +10,25 @@ use std::alloc::{AllocError, Global};
 /// A command, with the names of its files.
 #[derive(Drop)]
 pub enum Command {
-    /// Compiles the source, and prints what the households of the table of this name are told, as csv.
+    /// Compiles the source, and prints the answers to the households of the table of this name, as CSV.
     Table(SourceNames, Name),
-    /// Compiles the source, and prints what holds of its requested cells for all households within the ranges of the file of this name; `-` is none.
+    /// Compiles the source, and prints facts about its requested cells that hold for all households within the ranges
+    /// of the file of this name; `-` means no ranges.
     Facts(SourceNames, Name),
-    /// Reads the code file of the first name, and prints the same by it, of the table of the second.
+    /// Reads the code file of the first name, and prints its answers to the table of the second, as CSV.
     CodeTable(Name, Name),
     /// Prints the version.
     Version,
 }
 
-// What is done with a source and one file more.
+// The forms of the commands over a source and one more file.
 #[derive(Clone, Copy)]
 pub(crate) enum OverSource {
     Table,
     Facts,
 }
 
-/// The command that the words are, if they are one. Its only error is running out of memory.
+/// The command of these words, or None. The only error is out of memory.
 pub fn command_of(alloc: Global, words: &[Word]) -> Result<Option<Command>, AllocError>
     ensures { IfOk result (λ command. command ≡ command_of words.now) }
 {
@@ -40,7 +41,7 @@ pub fn command_of(alloc: Global, words: &[Word]) -> Result<Option<Command>, Allo
     source_command(alloc, words)
 }
 
-// The command `version`, if the words are it.
+// The command `version` of these words, or None.
 fn version_command(words: &[Word]) -> Option<Command>
     ensures { result ≡ version_command words.now }
 {
@@ -53,7 +54,7 @@ fn version_command(words: &[Word]) -> Option<Command>
     Some(Command::Version)
 }
 
-// The command `table` over a code file that the words are, if they are one. Its only error is running out of memory.
+// The command `table` over a code file of these words, or None. The only error is out of memory.
 fn code_command(alloc: Global, words: &[Word]) -> Result<Option<Command>, AllocError>
     ensures { IfOk result (λ command. command ≡ code_command words.now) }
 {
@@ -70,7 +71,7 @@ fn code_command(alloc: Global, words: &[Word]) -> Result<Option<Command>, AllocE
     Ok(Some(Command::CodeTable(code, table.copy(alloc)?)))
 }
 
-// The command over a source and one file more that the words are, if they are one. Its only error is running out of memory.
+// The command over a source and one more file of these words, or None. The only error is out of memory.
 fn source_command(alloc: Global, words: &[Word]) -> Result<Option<Command>, AllocError>
     ensures { IfOk result (λ command. command ≡ source_command words.now) }
 {
@@ -92,7 +93,7 @@ fn source_command(alloc: Global, words: &[Word]) -> Result<Option<Command>, Allo
     Ok(Some(command_over(wanted, names, file)))
 }
 
-// What a word asks for that is done with a source and one file more, if it asks for that.
+// The form of a command over a source and one more file, by its word.
 fn over_source(word: &[u8]) -> Option<OverSource>
     ensures { result ≡ over_source word.now }
 {
@@ -114,7 +115,7 @@ fn command_over(wanted: OverSource, names: SourceNames, file: Name) -> Command
     }
 }
 
-// The names of a source. Its only error is running out of memory.
+// The names of a source. The only error is out of memory.
 fn names_of(
     alloc: Global,
     list: &Word,

@@ -1,4 +1,4 @@
-//! A field of csv that may have any bytes.
+//! A field of CSV that may have any bytes.
 ghost use Rattle.std.specs.Prelude.{◌≡◌, ◌∷◌, []};
 ghost use Rattle.std.specs.List.{list_any};
 ghost use Rattle.m_ports.specs.Giving.{Gives};
@@ -7,7 +7,7 @@ ghost use Rattle.survey_commands.specs.Csv.{field_text, is_special, quote, quote
 
 use m_ports::{Failed, Sink, give_pieces};
 
-/// Gives a field, in quotes where it needs them. On a failure a prefix of it was appended. It takes no memory.
+/// Writes a field, quoted if necessary. If a write fails, a prefix of it was appended. Takes no memory.
 pub(crate) fn give_field<K: Sink>(bytes: &[u8], out: &mut K) -> Result<(), Failed>
     ensures { Gives K.written K.faults out.old out.new result (field_text bytes.now) }
 {
@@ -18,7 +18,7 @@ pub(crate) fn give_field<K: Sink>(bytes: &[u8], out: &mut K) -> Result<(), Faile
     }
 }
 
-// Whether a byte is one of those for which a field stands in quotes.
+// Whether a field has a byte for which it must be quoted.
 fn has_special(bytes: &[u8]) -> bool
     ensures { result ≡ list_any is_special bytes.now }
 {
@@ -36,7 +36,7 @@ fn is_special(byte: u8) -> bool
     byte == b',' || byte == b'"' || byte == b'\r'
 }
 
-// Gives bytes between quotes.
+// Writes bytes between quotes.
 fn give_quoted<K: Sink>(bytes: &[u8], out: &mut K) -> Result<(), Failed>
     ensures { Gives K.written K.faults out.old out.new result (joined (quote ∷ quoted_bytes bytes.now ∷ quote ∷ [])) }
 {

@@ -1,4 +1,4 @@
-//! What holds by a source of all households within ranges.
+//! Facts about a source that hold for all households within ranges.
 ghost use Rattle.std.specs.Prelude.{◌≡◌, ◌<◌, ◌^◌, length, map, take};
 ghost use Rattle.m_places.specs.SourceLimits.{SourceKeepsLimits};
 ghost use Rattle.micro_m.specs.Bases.{IsValidBase};
@@ -23,8 +23,8 @@ use micro_m::Base;
 use std::alloc::{AllocError, Global};
 use std::thread::Threads;
 
-/// Compiles a source and keeps its rules, and prints what holds of the requested cells for all households within these ranges, or the line by
-/// which the source or the ranges are refused.
+/// Compiles a source and keeps its rules, and prints facts about the requested cells that hold for all households
+/// within these ranges, or the line of the first fault of the two.
 pub(crate) fn facts_source<R: Threads + Sync, K: Sink>(
     rt: &R,
     alloc: Global,
@@ -46,7 +46,7 @@ pub(crate) fn facts_source<R: Threads + Sync, K: Sink>(
     }
 }
 
-// Prints what holds within ranges of a base and what its source is compiled to.
+// Prints the facts of a base and its compiled source within ranges.
 fn answer_facts<K: Sink>(
     alloc: Global,
     base: &Base,
@@ -71,7 +71,7 @@ fn answer_facts<K: Sink>(
     }
 }
 
-// Prints what holds where the inputs have these facts.
+// Prints the facts that follow from these facts of the inputs.
 fn print_found<K: Sink>(
     alloc: Global,
     base: &Base,

@@ -1,4 +1,4 @@
-//! The lines of what is found go to the output through a buffer, in pieces of one size.
+//! Facts are written through a buffer, in pieces of one size.
 ghost use Rattle.std.specs.Prelude.{◌≡◌, ◌<◌, length};
 ghost use Rattle.m_ports.specs.Giving.{Gives};
 ghost use Rattle.m_facts.specs.Lines.{found_text};
@@ -9,10 +9,10 @@ use micro_m::Base;
 use observables::Face;
 use std::marker::Brand;
 
-// The room of the buffer.
+// The size of the buffer in bytes.
 const BUFFER_ROOM: usize = 65_536;
 
-/// Gives the lines of what is found, in pieces of one size. It takes no memory.
+/// Writes the lines of facts, in pieces of one size. Takes no memory.
 pub(crate) fn give_found<K: Sink>(
     base: &Base,
     face: &Face,
@@ -26,7 +26,7 @@ pub(crate) fn give_found<K: Sink>(
     printed.result
 }
 
-// The same through this room.
+// Writes them through a buffer over these bytes.
 fn buffer_found<'a, K: Sink, O: Origin>(
     base: &Base,
     face: &Face,

@@ -1,4 +1,4 @@
-//! The files of a command, gathered along its plan.
+//! Gathers the files of a command, following its plan.
 ghost use Rattle.std.specs.Prelude.{◌≡◌, true, false, IfOk};
 ghost use Rattle.command_plans.specs.Trips.{GoesAlong};
 ghost use Rattle.command_plans.specs.Views.{files_view};
@@ -14,7 +14,7 @@ use m_places::limits::{CODE_FILE_BYTES, FILE_BYTES};
 use m_ports::Files;
 use std::alloc::Global;
 
-/// Gathers the files of a command. What ends it before it has them is the error.
+/// Gathers the files of a command. The error is what ends the command before they are gathered.
 pub fn gather<F: Files>(alloc: Global, files: &mut F, command: &Command) -> Result<Work, Ending>
     ensures along { GoesAlong (plan_of command.now) (files_view F.known_files F.attempts F.taken files.old)
         (files_view F.known_files F.attempts F.taken files.new) result }
@@ -29,7 +29,7 @@ pub fn gather<F: Files>(alloc: Global, files: &mut F, command: &Command) -> Resu
     }
 }
 
-// Gathers a source, and a table after it.
+// Gathers a source, and then a table.
 fn gather_table<F: Files>(
     alloc: Global,
     files: &mut F,
@@ -46,7 +46,7 @@ fn gather_table<F: Files>(
     Ok(Work::Table(source, rows))
 }
 
-// Gathers a source, and ranges after it, where there are any.
+// Gathers a source, and then ranges, unless their name is `-`.
 fn gather_facts<F: Files>(
     alloc: Global,
     files: &mut F,
@@ -63,7 +63,7 @@ fn gather_facts<F: Files>(
     Ok(Work::Facts(source, bytes))
 }
 
-// Gathers a code file, and a table after it.
+// Gathers a code file, and then a table.
 fn gather_code_table<F: Files>(
     alloc: Global,
     files: &mut F,

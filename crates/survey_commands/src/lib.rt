@@ -1,7 +1,10 @@
-//! The commands of `m_survey`, which are for populations: a table of households as csv, of a source or a code file, and what holds of all households
-//! within ranges.
+//! The commands of `m_survey`, which are for populations: a table of households as CSV, for a source or a code file,
+//! and facts that hold for all households within ranges.
 //!
-//! `m_survey` is the one call that a program makes, and carries its theorem. It knows files and output only as the traits of `m_ports`.
+//! Uses command_plans for what all commands share, and code_answers for answers of code. Knows nothing of files and
+//! output but the traits of `m_ports`, and reads no input.
+//!
+//! `m_survey` is the one call that a program makes, and carries its theorem.
 #![tactic(auto)]
 
 mod answer;

@@ -1,4 +1,4 @@
-//! The field of the notes.
+//! The field of notes.
 ghost use Rattle.std.specs.Prelude.{◌≡◌, ◌≤◌, ◌||◌, ◌∷◌, [], false, codes, is_some, length, option_copied};
 ghost use Rattle.m_ports.specs.Giving.{Gives};
 ghost use Rattle.m_text.specs.Pieces.{joined};
@@ -12,7 +12,7 @@ use m_places::Label;
 use m_ports::{Failed, Sink, give_pieces};
 use observables::{FaceLabel, FaceOutput};
 
-/// Gives the notes of outputs with these values, with something between them.
+/// Writes the notes of outputs with these values, with a separator between them.
 pub(crate) fn give_notes<K: Sink>(
     labels: &[FaceLabel],
     outputs: &[FaceOutput],
@@ -31,7 +31,7 @@ pub(crate) fn give_notes<K: Sink>(
     Ok(())
 }
 
-// The verification that an output with this value notes, if it notes one.
+// The verification that an output with this value notes, if any.
 fn output_note<'a>(labels: &'a [FaceLabel], output: &FaceOutput, value: Value) -> Option<&'a Label>
     ensures { option_copied result ≡ output_note labels.now output.now value }
 {
@@ -41,7 +41,7 @@ fn output_note<'a>(labels: &'a [FaceLabel], output: &FaceOutput, value: Value) -
     }
 }
 
-// The verification that a note with this value tells, if it tells one.
+// The verification that is reported by a note with this value, if any.
 fn reported_note(labels: &[FaceLabel], number: u32, value: Value) -> Option<&Label>
     ensures { option_copied result ≡ reported_note labels.now number value }
 {
@@ -62,7 +62,7 @@ fn is_reported(value: Value) -> bool
     }
 }
 
-// The verification that the label with this number tells, if it tells one.
+// The verification of the label with this number, if it has one.
 fn verif_at(labels: &[FaceLabel], number: u32) -> Option<&Label>
     ensures { option_copied result ≡ verif_at labels.now number }
 {
@@ -73,14 +73,14 @@ fn verif_at(labels: &[FaceLabel], number: u32) -> Option<&Label>
     }
 }
 
-// Whether there are some notes after this one.
+// Whether there is a note among those before this one and this one.
 fn some_after(some: bool, note: Option<&Label>) -> bool
     ensures { result ≡ (some || is_some (option_copied note.entry)) }
 {
     some || note.is_some()
 }
 
-// Gives a note, where there are some before it or none.
+// Writes a note; `some` means that there are others before it.
 fn give_note<K: Sink>(some: bool, note: Option<&Label>, out: &mut K) -> Result<(), Failed>
     ensures { Gives K.written K.faults out.old out.new result (note_text some (option_copied note.entry)) }
 {

@@ -23,14 +23,14 @@ use std::thread::Threads;
 const USAGE: &[u8] =
     b"usage: m_survey table LIST DRIVER REQUESTS TABLE, table CODEFILE TABLE, facts LIST DRIVER REQUESTS RANGES, version";
 
-// Prints the usage line. It takes no memory.
+// Prints the usage line. Takes no memory.
 fn print_usage<K: Sink>(out: &mut K) -> Status
     ensures { Prints usage_line Status.Usage (output_view K.written K.faults out.old) (output_view K.written K.faults out.new) result }
 {
     printed(give_pieces(out, &[USAGE, b"\n"]), Status::Usage)
 }
 
-// Does the command that the words are.
+// Executes the command of these words.
 fn perform<R: Threads + Sync, F: Files, K: Sink>(
     rt: &R,
     alloc: Global,
@@ -52,7 +52,7 @@ fn perform<R: Threads + Sync, F: Files, K: Sink>(
     }
 }
 
-// Does a command: gathers its files, and answers them.
+// Executes a command: gathers its files, and answers them.
 fn act<R: Threads + Sync, F: Files, K: Sink>(
     rt: &R,
     alloc: Global,
@@ -78,9 +78,9 @@ fn act<R: Threads + Sync, F: Files, K: Sink>(
     }
 }
 
-/// Does the command that the words are: fetches its files, and prints its answer.
+/// Executes the command of these words: fetches its files, and prints its answer.
 ///
-/// The words are those after the program's name. All that is printed, faults too, goes to `out`.
+/// The words are those after the program's name. Everything is written to `out`, errors too.
 pub fn m_survey<R: Threads + Sync, F: Files, K: Sink>(
     rt: &R,
     alloc: Global,
@@ -88,40 +88,42 @@ pub fn m_survey<R: Threads + Sync, F: Files, K: Sink>(
     files: &mut F,
     out: &mut K,
 ) -> Status
-    // Where the files are told, if the command fetches one, and neither reading, writing nor memory failed, the text that is appended and
-    // the status are an `Output` of the words and the files.
+    // If the files' contents are known (unless the command fetches none), and neither reading, writing nor memory
+    // failed, the appended text and the status are an `Output` of the words and the files.
     ensures text { PrintsOutput words.now (files_view F.known_files F.attempts F.taken files.old)
         (output_view K.written K.faults out.old) (output_view K.written K.faults out.new) result }
 
-    // The attempts on files are those of `fetches_of`, at most the last of them failed, and a read fault is told only there. All files
-    // together give at most one byte past the limit for each that was tried.
+    // The attempts to read files are those of `fetches_of`, at most the last of them failed, and a read fault is
+    // reported only then. For each attempt at most one byte past the file's limit is read.
     ensures reading { ReadsInOrder words.now (files_view F.known_files F.attempts F.taken files.old) (files_view F.known_files F.attempts F.taken files.new)
         (output_view K.written K.faults out.old) (output_view K.written K.faults out.new) result }
     ensures taken { TakesWithin (limit_of words.now) (files_view F.known_files F.attempts F.taken files.old)
         (files_view F.known_files F.attempts F.taken files.new) result }
 
-    // A write fault is told only where one happened and always where one did, and what was written is the prefix of a text.
+    // A write fault is reported exactly if a write failed, and what was written is a prefix of a whole text.
     ensures write_fault { result ≡ Status.WriteFault → Rose (K.faults out.old) (K.faults out.new) }
     ensures write_reported { K.faults out.old < K.faults out.new → result ≡ Status.WriteFault }
     ensures writing { WritesFront words.now (files_view F.known_files F.attempts F.taken files.old) (files_view F.known_files F.attempts F.taken files.new)
         (output_view K.written K.faults out.old) (output_view K.written K.faults out.new) result }
 
-    // Without memory nothing was written, but by a command that writes in parts, which has written the prefix of an output.
+    // If memory ran out, nothing was written, except by a command that writes in parts, which has written a prefix of
+    // an output.
     ensures memory { result ≡ Status.Memory → writes_early words.now ≡ false → K.written out.new ≡ K.written out.old }
     ensures memory_front { StopsInFront words.now (files_view F.known_files F.attempts F.taken files.old)
         (output_view K.written K.faults out.old) (output_view K.written K.faults out.new) result }
 
-    // What is valid is answered, unless a read, a write or memory failed.
+    // Valid words and files are answered, unless a read, a write or memory failed.
     ensures completeness { AnswersValid words.now (files_view F.known_files F.attempts F.taken files.old) (files_view F.known_files F.attempts F.taken files.new)
         (output_view K.written K.faults out.old) (output_view K.written K.faults out.new) result }
 
-    // The usage line is printed exactly for words that are no command.
+    // The usage line is printed only for words that are no command, and for these unless a write or memory failed.
     ensures usage { IsUsageReport words.now result }
 {
     perform(rt, alloc, words, files, out)
 }
 
-/// The same words and files have one output: one text and one status. Left open is which of several cycles or recursions an error shows.
+/// The same words and files have one output: one text and one status. This leaves open which of several cycles or
+/// recursions an error shows.
 pub fn one_output()
     ensures { (words : List (List ℕ)) (disk : Disk) (one other : List ℕ) (status outcome : Status) →
         Output words disk one status → Output words disk other outcome → AreOneOutput one status other outcome }

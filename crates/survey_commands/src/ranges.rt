@@ -1,4 +1,4 @@
-//! The facts that ranges give the inputs, and the lines by which ranges are refused.
+//! The facts of inputs that ranges give, and the error lines of ranges.
 ghost use Rattle.std.specs.Prelude.{◌≡◌, ◌∷◌, [], codes, decimal, length};
 ghost use Rattle.m_places.specs.Refusals.{Says};
 ghost use Rattle.m_names.specs.Names.{AreDistinct};
@@ -21,7 +21,7 @@ use m_ports::{Sink, give_pieces};
 use observables::Coded;
 use std::alloc::Global;
 
-/// What may be given of each of so many inputs, by these ranges or, where there are none, by the inputs' types.
+/// The possible values of each of `count` inputs, by these ranges, or without ranges by the inputs' types.
 pub(crate) fn given_facts(
     alloc: Global,
     inputs: &[Coded],
@@ -38,7 +38,7 @@ pub(crate) fn given_facts(
     }
 }
 
-/// Tells the fault of ranges by its line, or that there was no memory. It takes no memory.
+/// Reports the fault of ranges by its line, or out of memory by no line. Takes no memory.
 pub(crate) fn report_ranges<K: Sink>(fault: HouseholdFault, out: &mut K) -> Status
     ensures { ReportsLine (ranges_fault_line fault) (output_view K.written K.faults out.old) (output_view K.written K.faults out.new) result }
 {
@@ -54,7 +54,7 @@ pub(crate) fn report_ranges<K: Sink>(fault: HouseholdFault, out: &mut K) -> Stat
     }
 }
 
-// Tells of the file as a whole.
+// Reports a fault of the whole file.
 fn report_file<K: Sink>(words: &[u8], out: &mut K) -> Status
     ensures { Prints (joined (codes "refused ranges: " ∷ words.now ∷ new_line ∷ [])) Refused
         (output_view K.written K.faults out.old) (output_view K.written K.faults out.new) result }
@@ -65,7 +65,7 @@ fn report_file<K: Sink>(words: &[u8], out: &mut K) -> Status
     )
 }
 
-// Tells of the record with this number.
+// Reports a fault of the record with this number.
 fn report_row<K: Sink>(line: u32, words: &[u8], out: &mut K) -> Status
     ensures { Prints (joined (codes "refused ranges line " ∷ decimal line ∷ codes ": " ∷ words.now ∷ new_line ∷ [])) Refused
         (output_view K.written K.faults out.old) (output_view K.written K.faults out.new) result }

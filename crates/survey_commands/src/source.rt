@@ -1,4 +1,4 @@
-//! A table by a source.
+//! `table` for a source.
 ghost use Rattle.std.specs.Prelude.{◌≡◌, IfOk, IsTrue};
 ghost use Rattle.m_places.specs.Refusals.{Outcome};
 ghost use Rattle.m_places.specs.SourceLimits.{SourceKeepsLimits};
@@ -23,8 +23,9 @@ use m_ports::Sink;
 use std::alloc::Global;
 use std::thread::Threads;
 
-/// Prepares the code of a source, and prints what it answers to the rows of the table of these bytes as csv, or the line by which one of them
-/// is refused. The rows are computed and written in groups, so that a prefix of the answer is written where memory ends it.
+/// Prepares the code of a source, and prints its answers to the rows of the table of these bytes as CSV, or the line
+/// of the first fault of the two. Rows are computed and written in groups, so a prefix of the answer is written if
+/// memory runs out.
 pub(crate) fn table_source<R: Threads + Sync, K: Sink>(
     rt: &R,
     alloc: Global,
@@ -41,7 +42,7 @@ pub(crate) fn table_source<R: Threads + Sync, K: Sink>(
     }
 }
 
-// Prepares the code of a source, or tells the source's fault.
+// Prepares the code of a source, or gives the source's fault.
 fn prepare_code<R: Threads + Sync>(
     rt: &R,
     alloc: Global,
@@ -57,7 +58,7 @@ fn prepare_code<R: Threads + Sync>(
     }
 }
 
-// The code of what a source is compiled to.
+// The code of a compiled source.
 fn code_of(compiled: Compiled) -> Loaded
     requires { IsTrue (counts_agree compiled.code compiled.face.inputs compiled.face.labels compiled.face.outputs) }
     ensures code { result.code ≡ compiled.code }
@@ -71,7 +72,7 @@ fn code_of(compiled: Compiled) -> Loaded
     Loaded { code, face }
 }
 
-/// Tells the fault of a source by its line, or that there was no memory.
+/// Reports the fault of a source by its line, or out of memory by no line.
 pub(crate) fn report_source<K: Sink>(source: &Source, fault: SourceFault, out: &mut K) -> Status
     ensures { ReportsLine (source_line source.now.texts fault) (output_view K.written K.faults out.old) (output_view K.written K.faults out.new) result }
 {

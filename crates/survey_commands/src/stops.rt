@@ -1,4 +1,4 @@
-//! The field of what ended a run.
+//! The field of a stop.
 ghost use Rattle.std.specs.Prelude.{◌∷◌, [], ◌<◌, ◌≡◌, length, codes, decimal};
 ghost use Rattle.m_ports.specs.Giving.{Gives};
 ghost use Rattle.m_text.specs.Pieces.{joined};
@@ -11,7 +11,7 @@ use m_places::Label;
 use m_ports::{Failed, Sink, give_pieces};
 use observables::{FaceLabel, Stop};
 
-/// Gives the field of a stop: `failed 2000 A20`, `over verification 2000 A20` or `over driver line 2`.
+/// Writes the field of a stop: `failed 2000 A20`, `over verification 2000 A20` or `over driver line 2`.
 pub(crate) fn give_stop<K: Sink>(
     labels: &[FaceLabel],
     stop: Stop,

@@ -1,4 +1,4 @@
-//! A table: what code answers to its rows is printed as csv.
+//! A table: prints the answers of code to its rows as CSV.
 ghost use Rattle.std.specs.Prelude.{◌≡◌, IfOk, Ok, Err, length};
 ghost use Rattle.std.specs.List.{AllByRecursion};
 ghost use Rattle.m_places.specs.Refusals.{Outcome};
@@ -28,7 +28,7 @@ use m_ports::{FixedText, Sink};
 use std::alloc::{AllocError, Global};
 use std::thread::Threads;
 
-/// Prints what code answers to the rows of the table of these bytes as csv, or the line by which that is refused.
+/// Prints the answers of code to the rows of the table of these bytes as CSV, or the line of the table's fault.
 pub(crate) fn answer_table<R: Threads + Sync, K: Sink>(
     rt: &R,
     alloc: Global,
@@ -52,7 +52,7 @@ pub(crate) fn answer_table<R: Threads + Sync, K: Sink>(
     }
 }
 
-// The rows of the table of these bytes, by the inputs of code.
+// The rows of the table of these bytes, for the code's inputs.
 fn rows_of<R: Threads + Sync>(
     rt: &R,
     alloc: Global,
@@ -68,7 +68,7 @@ fn rows_of<R: Threads + Sync>(
     read_table(rt, alloc, table, &codes)
 }
 
-// The codes of the inputs of code. Its only error is running out of memory.
+// The codes of the inputs of code. The only error is out of memory.
 fn codes_by(alloc: Global, loaded: &Loaded) -> Result<Codes, AllocError>
     requires { IsRunnableCode loaded.now }
     ensures { IfOk result (λ codes. codes ≡ loaded.now.face.inputs) }
@@ -76,7 +76,7 @@ fn codes_by(alloc: Global, loaded: &Loaded) -> Result<Codes, AllocError>
     Codes::new(alloc, loaded.face.inputs.as_slice(), loaded.code.inputs())
 }
 
-// Computes rows, and prints the first record and theirs.
+// Computes rows, and prints the first record and the records of the rows.
 fn print_table<R: Threads + Sync, K: Sink>(
     rt: &R,
     alloc: Global,
@@ -95,7 +95,7 @@ fn print_table<R: Threads + Sync, K: Sink>(
     Ok(())
 }
 
-// The status after rows that were written or not.
+// The status after printing rows.
 fn status_of(written: Result<(), PrintFault>) -> Status
     ensures { result ≡ rows_status written }
 {

@@ -10,7 +10,7 @@ use m_fixed::{Amount, Value, write_amount};
 use m_ports::{Failed, Sink, give_pieces};
 use observables::FaceOutput;
 
-/// Gives the values of outputs with names, each after a comma.
+/// Writes the values of outputs with names, each after a comma.
 pub(crate) fn give_values<K: Sink>(
     outputs: &[FaceOutput],
     values: &[Value],

@@ -1,13 +1,13 @@
 use m_places::{Seq, Source};
 
-/// What a command has gathered, and is left to answer.
+/// What a command has gathered, and has to answer.
 #[derive(Drop)]
 pub enum Work {
     /// This table by this source.
     Table(Source, Seq<u8>),
-    /// What holds by this source within these ranges, where there are some.
+    /// The facts of this source within these ranges, if any.
     Facts(Source, Option<Seq<u8>>),
-    /// This table, which is the second, by this code file.
+    /// This table (the second) by this code file (the first).
     CodeTable(Seq<u8>, Seq<u8>),
     /// The line of the version.
     Version,

@@ -1,4 +1,4 @@
--- What a line does to the values of the inputs, put into a list that has them too.
+-- How a line changes the values of the inputs, and the same change in another list of these values.
 use Rattle.std.proofs.Common.{◌≡◌, ℕ, ℤ, ◌+◌, ◌<◌, zero, suc, List, [], ◌∷◌, ◌++◌, length, take, set, Bool, true, false, cond, Option, Some, Result, Ok, Err}
 use Rattle.std.proofs.Common.{refl, sym, ap, ◌∙◌, subst, arith}
 use Rattle.std.proofs.lemmas.Grind.{take-set_at}
@@ -17,13 +17,13 @@ use Rattle.household_session.specs.Commands.{SessionCommand, no_words, sets, cle
 use Rattle.household_session.specs.Replies.{command_values, input_named}
 use Rattle.household_session.specs.Sessions.{Showing, parsed_clear, parsed_set, values_edited}
 
--- what stands at a place is put there once more
+-- writing the value that a place already has
 set_same : (l : List Value) (n : ℕ) → set l n (value_at l n) ≡ l
 set_same [] n = refl
 set_same (x ∷ l) zero = refl
 set_same (x ∷ l) (suc n) = ap (λ rest. x ∷ rest) (set_same l n)
 
--- and what was put there before
+-- reading the value just written at a place
 set_put : (l : List Value) (n : ℕ) (v : Value) → set l n (value_at (set l n v) n) ≡ set l n v
 set_put [] n v = refl
 set_put (x ∷ l) zero v = refl
@@ -56,7 +56,7 @@ named_edit showing values shows input is = absurd (cc is)
 named_edit showing values too_long input is = absurd (cc is)
 named_edit showing values bad input is = absurd (cc is)
 
--- ---- values that are put one after another
+-- ---- values written one after another
 
 pub put_next : (l values : List Value) (n : ℕ) → n < length l → length l ≡ length values → take n l ≡ take n values
     → take (n + 1) (set l n (value_at values n)) ≡ take (n + 1) values
@@ -64,14 +64,14 @@ put_next l values n few same is =
     take-set_at l n (n + 1) (value_at values n) refl few ∙ ap (λ front. front ++ value_at values n ∷ []) is
     ∙ sym (take_more values n Undef (omega (arith, few, same)))
 
--- there is a value for each input
+-- each input has a value
 pub as_many : (inputs : List Coded) (values : List Value) → AreValuesOf inputs values → length inputs ≡ length values
 as_many [] [] all = refl
 as_many [] (v ∷ values) all = absurd all
 as_many (input ∷ inputs) [] all = absurd all
 as_many (input ∷ inputs) (v ∷ values) all = ap (λ n. suc n) (as_many inputs values all.1)
 
--- the input that a line names is there
+-- a named input is one of the inputs
 pub named_within : (inputs : List Coded) (command : SessionCommand) (input : ℕ) → input_named inputs command ≡ Some input → input < length inputs
 named_within inputs no_words input is = absurd (cc is)
 named_within inputs (sets code amount) input is = code_known inputs code input is

@@ -1,4 +1,4 @@
--- What a session that is joined to a reporter tells and keeps.
+-- What a session joined to a reporter replies, and what it keeps.
 use Rattle.std.proofs.Common.{◌≡◌, ℕ, set, List, ◌∷◌, ◌++◌, None, Some, sym, ap, ◌∙◌, subst}
 use Rattle.std.specs.Option.{option_map_or}
 use Rattle.std.specs.Prelude.{codes}
@@ -22,9 +22,9 @@ use Rattle.why_session.specs.inner.Parts.{AreJoined}
 use Rattle.why_session.proofs.LineLemmas.{line_then, why_then}
 use Rattle.why_session.proofs.EditLemmas.{named_edit}
 
--- ---- a reason
+-- ---- the reply to why
 
--- the lines that the reporter finds are what is told of the name
+-- the lines that the reporter finds are the explanation of the name
 pub reported_why : (joined : Joined) (name : List ℕ) (c : ℕ) (lines : List ReportLine) → AreJoined joined.seated joined.reporting joined.declared
     → request_cell joined.declared name ≡ Some c
     → lines ≡ why_lines joined.reporting.ordered (environment joined.reporting.env) c → explains_in joined name ≡ report_lines_of joined.declared lines
@@ -36,7 +36,7 @@ reported_why joined name c lines parts is found =
     (sym (parts.start.env ∙ ap (start_env joined.declared) parts.same))
     ∙ ap (report_lines_of joined.declared) (sym found)
 
--- of a name that no cell has
+-- a name that no cell has
 pub reported_unknown : (joined : Joined) (name : List ℕ) → request_cell joined.declared name ≡ None
     → explains_in joined name ≡ line (codes "refused unknown variable")
 reported_unknown joined name is =
@@ -44,7 +44,7 @@ reported_unknown joined name is =
     (why_lines joined.reporting.ordered (environment (start_env joined.declared joined.seated.sitting.values)) d)) o
     (line (codes "refused unknown variable"))) is
 
--- lines that were found leave all else
+-- finding lines changes nothing else
 pub found_stays : (seated : Seated) (reporting new : Reporting) (declared : Declared) (lines : List ReportLine) → AreJoined seated reporting declared
     → new ≡ with_lines reporting lines
     → IsStart declared new → AreJoined seated new declared
@@ -63,7 +63,7 @@ replies_stay seated reporting new declared lines is =
 
 -- ---- a line
 
--- what a line edits is put
+-- an edit is applied to the reporter
 pub line_put : (seated later : Seated) (reporting new : Reporting) (declared : Declared) (bytes : List ℕ) (input : ℕ) → AreJoined seated reporting declared
     → later.sitting ≡ after_line seated.sitting bytes → input_named seated.sitting.face.inputs (session_command bytes) ≡ Some input
     → new ≡ with_input reporting input (value_at later.sitting.values input) → IsStart declared new → AreJoined later new declared
@@ -78,7 +78,7 @@ line_put seated later reporting new declared bytes input parts after named put s
   cells = ap (λ (r : Reporting). r.ordered.base.cells) put ∙ parts.cells;
 }
 
--- the replies go on from the session after a line
+-- the replies after a line are those of the session that it leaves
 pub line_goes_on : (joined later : Joined) (bytes : List ℕ) → why_name bytes ≡ None → later.seated.sitting ≡ after_line joined.seated.sitting bytes
     → later.declared ≡ joined.declared
     → later.reporting.ordered ≡ joined.reporting.ordered → (lines : List (List ℕ))

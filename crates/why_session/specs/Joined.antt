@@ -1,4 +1,4 @@
--- A session that is joined to a reporter, as contracts see it.
+-- A session joined to a reporter, as contracts see it.
 use Rattle.std.specs.Prelude.{ℕ, List}
 use Rattle.household_session.specs.Seats.{Seated}
 use Rattle.household_session.specs.Sessions.{showing_of}
@@ -9,17 +9,17 @@ use Rattle.why_report.specs.Reasons.{why_lines}
 use Rattle.why_report.specs.Starts.{Reporting, start_env}
 use Rattle.why_session.specs.Explains.{Explaining, explained_replies, explanation}
 
--- A session, a reporter, and what is declared.
+-- A session, a reporter, and the declarations.
 pub record Joined : Type 0 where
   pub seated : Seated
   pub reporting : Reporting
   pub declared : Declared
 
--- what is told of a name by an ordered base: of its cell the reason that goes along the order
+-- the explanation of a name over an ordered base: the report of its cell, in the base's order
 abbrev pub explains_by : Declared → Ordered → Explaining
 explains_by declared ordered values name = explanation declared (λ c. why_lines ordered (environment (start_env declared values)) c) name
 
--- what is told of a name
+-- the explanation of a name for the current values
 abbrev pub explains_in : Joined → List ℕ → List ℕ
 explains_in joined name = explains_by joined.declared joined.reporting.ordered joined.seated.sitting.values name
 

@@ -1,4 +1,4 @@
-//! A session with reasons.
+//! A session that answers `why`.
 ghost use Rattle.std.specs.Prelude.{◌≡◌, ◌∷◌, ◌++◌, ◌<◌, List, ℕ, All, None, IfOk, length};
 ghost use Rattle.m_ports.specs.Giving.{Gives};
 ghost use Rattle.observables.specs.Inputs.{AreValuesOf};
@@ -22,7 +22,7 @@ use std::sync::ledger::Ledger;
 use value_sheet::Steps;
 use why_report::{ReportLine, Reporter, print_report};
 
-/// A session, and a reporter over what its inputs are as they are now. Contracts see both, and what is declared.
+/// A session, and a reporter that holds the current values of its inputs. Contracts see both, and the declarations.
 #[derive(Drop)]
 pub struct Explainer {
     session: Session,
@@ -46,8 +46,8 @@ impl Model for Explainer {
 }
 
 impl Explainer {
-    /// Joins a session to a reporter of a base, whose inputs are the session's and have its values. Its only error is running out of
-    /// memory, and no later call takes memory.
+    /// Joins a session to a reporter, whose inputs are the session's and have the same values. The only error is out
+    /// of memory, and no later call takes memory.
     pub fn new(
         alloc: Global,
         session: Session,
@@ -73,7 +73,7 @@ impl Explainer {
         })
     }
 
-    // Tells why the variable of a name has its value.
+    // Replies to `why NAME`.
     fn reply_to_why<K: Sink>(&mut self, name: &[u8], out: &mut K) -> Result<(), Failed>
         ensures gives { Gives K.written K.faults out.old out.new result (explains_in self.old name.now) }
         ensures stays { joined_replies self.new ≡ joined_replies self.old }
@@ -87,7 +87,7 @@ impl Explainer {
         }
     }
 
-    // Does a line that doesn't ask why. What it edits is put into the reporter too.
+    // Does a line other than `why`. An edit is applied to the reporter too.
     fn do_line<K: Sink, L: Ledger>(
         &mut self,
         line: &[u8],
@@ -132,7 +132,7 @@ impl Replier for Explainer {
     ghost long = { λ e one other lines a b. long_alike e one other lines a b };
 }
 
-// Puts the values of a session's inputs into a reporter that has as many.
+// Copies the values of a session's inputs to a reporter that has as many inputs.
 fn put_inputs(reporter: &mut Reporter, session: &Session)
     requires values { AreValuesOf session.now.sitting.face.inputs session.now.sitting.values }
     requires many { length session.now.sitting.face.inputs ≡ length reporter.old.inputs }
@@ -148,7 +148,7 @@ fn put_inputs(reporter: &mut Reporter, session: &Session)
     }
 }
 
-// Writes the lines of a reason, and then a line with a point.
+// Writes the lines of a report, and then a line with a point.
 fn print_lines<K: Sink>(symbols: &Symbols, lines: &[ReportLine], out: &mut K) -> Result<(), Failed>
     requires { All (λ line. line.cell < length (owners_from 0 symbols.now.variables)) lines.now }
     ensures { Gives K.written K.faults out.old out.new result (report_lines_of symbols.now lines.now) }

@@ -1,7 +1,10 @@
 //! A session that also explains why a variable has its value.
 //!
-//! This crate joins a session and a reporter over the same values of the inputs. It knows nothing of files, and nothing of how an
-//! input is cut into lines. Only the start takes memory.
+//! Uses a session and a reporter, over the same values of the inputs. Knows nothing of files, nor of how an input is
+//! cut into lines. Only the start takes memory.
+//!
+//! After each line that names an input the reporter gets that input's current value, so a rejected edit needs no case
+//! of its own.
 #![tactic(auto)]
 
 mod explainer;

@@ -1,4 +1,4 @@
-//! The lines that ask why.
+//! The lines `why NAME`.
 ghost use Rattle.std.specs.Prelude.{◌≡◌, ◌∷◌, option_copied};
 ghost use Rattle.household_session.specs.Commands.{line_words};
 ghost use Rattle.why_session.specs.Explains.{why_name, why_words};
@@ -7,7 +7,7 @@ use household_session::next_word;
 use m_places::limits::SESSION_LINE_BYTES;
 use m_text::without_return;
 
-/// The name that a line, without its line feed, asks about, if it asks why. Takes no memory.
+/// The NAME of a line `why NAME`, given without its line feed; None for any other line. Takes no memory.
 pub(crate) fn why_name(line: &[u8]) -> Option<&[u8]>
     ensures { option_copied result ≡ why_name line.now }
 {

@@ -6,10 +6,10 @@ use std::fs::{read, read_dir};
 use std::io;
 use std::rt::Files;
 
-/// The folder of the rows.
+/// The folder of all rows.
 const ROWS: &str = "rows";
 
-/// The folder of the files that rows share.
+/// The folder of the shared files.
 const SHARED: &str = "shared";
 
 /// The row of this name.
@@ -19,7 +19,7 @@ pub fn read_row<R: Files + AllocGlobal + Clone + Drop>(rt: &R, name: &str) -> io
     Ok(Row::new(files))
 }
 
-/// Adds the files of a row, and those that rows share.
+/// Adds the files of a row, and the shared files.
 fn add_row<R: Files + AllocGlobal + Clone + Drop>(
     rt: &R,
     name: &str,

@@ -1,12 +1,15 @@
-//! The worked rows as they are read: a row's words, files and input, what is wanted of its runs, and what befalls them. The program `rows` does them.
+//! The worked rows as they are read: a row's words, files and input, the expected observations of its runs, and the
+//! failures injected into its runs. The program `rows` runs them.
 //!
-//! A row is a folder of `rows/`. `words` has the words, between blanks (`run l.txt - - h.csv` where there is no such file), `typed` what is typed into the
-//! input (nothing), `text` what is printed (nothing) and `status` the number that the program ends with (0). `tried` has the names of the files that
-//! are fetched, in order, with a blank between and a `!` after one whose fetch fails (where there is no such file, any may be). `mishaps` has what
-//! befalls the row's runs, as `mishap.rt` says (`none`). The files of a run are those of the folder, under their own names; those that it lacks are the
-//! ones of `shared/`.
+//! Uses files and the versions in memory of m_ports. Knows nothing of commands, so that it is proved without what the
+//! programs call.
 //!
-//! This crate stands apart from the program, so that it is proved long before what the program calls is. It knows nothing of commands.
+//! A row is a folder of `rows/` with these files, each optional: `words` has the words, separated by blanks (default
+//! `run l.txt - - h.csv`), `typed` the input (empty), `text` the printed text (empty) and `status` the exit status
+//! (0). `tried` has the names of the fetched files, in order, separated by blanks, with a `!` after a name whose fetch
+//! fails (default: not checked). `mishaps` has the failures injected into the row's runs, as `mishap.rt` specifies
+//! (`none`). The files of a run are those of the folder, under their own names, and the files of `shared/` that the
+//! folder doesn't have.
 #![tactic(auto)]
 
 mod folder;

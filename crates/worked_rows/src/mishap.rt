@@ -1,17 +1,17 @@
-//! What befalls the runs of a row, by its file `mishaps`.
+//! The failures injected into the runs of a row, by its file `mishaps`.
 //!
-//! A line is a word with numbers, `N` or `N..M` (`M` too), and the row is run once for each number of each line:
+//! A line has a word with numbers, `N` or `N..M` (`M` included), and the row is run once for each number of each line:
 //!
-//! | Line | What befalls the run |
+//! | Line | Injected failure |
 //! |---|---|
-//! | `none` | nothing, as where the row has no such file |
-//! | `fetch N..M` | the fetch of a file fails that has this number, from 1 |
-//! | `read N..M` | the read of the input fails that has this number |
-//! | `write N..M` | the write fails that has this number |
-//! | `cut FILE N..M` | the file has only so many of its first bytes |
-//! | `long FILE` | the file has blanks alone, one more than most files may have bytes |
+//! | `none` | none, as for a row without this file |
+//! | `fetch N..M` | the fetch with this number, from 1, fails |
+//! | `read N..M` | the read of the input with this number fails |
+//! | `write N..M` | the write with this number fails |
+//! | `cut FILE N..M` | the file has only this many of its first bytes |
+//! | `long FILE` | the file has only blanks, one more than the limit of most files |
 //!
-//! Each call moves one byte, and where nothing befalls the run up to 7.
+//! Each call moves one byte, or up to 7 in a run without a failure.
 ghost use Rattle.std.specs.Prelude.{◌≤◌};
 
 use crate::row::{File, file_of};
@@ -19,7 +19,7 @@ use m_places::Name;
 use m_places::limits::FILE_BYTES;
 use std::alloc::{AllocError, Global};
 
-/// What can befall a run.
+/// The kinds of injected failures.
 #[derive(Clone, Copy)]
 enum Kind {
     Nothing,
@@ -30,7 +30,7 @@ enum Kind {
     Long,
 }
 
-/// The words that lines begin with.
+/// The first words of lines.
 static KINDS: [(&str, Kind); 6] = [
     ("none", Kind::Nothing),
     ("fetch", Kind::Fetch),
@@ -40,7 +40,7 @@ static KINDS: [(&str, Kind); 6] = [
     ("long", Kind::Long),
 ];
 
-/// What befalls a run: what it is, the file where it befalls one, the number, and the line that says so.
+/// An injected failure: its kind, the file that it changes (if it changes one), its number, and the line of `mishaps`.
 #[derive(Drop)]
 pub struct Mishap<'a> {
     pub line: &'a str,
@@ -49,7 +49,7 @@ pub struct Mishap<'a> {
     pub number: u32,
 }
 
-/// What befalls the runs of a line, of which there is one for each number from the first to the last.
+/// The injected failures of a line, one for each number from the first to the last.
 #[derive(Drop)]
 pub struct Mishaps<'a> {
     line: &'a str,
@@ -59,7 +59,7 @@ pub struct Mishaps<'a> {
     pub last: u32,
 }
 
-/// What a line says that begins with this word.
+/// The kind of a line with this first word.
 fn kind_of(word: &str) -> Option<Kind> {
     KINDS
         .iter()
@@ -83,7 +83,7 @@ fn calls(alloc: Global, fails: bool, number: u32) -> Vec<u64> {
 }
 
 impl<'a> Mishaps<'a> {
-    /// What a line says. None where it can't be read, or befalls no run of a row that has these files.
+    /// The failures of a line; None if the line is malformed, or can't cause a failure in a row with these files.
     pub fn new(line: &'a str, files: &[File]) -> Option<Mishaps<'a>> {
         let mut words = line.split_whitespace();
         let kind = kind_of(words.next()?)?;
@@ -109,7 +109,8 @@ impl<'a> Mishaps<'a> {
         }
     }
 
-    /// Whether they befall runs of a row that has these files: calls count from 1, and a file that is cut has the bytes that are left of it.
+    /// Whether they can occur in runs of a row with these files: calls are numbered from 1, and a file that is cut has
+    /// the bytes that are left of it.
     fn fail_run(&self, files: &[File]) -> bool {
         let can = match self.kind {
             Kind::Cut => match file_of(files, self.file) {
@@ -122,7 +123,7 @@ impl<'a> Mishaps<'a> {
         can && self.first <= self.last
     }
 
-    /// The one of this number.
+    /// The failure with this number.
     pub fn at(&self, number: u32) -> Mishap<'a> {
         Mishap {
             line: self.line,
@@ -144,22 +145,22 @@ impl Mishap<'_> {
         }
     }
 
-    /// The number of the fetch that fails, where one does.
+    /// The number of the fetch that fails, if any.
     pub fn failing_fetch(&self, alloc: Global) -> Vec<u64> {
         calls(alloc, matches!(self.kind, Kind::Fetch), self.number)
     }
 
-    /// The number of the read that fails, where one does.
+    /// The number of the read that fails, if any.
     pub fn failing_read(&self, alloc: Global) -> Vec<u64> {
         calls(alloc, matches!(self.kind, Kind::Read), self.number)
     }
 
-    /// The number of the write that fails, where one does.
+    /// The number of the write that fails, if any.
     pub fn failing_write(&self, alloc: Global) -> Vec<u64> {
         calls(alloc, matches!(self.kind, Kind::Write), self.number)
     }
 
-    /// Adds the file that it befalls, as it is then, where it befalls one of these.
+    /// Adds the file that the failure changes, with its changed bytes, if it is among these files.
     pub fn add_changed(
         &self,
         alloc: Global,
@@ -177,7 +178,7 @@ impl Mishap<'_> {
         Ok(())
     }
 
-    /// What is written of a text: what comes before the byte whose write fails.
+    /// What is written of a text: the bytes before the one whose write fails.
     pub fn written<'t>(&self, text: &'t [u8]) -> &'t [u8] {
         let before = (self.number as usize).saturating_sub(1);
         if matches!(self.kind, Kind::Write) && before < text.len() {

@@ -1,4 +1,4 @@
-//! What is done in a row, and what is wanted of it.
+//! The inputs of a row, and the expected observation.
 use crate::mishap::Mishap;
 use m_places::{Name, Word};
 use m_ports::{Attempt, MemFiles, MemSink};
@@ -7,16 +7,16 @@ use std::alloc::{AllocError, Global};
 /// A file: its name, and its bytes.
 pub type File = (Name, Vec<u8>);
 
-/// The words of a row that has none of its own.
+/// The words of a row without a file `words`.
 const WORDS: &[u8] = b"run l.txt - - h.csv";
 
-/// The status of a row that has none of its own.
+/// The status of a row without a file `status`.
 const STATUS: &[u8] = b"0\n";
 
-/// The status where not all of the text was written.
+/// The status if not the whole text was written.
 const CUT_OFF: &[u8] = b"4\n";
 
-/// What is done in a row, and what is wanted of it: the files of its folder, and after them those that rows share.
+/// A row: the files of its folder, and after them the shared files.
 #[derive(Drop)]
 pub struct Row {
     files: Vec<File>,
@@ -30,7 +30,7 @@ pub(crate) fn file_of<'a>(files: &'a [File], name: &str) -> Option<&'a [u8]> {
         .map(|(_, bytes)| bytes.as_slice())
 }
 
-/// Adds the words of a text, which stand between blanks.
+/// Adds the words of a text, which are separated by blanks.
 fn add_words(alloc: Global, words: &mut Vec<Word>, text: &[u8]) -> Result<(), AllocError> {
     for word in str::from_utf8(text).unwrap_or("").split_whitespace() {
         words.push(Name::new(alloc, word.as_bytes())?)?;
@@ -45,7 +45,7 @@ fn add_copy(alloc: Global, files: &mut Vec<File>, file: &File) -> Result<(), All
     Ok(())
 }
 
-/// Adds the names of files that were fetched, and a `!` after one whose fetch failed, as a line.
+/// Adds a line with the names of the fetched files, with a `!` after a name whose fetch failed.
 fn add_tried(seen: &mut Vec<u8>, attempts: &[Attempt]) -> Result<(), AllocError> {
     let mut between: &[u8] = b"";
     for attempt in attempts {
@@ -61,17 +61,17 @@ fn add_tried(seen: &mut Vec<u8>, attempts: &[Attempt]) -> Result<(), AllocError>
 }
 
 impl Row {
-    /// A row of the files of its folder, and after them those that rows share.
+    /// A row of the files of its folder, and after them the shared files.
     pub fn new(files: Vec<File>) -> Row {
         Row { files }
     }
 
-    /// The files, its own first.
+    /// The files, its own before the shared ones.
     pub fn files(&self) -> &[File] {
         self.files.as_slice()
     }
 
-    /// The bytes of its first file of this name, and these where there is none.
+    /// The bytes of its first file of this name, or `none`.
     fn bytes<'a>(&'a self, name: &str, none: &'a [u8]) -> &'a [u8] {
         file_of(self.files.as_slice(), name).unwrap_or(none)
     }
@@ -83,18 +83,19 @@ impl Row {
         Ok(words)
     }
 
-    /// What is typed into the input.
+    /// The input.
     pub fn typed(&self) -> &[u8] {
         self.bytes("typed", b"")
     }
 
-    /// The lines of its mishaps, without the last line feed.
+    /// The lines of its file `mishaps`, without the last line feed.
     pub fn mishaps(&self) -> &str {
         let text = str::from_utf8(self.bytes("mishaps", b"none")).unwrap_or("");
         text.strip_suffix('\n').unwrap_or(text)
     }
 
-    /// What is wanted of a run: the text, a line with the status, and the files that were tried, where the row has them.
+    /// The expected observation of a run: the text, a line with the status, and the attempted files, if the row has
+    /// them.
     pub fn wanted(&self, alloc: Global, mishap: &Mishap<'_>) -> Result<Vec<u8>, AllocError> {
         let mut wanted = Vec::new(alloc);
         self.add_wanted(mishap, &mut wanted)?;
@@ -115,7 +116,7 @@ impl Row {
         Ok(())
     }
 
-    /// The files of a run. The one that the mishap befalls comes first, and so counts.
+    /// The files of a run. A file changed by the failure comes first, and so is the one that is fetched.
     pub fn files_after(&self, alloc: Global, mishap: &Mishap<'_>) -> Result<Vec<File>, AllocError> {
         let mut files = Vec::new(alloc);
         self.add_after(alloc, mishap, &mut files)?;
@@ -135,7 +136,8 @@ impl Row {
         Ok(())
     }
 
-    /// What is seen of a run: what was printed, a line with the status, and the files that were tried, where the row has them.
+    /// The observation of a run: the printed text, a line with the status, and the attempted files, if the row has
+    /// them.
     pub fn seen(
         &self,
         alloc: Global,

@@ -1,4 +1,4 @@
--- What is printed of rows by code, and the status after it.
+-- What is printed for rows, given their code, and the status after it.
 use Rattle.std.specs.Prelude.{ℕ, ◌<◌, List, [], ◌++◌, Result, Ok, Err, length, slice_index_or}
 use Rattle.observables.specs.declared.answer.Answer.{Answer}
 use Rattle.observables.specs.declared.face.Face.{Face}
@@ -23,42 +23,42 @@ lines_by face at row answer = household_lines row.label face answer
 abbrev pub nothing_counted : ℕ → Row → Answer → ℕ
 nothing_counted at row answer = 0
 
--- what is expected of the row at a place
+-- the expectations of the row at a place
 abbrev pub expected_at : List (List (ℕ × Expected)) → ℕ → List (ℕ × Expected)
 expected_at expected at = slice_index_or expected at []
 
--- the lines of what is expected of the row at its place and isn't answered
+-- the lines of the expectations of the row at its place that aren't met
 abbrev pub mismatches_by : Face → List (List (ℕ × Expected)) → ℕ → Row → Answer → List ℕ
 mismatches_by face expected at row answer = mismatch_lines (output_names face.outputs) row.label (answer_values answer) (expected_at expected at)
 
--- how much that is
+-- the number of expectations of the row that aren't met
 abbrev pub misses_by : Face → List (List (ℕ × Expected)) → ℕ → Row → Answer → ℕ
 misses_by face expected at row answer = mismatch_count (answer_values answer) (expected_at expected at)
 
--- something is expected of the row at this place that may be compared with the answer
+-- the row at this place has expectations, which are within the outputs, and so can be compared with the answer
 pub record MayBeCompared (face : Face) (expected : List (List (ℕ × Expected))) (at : ℕ) (row : Row) (answer : Answer) : Type 0 where
   pub there : at < length expected
   pub expected_is : AreExpected (length face.outputs) (expected_at expected at)
   pub values : HasValueEach face answer
 
--- the lines of rows by code, where this is expected of them, and how much of it the code doesn't answer
+-- the lines of rows, given their code and their expectations, and the number of expectations that aren't met
 abbrev pub case_lines : Loaded → List Row → List (List (ℕ × Expected)) → List ℕ
 case_lines loaded rows expected = printed_text (mismatches_by loaded.face expected) 0 rows (answers_of loaded.code rows)
 
 abbrev pub case_count : Loaded → List Row → List (List (ℕ × Expected)) → ℕ
 case_count loaded rows expected = printed_count (misses_by loaded.face expected) 0 rows (answers_of loaded.code rows)
 
--- the text of rows by code
+-- the text of rows, given their code and their expectations
 abbrev pub case_text : Loaded → List Row → List (List (ℕ × Expected)) → List ℕ
 case_text loaded rows expected = case_lines loaded rows expected ++ count_line (length rows) (case_count loaded rows expected)
 
--- the status after rows that were written or not
+-- the status after printing rows
 abbrev pub rows_status : {T : Type 0} → Result T PrintFault → Status
 rows_status (Ok value) = Done
 rows_status (Err Memory) = NoMemory
 rows_status (Err Failed) = WriteFault
 
--- the status after cases that were written with so many mismatches, or not
+-- the status after printing cases with this number of mismatches
 abbrev pub compared_status : Result ℕ PrintFault → Status
 compared_status (Ok count) = count_status count
 compared_status (Err Memory) = NoMemory

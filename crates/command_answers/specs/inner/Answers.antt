@@ -1,4 +1,4 @@
--- The code file of code, the session that a tidy program begins, and what is answered with it.
+-- The code file of code, the session that a tidy program starts, and their answers.
 use Rattle.std.specs.Prelude.{◌≡◌, ℕ, ℤ, List, Some, Ok, Err}
 use Rattle.code_file.specs.Loading.{text_with}
 use Rattle.code_file.specs.Printable.{IsPrintable}
@@ -25,30 +25,31 @@ use Rattle.command_answers.specs.Sessions.{ended_replies, session_replies}
 use Rattle.command_answers.specs.Sources.{IsScheme}
 use Rattle.command_answers.specs.declared.program.Program.{Program}
 
--- the text is the code file of the code, and a form of it where its face is printable, and the command has done its work
+-- the text is the code file of the code, and a form of it where its face is printable, and the command has done its
+-- work
 pub data IsFileOf (loaded : Loaded) : List ℕ → Status → Type 0 where
   is_file : (IsPrintable loaded.face → IsFormOf (text_with loaded.code loaded.face) loaded) → IsFileOf loaded (text_with loaded.code loaded.face) Done
 
--- The source is valid, and the tidy program is to households what the source is.
+-- The source is valid, and the tidy program shows its scheme.
 pub record IsPrepared (source : Source) (program : Program) : Type 0 where
   pub scheme : Scheme
   pub valid : IsScheme source scheme
   pub shows : Shows scheme program.face (flat_run program.tidy)
 
--- the household of these bytes has no fault, and the session begins with it
+-- the household of these bytes has no fault, and the session starts with it
 pub record IsBegun (program : Program) (rows : List ℕ) (session : Sitting) : Type 0 where
   pub pairs : List (ℕ × ℤ)
   pub given : household_of program.face.inputs rows ≡ Ok pairs
   pub begins : session ≡ begun program.tidy program.face pairs
 
--- the session begins with the household of these bytes, and its reasons are those of this ordered base
+-- the session starts with the household of these bytes, and its reasons are those of this ordered base
 pub record IsExplainerOf (program : Program) (declared : Declared) (ordered : Ordered) (rows : List ℕ) (joined : Joined) : Type 0 where
   pub session : IsBegun program rows joined.seated.sitting
   pub declares : joined.declared ≡ declared
   pub orders : joined.reporting.ordered ≡ ordered
 
--- A session over an input, which tells this of names that it is asked about, ended: with an error of the household or for lack of memory before anything was
--- taken from the input, or it began and had its lines.
+-- How a session over an input ended, which explains names in this way: with a household error or out of memory before
+-- anything was read from the input, or it started and ran over the input.
 pub data IsServedBy (scheme : Scheme) (explains : Explaining) (rows : List ℕ) (heard reported : InputView) (old new : OutputView) (status : Status) : Type 0
   where
     refused : (line : List ℕ) (fault : HouseholdFault) → household_of scheme.inputs rows ≡ Err fault → household_fault_line fault ≡ Some line → reported ≡ heard

@@ -1,4 +1,4 @@
--- That what is read of a list is what it says. No reader of the contracts needs it.
+-- The reader's result is the reading of the list file. No reader of the contracts needs this.
 use Rattle.std.proofs.Common.{◌≡◌, ◌==◌, ℕ, ◌+◌, ◌≤◌, Bool, true, false, not, ◌&&◌, ◌||◌, List, [], ◌∷◌, ◌++◌, length, Option, Some, None, MatchOption}
 use Rattle.std.proofs.Common.{MatchResult, nat_le, refl, sym, ap, ◌∙◌, subst, arith, inl, inr}
 use Rattle.std.specs.List.{AllByRecursion, list_all}
@@ -14,7 +14,7 @@ use Rattle.command_plans.specs.Files.{files_of}
 use Rattle.command_plans.specs.Listing.{IsFileLine, IsFirstBad, missing, no_word, no_name, IsListing, IsListFault}
 use Rattle.command_plans.specs.inner.Reading.{is_word_byte, is_word, is_file_line, first_bad_from, files_read, lines_read, list_of}
 
--- tests and what they test
+-- tests and the properties that they decide
 all_test : (p : ℕ → Bool) (P : ℕ → Type 0) → ((b : ℕ) → P b → p b ≡ true) → (t : List ℕ) → AllByRecursion P t → list_all p t ≡ true
 all_test p P f [] h = refl
 all_test p P f (b ∷ t) h = and_from (p b) (list_all p t) (f b h.0) (all_test p P f t h.1)
@@ -76,7 +76,7 @@ pub test_file_line : (line : List ℕ) → is_file_line line ≡ true → IsFile
 test_file_line line e = let q = and_parts (nat_le (length line) FILE_NAME_BYTES) (is_utf8 line) e in
     (leb-true (length line) FILE_NAME_BYTES q.0, IsUtf8-from_is_utf8 line q.1)
 
--- lines before the first bad one, and it
+-- the lines before the first malformed one, that line, and those after it
 record FirstBadIn (number : ℕ) (lines : List (List ℕ)) (found : ℕ) : Type 0 where
   good : List (List ℕ)
   bad : List ℕ
@@ -118,7 +118,7 @@ first_bad_meaning number (line ∷ lines) = elim (cases_Bool (is_file_line line)
   })
 ]
 
--- what the lines after the application say
+-- the reading of the lines after the application
 files_meaning : (bytes application : List ℕ) (lines : List (List ℕ)) (found : Option ℕ) → lines_of bytes ≡ application ∷ lines → IsWord application
     → MatchOption found (AllByRecursion IsFileLine lines) (FirstBadIn 2 lines)
     → MatchResult (files_read application lines found) (IsListing bytes) (IsListFault bytes)

@@ -1,4 +1,4 @@
--- The course that a call of the program took, from which all its clauses follow.
+-- The course of a call of the program, from which all its clauses follow.
 use Rattle.std.specs.Prelude.{◌≡◌, ℕ, List, Option, Some, None, Ok, Err}
 use Rattle.tax_print.specs.FaultLines.{usage_line}
 use Rattle.command_plans.specs.Printing.{Prints, ReportsEnding, IsAnswered}
@@ -49,11 +49,11 @@ work_form (Check source rows report) = None
 work_form (Lint source) = None
 work_form (Cases source table) = Some form.Cases
 
--- this is what such a command gathers
+-- the work is of the command's form
 abbrev pub IsWorkOf : Command → Work → Type 0
 IsWorkOf wanted work = work_form work ≡ command_form wanted
 
--- what was gathered was answered
+-- how the work was answered
 abbrev pub WorkIsAnswered : Work → (heard reported : InputView) (old new : OutputView) → Status → Type 0
 WorkIsAnswered (Run source rows) heard reported old new status = (reported ≡ heard) × IsAnswered (RunReplies source rows) old new status
 WorkIsAnswered (Serve source rows) heard reported old new status = IsServed source rows heard reported old new status
@@ -65,8 +65,8 @@ WorkIsAnswered (Check source rows report) heard reported old new status = (repor
 WorkIsAnswered (Lint source) heard reported old new status = (reported ≡ heard) × IsAnswered (LintReplies source) old new status
 WorkIsAnswered (Cases source table) heard reported old new status = (reported ≡ heard) × IsWrittenInParts (CasesReplies source table) old new status
 
--- The words were no command, or there was no memory to copy them, or their command's plan ended before its files were
--- there, or it was gathered and answered.
+-- The words were no command, or there was no memory to copy them, or the plan of their command ended before its files
+-- were gathered, or the files were gathered and answered.
 pub data Course (words : List (List ℕ)) (before after : FilesView) (heard reported : InputView) (old new : OutputView) (status : Status) : Type 0 where
   is_no_command : command_of words ≡ None → after ≡ before → reported ≡ heard → Prints usage_line Usage old new status
       → Course words before after heard reported old new status

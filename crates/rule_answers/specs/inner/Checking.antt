@@ -1,4 +1,4 @@
--- What is answered to a report over what the cells begin with.
+-- The answer to a report, over the values that cells start with.
 use Rattle.std.specs.Prelude.{◌≡◌, ℕ, ◌+◌, ℤ, List, length, Option, None, Some, Ok, Err}
 use Rattle.m_fixed.specs.declared.amount.Value.{Value}
 use Rattle.tax_print.specs.FaultLines.{report_line}
@@ -17,13 +17,13 @@ use Rattle.command_plans.specs.declared.status.Status.{Status}
 use Rattle.command_plans.specs.declared.status.Status.TheVariants.{Done, Refused}
 use Rattle.rule_answers.specs.Checks.{report_fault_line, sound_line}
 
--- the household of these bytes has no fault, and the cells begin with these values for it
+-- the household of these bytes has no fault, and gives the cells these start values
 pub record IsStart (declared : Declared) (rows : List ℕ) (env : List Value) : Type 0 where
   pub pairs : List (ℕ × ℤ)
   pub given : household_of (inputs_declared declared) rows ≡ Ok pairs
   pub begins : env ≡ start_of declared (values_of pairs (length (inputs_declared declared)))
 
--- what is told of what is found of lines: the number of the first that isn't sound, or that they are sound
+-- the line that reports the result: the number of the first line that isn't sound, or that all are sound
 abbrev pub found_text : Option ℕ → List ℕ
 found_text None = sound_line
 found_text (Some position) = report_line (position + 1) words.NotSound
@@ -32,12 +32,12 @@ abbrev pub found_status : Option ℕ → Status
 found_status None = Done
 found_status (Some position) = Refused
 
--- what is answered to a report's lines
+-- the answer to a report's lines
 pub data LinesReplies (base : Base) (given : Environment) (lines : List ReportLine) : List ℕ → Status → Type 0 where
   unsound : (position : ℕ) → IsFirstUnsound base given lines position → LinesReplies base given lines (report_line (position + 1) words.NotSound) Refused
   sound : IsSound base given lines → LinesReplies base given lines sound_line Done
 
--- what is answered to a report
+-- the answer to a report
 pub data SaidReplies (declared : Declared) (base : Base) (given : Environment) (report : List ℕ) : List ℕ → Status → Type 0 where
   refused : {line : List ℕ} (fault : ReportFault) → parsed_report declared report ≡ Err fault → report_fault_line fault ≡ Some line
       → SaidReplies declared base given report line Refused

@@ -1,4 +1,4 @@
--- What is answered over a base and what its source is compiled to.
+-- The answer over a base and a compiled source.
 use Rattle.std.specs.Prelude.{ℕ, List}
 use Rattle.m_symbols.specs.Declarations.{Declared}
 use Rattle.micro_m.specs.declared.base.Base.{Base}
@@ -7,6 +7,6 @@ use Rattle.command_plans.specs.declared.status.Status.{Status}
 use Rattle.command_plans.specs.declared.status.Status.TheVariants.{Done}
 use Rattle.rule_answers.specs.Lints.{lint_text}
 
--- the text is that of what is found, and the command has done its work
+-- the text has the lines of the findings, and the command has done its work
 pub data IsLintOf (declared : Declared) (base : Base) (compiled : Compiled) : List ℕ → Status → Type 0 where
   is_lint : IsLintOf declared base compiled (lint_text declared base compiled) Done

@@ -1,4 +1,4 @@
--- The course that a call of the program took, from which all its clauses follow.
+-- The course of a call of the program, from which all its clauses follow.
 use Rattle.std.specs.Prelude.{◌≡◌, ℕ, Bool, true, false, List, Some, None, Ok, Err}
 use Rattle.command_plans.specs.Printing.{IsAnswered, Prints, ReportsEnding}
 use Rattle.command_plans.specs.Trips.{GoesAlong}
@@ -15,26 +15,26 @@ use Rattle.survey_commands.specs.declared.command.Command.{Command}
 use Rattle.survey_commands.specs.declared.work.Work.{Work}
 use Rattle.survey_commands.specs.declared.work.Work.TheVariants.{Table, Facts, CodeTable, Version}
 
--- whether what was gathered is answered in parts
+-- whether the work is answered in parts
 abbrev pub work_in_parts : Work → Bool
 work_in_parts (Table source table) = true
 work_in_parts (Facts source ranges) = false
 work_in_parts (CodeTable code table) = true
 work_in_parts Version = false
 
--- this is what such a command gathers
+-- the work is that of the command
 abbrev pub IsWorkOf : Command → Work → Type 0
 IsWorkOf wanted work = work_in_parts work ≡ writes_in_parts wanted
 
--- what was gathered was answered
+-- how the work was answered
 abbrev pub WorkIsAnswered : Work → OutputView → OutputView → Status → Type 0
 WorkIsAnswered (Table source table) old new status = IsWrittenInParts (SourceReplies source table) old new status
 WorkIsAnswered (Facts source ranges) old new status = IsAnswered (FactsReplies source ranges) old new status
 WorkIsAnswered (CodeTable code table) old new status = IsWrittenInParts (CodeReplies code table) old new status
 WorkIsAnswered Version old new status = Prints version_line Done old new status
 
--- The words were no command, or there was no memory to copy them, or their command's plan ended before its files were
--- there, or it was gathered and answered.
+-- The words were no command, or there was no memory to copy them, or the plan of their command ended before its files
+-- were gathered, or the files were gathered and answered.
 pub data Course (words : List (List ℕ)) (before after : FilesView) (old new : OutputView) (status : Status) : Type 0 where
   is_no_command : command_of words ≡ None → after ≡ before → Prints usage_line Usage old new status → Course words before after old new status
   has_no_memory : after ≡ before → new ≡ old → status ≡ Memory → Course words before after old new status

@@ -41,17 +41,17 @@ output_empty (Noted number) = []
 abbrev pub output_empties : List FaceOutput → List ℕ
 output_empties outputs = flat_map output_empty outputs
 
--- the verification that an output with this value notes, if it notes one
+-- the verification that an output with this value notes, if any
 abbrev pub output_note : List FaceLabel → FaceOutput → Value → Option Label
 output_note labels (Named name) v = None
 output_note labels (Noted number) v = reported_note labels number v
 
--- a note, where there are some before it or none
+-- a note, where the flag means that there are others before it
 abbrev pub note_text : Bool → Option Label → List ℕ
 note_text some None = []
 note_text some (Some label) = joined (between some ∷ label.verif ∷ codes " " ∷ label.error ∷ [])
 
--- the notes of outputs, where there are some before them or none
+-- the notes of outputs, where the flag means that there are others before them
 abbrev pub output_notes : Bool → List FaceLabel → List FaceOutput → List Value → List ℕ
 output_notes some labels [] vs = []
 output_notes some labels (output ∷ outputs) [] = []

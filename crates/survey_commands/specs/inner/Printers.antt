@@ -1,4 +1,4 @@
--- What is printed of rows by code, and the status after it.
+-- What is printed for rows, given their code, and the status after it.
 use Rattle.std.specs.Prelude.{ℕ, List, ◌++◌}
 use Rattle.observables.specs.Outputs.{names_of}
 use Rattle.observables.specs.declared.answer.Answer.{Answer}

@@ -1,4 +1,4 @@
--- What is true of a session that is joined to a reporter, and its replies to lines that are too long.
+-- The invariant of a session joined to a reporter, and its replies to lines over the length limit.
 use Rattle.std.proofs.Common.{◌≡◌, ℕ, ◌<◌, List, ◌∷◌, ◌++◌, length, Option, None, refl, sym, ap, ◌∙◌}
 use Rattle.std.specs.Option.{option_map_or}
 use Rattle.std.proofs.lemmas.Bool.{lt-leb}
@@ -14,21 +14,22 @@ use Rattle.why_report.specs.Starts.{IsStart, Reporting}
 use Rattle.why_session.specs.Explains.{Explaining, explained_replies, why_name}
 use Rattle.why_session.specs.Joined.{Joined, explains_by, joined_replies}
 
--- The parts fit: the reporter is over what is declared, and has the values of the session's inputs, which these may have.
+-- The parts fit: the reporter is over the declarations, and has the values of the session's inputs, each within its
+-- type.
 pub record AreJoined (seated : Seated) (reporting : Reporting) (declared : Declared) : Type 0 where
   pub start : IsStart declared reporting
   pub same : reporting.inputs ≡ seated.sitting.values
   pub values : AreValuesOf seated.sitting.face.inputs seated.sitting.values
   pub cells : reporting.ordered.base.cells ≡ length (owners_from 0 declared.variables)
 
--- what is too long asks for nothing that can be done, and not why
+-- a line over the length limit is no valid command, and no `why`
 too_long_is : (bytes : List ℕ) → SESSION_LINE_BYTES < length bytes → session_command bytes ≡ too_long
 too_long_is bytes long = rw (lt-leb (length bytes) SESSION_LINE_BYTES long) refl
 
 too_long_names_none : (bytes : List ℕ) → SESSION_LINE_BYTES < length bytes → why_name bytes ≡ None
 too_long_names_none bytes long = rw (lt-leb (length bytes) SESSION_LINE_BYTES long) refl
 
--- the replies to a line of which this is asked, and to further lines
+-- the replies to a line with this request, and to further lines
 abbrev replies_to_why : Showing → Explaining → List Value → List (List ℕ) → Option (List ℕ) → SessionCommand → List ℕ
 replies_to_why showing explains values lines wanted command =
     option_map_or (explains values) wanted (command_reply showing values command)
