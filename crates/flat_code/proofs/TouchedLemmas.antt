@@ -72,7 +72,7 @@ entry_same before now put vs ws (Lit v) same h = refl
 entry_same before now put vs ws (Do op a b c) same h =
     op_same op (value_at vs a) (value_at vs b) (value_at vs c) (value_at ws a) (value_at ws b) (value_at ws c) h
 
--- ---- what a test of arguments comes to
+-- ---- the value of a test of arguments
 
 pub some_argument_same : (f g : ℕ → Bool) (node : Node) → ((k : ℕ) → f k ≡ g k) → some_argument f node ≡ some_argument g node
 some_argument_same f g node h = ap (λ test. some_argument test node) (λ i. λ k. h k i)
