@@ -1,4 +1,4 @@
--- Which node stands for a node that is folded.
+-- Which node denotes a node that is folded.
 use Rattle.std.proofs.Common.{◌≡◌, ◌≢◌, ℕ, ◌<◌, Bool, true, false, not, eqb, ◌⊎◌, List, length, Some, None, Option, ℤ, pos, refl, ap, sym, ◌∙◌, subst, inl, inr}
 use Rattle.std.proofs.Common.{⊎_elim, arith}
 use mathlib.Core.Bool.{◌&&◌, ◌||◌}
@@ -34,7 +34,7 @@ pub ok-both : {E : Type 0} (r : Result ℕ E) (P Q R : ℕ → Type 0) → ((k :
 ok-both (Ok k) P Q R f p q = f k p q
 ok-both (Err e) P Q R f p q = tt
 
--- a node stands for itself
+-- a node denotes itself
 pub denoted-node : (count : ℕ) (nodes : List Node) (node : Node) (k : ℕ) → AreValid count nodes → k < length nodes → node_at nodes k ≡ node
     → Denotes nodes node k
 denoted-node count nodes node k valid lt e = record {
@@ -310,7 +310,7 @@ normal-entry inputs before (Lit v) = refl
 normal-entry inputs before (Do op a b c) = further op before a b c (nat_lt (arity_of op) 2) (nat_lt (arity_of op) 3) (ltb-true (arity_of op) 2)
     (ltb-true (arity_of op) 3)
 
--- what stands for the node with other arguments past the arity stands for the node
+-- what denotes the node with other arguments past the arity denotes the node
 pub denoted-normal : (nodes : List Node) (node : Node) (k : ℕ) → Denotes nodes (normalised node) k → Denotes nodes node k
 denoted-normal nodes node k h = record {
   within = h.within;
@@ -320,7 +320,7 @@ denoted-normal nodes node k h = record {
       h.value inputs plain ∙ entry-by r vs (normalised node) ∙ normal-entry inputs (value nodes inputs) node ∙ sym (entry-by r vs node);
 }
 
--- a literal stands for a node of which its value alone is possible
+-- a literal denotes a node whose only possible value it is
 pub denoted-literal : (count : ℕ) (old new : List Node) (node : Node) (w : Value) (k : ℕ) → AreValid count old → AreValid count new → Longer old new
     → IsNode count (length old) node → one_value (entry_of facts (entries_of facts old) node) ≡ Some w → k < length new → node_at new k ≡ Lit w
     → Denotes new node k
