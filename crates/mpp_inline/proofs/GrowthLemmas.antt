@@ -34,7 +34,7 @@ use Rattle.mpp_inline.proofs.UsableLemmas.{read-as-before}
 
 -- ---- labels
 
--- past the labels stands a line
+-- a label that doesn't exist reads as a driver line
 pub past-line : (labels : List FaceLabel) (l : ℕ) → length labels ≤ l → IsDriverLine (get_or labels l (DriverLine 0))
 past-line labels l h = subst IsDriverLine (sym (get_or_past labels l (DriverLine 0) h)) tt
 
@@ -220,7 +220,7 @@ faces-on {labels} {b} {c} l f = record {
   others = λ k h. new-then (faces b) k (face b k) (face c k) (nat_lt k (faces b)) refl (l.keeps_face k) (f.others k h) (l.new_faces k);
 }
 
--- what a check's label stands for, that older labels stay, and that new ones are lines
+-- the label of a check; old labels are unchanged, and new ones are driver lines
 pub record Faced (b c : Builder) (l : ℕ) (f : FaceLabel) : Type 0 where
   pub more : faces b ≤ faces c
   pub keeps : (j : ℕ) → j < faces b → face c j ≡ face b j
@@ -383,7 +383,7 @@ gives-lit v p s = gives-pushed (λ inputs. v) p tt (λ t. t) s (λ inputs. refl)
 pub gives-old : {b : Builder} (k : ℕ) → Sane b → IsUsable b k → Gives b b (λ inputs. at b inputs k) k
 gives-old k s h = record { grows = grows-none s; within = h; value = λ inputs. refl }
 
--- the same value in other words
+-- rewriting of the value
 pub gives-same : {b c : Builder} {k : ℕ} {v w : List Value → Value} → ((inputs : List Value) → v inputs ≡ w inputs) → Gives b c v k → Gives b c w k
 gives-same e g = record { grows = g.grows; within = g.within; value = λ inputs. g.value inputs ∙ e inputs }
 

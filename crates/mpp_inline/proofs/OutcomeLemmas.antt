@@ -1,4 +1,4 @@
--- Runs so far, and what comes after them.
+-- Run states and their continuations.
 use Rattle.std.proofs.Common.{◌≡◌, List, [], ◌∷◌, ◌++◌, Option, Some, None, refl, sym, ap, ◌∙◌}
 use Rattle.std.specs.Option.{option_or}
 use Rattle.m_places.specs.declared.verification.Label.{Label}

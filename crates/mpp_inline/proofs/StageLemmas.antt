@@ -1,4 +1,4 @@
--- Stages: the run so far against the meaning so far.
+-- Stages: the run so far, compared with the meaning of the driver so far.
 use Rattle.std.proofs.Common.{length, ◌≡◌, ℕ, ◌<◌, Bool, true, false, cond, List, [], ◌∷◌, get_or, set, slice_get, Option, Some, None, ◌⊎◌, inl, inr, ⊎_elim}
 use Rattle.std.proofs.Common.{not, refl, sym, ap, ◌∙◌, subst, arith, pos}
 use mathlib.Core.Bool.{◌&&◌}
@@ -162,7 +162,7 @@ verif-face labels number label is kind Undef e = refl
 verif-face labels number label is kind (Num z) e = stopped-number labels number label is (is_stopping (kind_at labels number)) (is_zero z) e kind
 verif-face labels number label is kind Over e = sym (ap (λ o. unless_stopped (option_map over o) (goes [] e)) is)
 
--- what a note tells whose node is 1 where this value is a number other than 0
+-- what a note reports whose node is 1 if this value is a number other than 0
 abbrev note_by : Label → Value → List Label
 note_by label v = cons_option (note_read (Verif label) (truth_of v)) []
 

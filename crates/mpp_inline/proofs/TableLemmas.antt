@@ -1,4 +1,5 @@
--- Tables read at an index: a choice for each cell comes to the cell that the index means.
+-- Tables read at an index: the choices for all cells give the value of the cell that the index
+-- selects.
 use Rattle.std.proofs.Common.{◌≡◌, ℕ, zero, suc, ◌+◌, ◌*◌, ◌/◌, ◌<◌, ◌≤◌, Bool, true, false, cond, ltb, leb, List, get_or, ⊎_elim, refl, sym, ap, ◌∙◌, arith, ℤ}
 use Rattle.std.proofs.Common.{pos, negsuc, subst}
 use Rattle.std.specs.Prelude.{neg_ℤ, int_le, unsigned_abs}

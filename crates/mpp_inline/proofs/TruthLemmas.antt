@@ -88,7 +88,7 @@ kinds-step (InputRole code) word kinds stated e = ap (λ ks. type_declared word 
 kinds-step (ComputedRole size) word kinds stated e = e
 kinds-step (Constant amount) word kinds stated e = e
 
--- they are those that are said
+-- they are the declared types
 pub kinds-stated : (vs : List Variable) → kinds_from vs ≡ kinds_of (filter_map input_declared vs)
 kinds-stated [] = refl
 kinds-stated (v ∷ vs) = kinds-step v.item.role v.item.value_word (kinds_from vs) (filter_map input_declared vs) (kinds-stated vs)

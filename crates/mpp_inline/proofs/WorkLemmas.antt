@@ -1,4 +1,4 @@
--- What is left, as the program grows, and what each command and item does to it.
+-- The work list as the program grows, and the effect of each command and item on it.
 use Rattle.std.proofs.Common.{Bor, ◌≡◌, ℕ, true, false, cond, List, [], ◌∷◌, ◌++◌, set, inl, inr, ⊎_elim, refl, sym, ap, ◌∙◌, subst, arith, pos}
 use Rattle.std.specs.List.{AllByRecursion}
 use Rattle.std.specs.declared.vec.Vec.{Vec}
@@ -135,7 +135,7 @@ rules-step-all {labels} {b} {c} {d} {f} {env} {env1} {env2} {g} xs ds frame defs
     step-written (picked 0 xs env1) r.placed (rules-stage xs defs checks r) refl
     (merged-received xs ds p frame (write p (held-picked ds env1 l.sane s.known)))
 
--- what is left, as the program grows
+-- the work list as the program grows
 pub entries-on : {b c : Builder} (inputs : List Value) (ps : List (ℕ × ℕ)) → Longer b c → AllByRecursion (λ p. IsUsable b p.1) ps
     → entries c inputs ps ≡ entries b inputs ps
 entries-on inputs [] l a = refl
@@ -210,7 +210,7 @@ standing-guard h s = record {
 pub own-guard : {whole : Whole} {b : Builder} {env : List ℕ} {g : ℕ} {ws : List Work} → Standing whole b env g ws → Guarding b g
 own-guard s = record { within = s.ready.placed.guard; bit = s.bit }
 
--- a command that leaves nothing
+-- a command that pushes no item
 pub step-moves : {whole : Whole} {b c : Builder} {env env' : List ℕ} {g : ℕ} {ws : List Work} (depth : ℕ) (a : Action) → Standing whole b env g ws
     → Step b c g env env' (does_one whole depth a) → Moves whole b c env' g ws ws (λ inputs. ahead whole b inputs env g depth a)
 step-moves {whole} {b} {c} {env} {env'} {g} {ws} depth a s t = record {
@@ -221,7 +221,7 @@ step-moves {whole} {b} {c} {env} {env'} {g} {ws} depth a s t = record {
       ∙ finish-on whole inputs ws (ahead whole b inputs env g depth a) t.base s.left;
 }
 
--- the same of a command in other words
+-- rewriting of the target
 pub step-moves-is : {whole : Whole} {b c : Builder} {env env' : List ℕ} {g : ℕ} {ws : List Work} {a a' : Action} (depth : ℕ) → a ≡ a'
     → Standing whole b env g ws → Step b c g env env' (does_one whole depth a) → Moves whole b c env' g ws ws (λ inputs. ahead whole b inputs env g depth a')
 step-moves-is {whole} {b} {c} {env} {env'} {g} {ws} {a} {a'} depth is s t = subst
