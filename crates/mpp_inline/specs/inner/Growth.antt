@@ -59,8 +59,8 @@ stop_read labels (Some stop) = Some (read_stop labels stop)
 abbrev pub stop_of : Builder → List Value → Option Cause
 stop_of b inputs = stop_read b.labels.items (first_stop (node_values inputs b.nodes.items) b.checks.items)
 
--- the verification that a note reports, given its label and its node's value; none if the value is
--- undefined or 0
+-- the verification that a note reports, given its label and its node's value; none unless the value
+-- is a number other than 0
 abbrev pub note_read : FaceLabel → Value → Option Label
 note_read label value = if is_reported value then verif_of label else None
 
