@@ -49,7 +49,7 @@ use Rattle.reg_machine.proofs.LawLemmas.{reading-none}
 
 -- ---- what is wrong
 
--- nothing is wrong with an instruction: its numbers can stand there, and something is known after it
+-- an instruction is valid: its numbers are, and there is a state after it
 pub right-parts : (code : Listing) (i : Instr) (s : State) → reading code ≡ Some s → wrong_behind code i ≡ None → (has_numbers code.counts s i ≡ true)
     × (t : State) × (moved i s ≡ Some t)
 right-parts code i s e f = from (has_numbers code.counts s i) refl (moved i s) refl (sym (ap (option_and_then (λ s. wrong_at code.counts s i)) e) ∙ f)

@@ -102,7 +102,7 @@ outputs-extend values v (Some x ∷ outputs) h =
     ap (λ y. y ∷ map (output_value values) outputs) (sym (get_or_append_left values (v ∷ []) Undef x h.0))
     ∙ ap (λ xs. value_at (values ++ v ∷ []) x ∷ xs) (outputs-extend values v outputs h.1)
 
--- what a check says of these two values
+-- the stop of a check with these two values
 abbrev stop_by : Check → Value → Value → Option Stop
 stop_by check guard condition = if is_one guard then stop_of check.over_only check.label condition else None
 
