@@ -98,7 +98,7 @@ given-none (x ∷ outputs) =
     ap (λ (b : Bool). (if b then Some x else None) ∷ replicate (length outputs) None) (sym (le-ltb x 0 (omega arith)))
     ∙ ap (λ os. (if ltb x 0 then Some x else None) ∷ os) (given-none outputs)
 
--- nothing is made, and nothing stands anywhere
+-- no node is made, and the tables are empty
 pub sound-start : (flat : Flat) (labels : ℕ) (counts : Counts) → IsValid flat → IsSmall flat labels
     → counts ≡ record { inputs = flat.inputs; slots = 4294967295; labels = labels; outputs = length flat.outputs }
     → Sound flat 0 0 0 (given_before 0 flat.outputs) (record { counts = counts; instrs = [] }) (look (replicate REGISTERS None)) (look []) 0

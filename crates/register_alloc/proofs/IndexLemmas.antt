@@ -28,7 +28,7 @@ put-none f k j y e =
     let ne : j ≢ k = λ is. none≢some y (sym (put-same f k None) ∙ subst (λ i. put f k None i ≡ Some y) is e) in
     (ne, sym (put-other f k None j ne) ∙ e)
 
--- what an entry that was put says, where it was free
+-- the entries after an entry is set that was free
 put-free : (f : ℕ → Option ℕ) (k x j : ℕ) → put f k (Some x) j ≡ None → (j ≢ k) × (f j ≡ None)
 put-free f k x j e =
     let ne : j ≢ k = λ is. none≢some x (sym (subst (λ i. put f k (Some x) i ≡ None) is e) ∙ put-same f k (Some x)) in
@@ -144,7 +144,7 @@ indexed-cleared owners places free k x h at =
     (subst (λ f. IsIndexed (put (look owners) k None) f (length owners) (free ++ k ∷ [])) (look-set places x None lt')
     (indexed-clear k x h at lt)))
 
--- what a cleared list says
+-- the entries of a cleared list
 pub cleared-only : (owners : List (Option ℕ)) (k x : ℕ) → ((i j y : ℕ) → look owners i ≡ Some y → look owners j ≡ Some y → i ≡ j) → look owners k ≡ Some x
     → (j y : ℕ) → look (set owners k None) j ≡ Some y → (look owners j ≡ Some y) × (y ≢ x)
 cleared-only owners k x apart at j y e =

@@ -41,7 +41,7 @@ use Rattle.register_alloc.proofs.StepLemmas.{next-node, next-test, next-give, pu
 use Rattle.register_alloc.proofs.OutputLemmas.{part-at, part-next, part-other, part-this, part-free, length-part, part-none, part-all, count-set, count-gave}
 use Rattle.register_alloc.proofs.OutputLemmas.{count-least, given-least, part-least}
 
--- any number of slots that the allocator comes to may stand in the code
+-- the code has room for every number of slots that the allocator reaches
 pub slots-fit : {flat : Flat} {made read checked : ℕ} {given : List (Option ℕ)} {code : Listing} {r s : ℕ → Option ℕ} {n : ℕ}
     → Sound flat made read checked given code r s n → (m : ℕ) → m ≤ width_of flat → m ≤ code.counts.slots
 slots-fit {flat} {made} {read} {checked} {given} {code} {r} {s} {n} h m le =
@@ -50,7 +50,7 @@ slots-fit {flat} {made} {read} {checked} {given} {code} {r} {s} {n} h m le =
     let slots : code.counts.slots ≡ 4294967295 = h.spelled.counted.slots in
     omega arith
 
--- all slots stand for live nodes, and one more node is live: they are fewer than the width
+-- if all slots hold live nodes, and one more node is live, the slots are fewer than the width
 pub slots-below : {flat : Flat} {made read checked : ℕ} {given : List (Option ℕ)} {code : Listing} {r s : ℕ → Option ℕ} {n : ℕ}
     → Sound flat made read checked given code r s n → (x : ℕ) → is_live flat made read checked x ≡ true → (In s x → ⊥)
     → ((k : ℕ) → k < n → is_some (s k) ≡ true) → n < width_of flat
@@ -77,7 +77,8 @@ busy-from : (live : ℕ → Bool) (o : Option ℕ) → is_busy live o ≡ true �
 busy-from live None e = absurd (true≢false (sym e))
 busy-from live (Some x) e = (x, refl, e)
 
--- all registers stand for live nodes, and one more node is held: there are fewer than the width
+-- if all registers hold live nodes, and one more node is held, the registers are fewer than the
+-- width
 pub registers-below : {flat : Flat} {made read checked : ℕ} {given : List (Option ℕ)} {code : Listing} {r s : ℕ → Option ℕ} {n : ℕ}
     → Sound flat made read checked given code r s n → (x : ℕ) → 0 < read → x < length flat.nodes → is_held flat (read - 1) x ≡ true → (In r x → ⊥)
     → ((k : ℕ) → k < REGISTERS → is_busy (is_live flat made read checked) (r k) ≡ true) → REGISTERS < width_of flat
@@ -117,7 +118,7 @@ held-by : {flat : Flat} {made read checked : ℕ} {given : List (Option ℕ)} {c
     → (h : Sound flat made read checked given code r s n) → (i x : ℕ) → r i ≡ Some x → h.spelled.state.registers i ≡ Some x
 held-by h i x at = ap (λ (f : ℕ → Option ℕ). f i) h.spelled.registers ∙ at
 
--- nothing is wrong with an instruction that may stand after the code so far
+-- an instruction that may follow the code so far is valid
 right-next : {flat : Flat} {made read checked : ℕ} {given : List (Option ℕ)} {code : Listing} {r s : ℕ → Option ℕ} {n : ℕ}
     → (h : Sound flat made read checked given code r s n) → (m : ℕ) (i : Instr) (after : State) → n ≤ m → m ≤ width_of flat
     → Next code m h.spelled.state i after → wrong_behind code i ≡ None
@@ -488,7 +489,7 @@ slots-grown old size k free lt grows j below =
     (cases_lt k (length old)))
     grows
 
--- `sound-store` by what `occupy` of the slots says
+-- `sound-store` by the contract of `occupy`
 pub sound-stored : {flat : Flat} {made read checked : ℕ} {given : List (Option ℕ)} {code : Listing} {r : ℕ → Option ℕ} (old new : List (Option ℕ))
     → Sound flat made read checked given code r (look old) (length old) → (k i x : ℕ) → k < length new → look old k ≡ None
     → ((j : ℕ) → look new j ≡ put (look old) k (Some x) j)
@@ -576,7 +577,7 @@ sound-made-at {flat} {made} {read} {checked} {given} {code} {s} {n} table h made
     subst (λ m. Sound flat m read checked given (with_instr code (instr_of node k q)) (look (set table k (Some made))) s n) e
     (sound-made table h k node q some is lt within has spare)
 
--- where all registers stand for live nodes at the next node, there are fewer than the width
+-- if all registers hold live nodes at the next node, the registers are fewer than the width
 pub turn-crowded : {flat : Flat} {made read checked : ℕ} {given : List (Option ℕ)} {code : Listing} {r s : ℕ → Option ℕ} {n : ℕ}
     → Sound flat made read checked given code r s n → read ≡ suc made → made < length flat.nodes
     → ((k : ℕ) → k < REGISTERS → is_busy (is_live flat made read checked) (r k) ≡ true) → REGISTERS < width_of flat

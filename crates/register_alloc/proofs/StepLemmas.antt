@@ -1,4 +1,4 @@
--- Instructions that may stand after code, and what is known after them.
+-- Instructions that may follow code, and the state after them.
 use Rattle.std.proofs.Common.{◌≡◌, ◌≢◌, ℕ, zero, suc, ◌+◌, ◌-◌, ◌*◌, ◌<◌, ◌≤◌, Bool, true, false, cond, eqb, ltb, max, ◌⊎◌, List, [], ◌∷◌, ◌++◌, length, get_or}
 use Rattle.std.proofs.Common.{set, take, drop, map, Option, None, Some, is_some, refl, ap, sym, ◌∙◌, subst, inl, inr, ⊎_elim, arith}
 use mathlib.Core.Bool.{◌&&◌}
@@ -35,8 +35,8 @@ use Rattle.register_alloc.specs.inner.Sound.{Once, Few, Sound, Counted, Spells, 
 use Rattle.register_alloc.specs.inner.Sound.{given_part, count_some, count_given}
 use Rattle.register_alloc.proofs.TableLemmas.{none≢some, put-same, put-other, put-cases, in-other, look-set, tables-store, tables-write, tables-pass}
 
--- An instruction that may stand after code of which `before` is known, where it has `count` slots or more; `after` is known
--- after it.
+-- An instruction that may follow code with `count` slots or more; `before` and `after` are the
+-- states around it.
 pub record Next (code : Listing) (count : ℕ) (before : State) (i : Instr) (after : State) : Type 0 where
   pub has : (n : ℕ) → count ≤ n → has_numbers (with_slots code n).counts before i ≡ true
   pub moves : moved i before ≡ Some after

@@ -40,7 +40,7 @@ look-set table k entry lt =
 pub none≢some : (x : ℕ) → None ≡ Some x → ⊥
 none≢some x e = cc
 
--- an entry stands within its table
+-- an entry is within its table
 pub look-within : (table : List (Option ℕ)) (k x : ℕ) → look table k ≡ Some x → k < length table
 look-within [] k x e = absurd (none≢some x e)
 look-within (entry ∷ table) zero x e = omega arith
@@ -66,7 +66,7 @@ tables-store live made r s k x t free lives away = record {
   placed = λ y l. ⊎_elim (λ p. inl p) (λ p. inr (in-other s k x y free p)) (t.placed y l);
 }
 
--- a node that stands in no register is written into one whose node is dead or stored
+-- a node that is in no register is written into one whose node is dead or stored
 pub tables-write : (live live' : ℕ → Bool) (made made' : ℕ) (r s : ℕ → Option ℕ) (k x : ℕ) → Tables live made r s → made ≤ made' → x < made' → (In r x → ⊥)
     → ((y : ℕ) → r k ≡ Some y → live y ≡ true → In s y) → ((y : ℕ) → live y ≡ true → live' y ≡ true) → ((y : ℕ) → live' y ≡ true → (y ≡ x) ⊎ (live y ≡ true))
     → Tables live' made' (put r k (Some x)) s

@@ -1,4 +1,4 @@
--- What the contracts of inner functions speak of. That of `allocate` needs none of it.
+-- Definitions that only the contracts of private functions use.
 pub mod Chain
 pub mod Index
 pub mod Last
