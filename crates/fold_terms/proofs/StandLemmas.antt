@@ -135,7 +135,7 @@ denoted-product-right count nodes a b c valid la lb one fact = record {
       ∙ same-product-left (v b) (v c) (value-is count nodes inputs b plain valid lb fact));
 }
 
--- what an opposite is the opposite of is an earlier node
+-- the argument of an opposite is an earlier node
 pub opposite-within : (count a x : ℕ) (node : Node) → IsNode count a node → IsOpposite node x → x < a
 opposite-within count a x node h n = let early : IsNode count a (Do Neg x n.second n.third) = subst (IsNode count a) n.is h in early.0
 
@@ -232,7 +232,7 @@ zero-possible (Some r) n h e =
     let high : pos 0 ≤ℤ r.1 = subst (λ n. n ≤ℤ r.1) e h.1 in
     rw (at_most r.0 (pos 0) low, at_most (pos 0) r.1 high) refl
 
--- a number that is possible where 0 is not is another
+-- if 0 isn't possible, a possible number isn't 0
 other-number : (f : Possible) (n : ℤ) → Holds f (Num n) → lacks_zero f ≡ true → is_zero n ≡ false
 other-number f n h e = go (is_zero n) refl
   where
@@ -241,7 +241,7 @@ other-number f n h e = go (is_zero n) refl
         ∙ not-true (may_be_zero f.range) (and-parts (is_some f.range) (not (may_be_zero f.range)) e).1))
     go false z = refl
 
--- a choice that surely takes a branch, where both are the same or the condition is never 0
+-- a choice that always takes one branch: its branches are equal, or its condition is never 0
 sure-choice : (f : Possible) (v x y : Value) → Holds f v → is_number f ≡ true → (x ≡ y) ⊎ (lacks_zero f ≡ true) → chosen v x y ≡ x
 sure-choice f Undef x y h s which = absurd (not-undef f Undef h (number-undef f.undef f.over s) refl)
 sure-choice f Over x y h s which = absurd (not-over f Over h (number-over f.undef f.over s) refl)
