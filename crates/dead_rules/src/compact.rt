@@ -35,7 +35,7 @@ fn put(nodes: &mut [Node], kept: usize, node: Node, live: bool) -> usize
     kept + 1
 }
 
-// Moves the kept nodes to the front of the list, renumbered.
+// Moves the kept nodes to the start of the list, renumbered.
 fn gathered(
     alloc: Global,
     inputs: u32,
