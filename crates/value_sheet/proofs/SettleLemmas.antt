@@ -1,4 +1,4 @@
--- A settle, from one node to the next.
+-- The loop of a settle, from one node to the next.
 use Rattle.std.proofs.Common.{◌≡◌, ◌≢◌, ℕ, zero, suc, ◌+◌, ◌<◌, ◌≤◌, Bool, true, false, ◌||◌, ◌&&◌, eqb, List, [], length, get_or, set, take, replicate, refl}
 use Rattle.std.proofs.Common.{sym, ◌∙◌, ap, subst, ⊎_elim, arith}
 use Rattle.std.specs.Prelude.{count_by}
@@ -75,7 +75,7 @@ settling_past m nodes now put old kept marks p begun steps all right lt none h =
       cost = h.cost ∙ ap (λ n. begun + n) (sym (count_by_more_no (is_touched put old new) nodes p (Lit Undef) lt uncounted));
     }
 
--- up to the next that is
+-- up to the next marked node
 pub settling_skip : (m : ℕ) (nodes : List Node) (now : List Value) (put : List Bool) (old kept : List Value) (marks : List Bool) (d p q begun steps : ℕ)
     → AreNodes m 0 nodes → IsRight nodes now put old → p + d ≡ q → q ≤ length nodes → ((k : ℕ) → p ≤ k → k < q → is_member marks k ≡ false)
     → IsSettling nodes put old (node_values now nodes) kept marks p begun steps → IsSettling nodes put old (node_values now nodes) kept marks q begun steps
