@@ -1,4 +1,4 @@
--- May depend, as a test and by steps.
+-- Dependence as a test, and as a path.
 use Rattle.std.proofs.Common.{◌≡◌, ℕ, ◌+◌, ◌<◌, ◌≤◌, Bool, true, false, List, [], ◌∷◌, ◌++◌, length, get_or, take, drop, refl, ap, sym, ◌∙◌, subst, inl, inr}
 use Rattle.std.proofs.Common.{⊎_elim, arith, length-append}
 use Rattle.std.specs.Prelude.{fold, ◌&&◌, ◌||◌, ◌⊎◌}
