@@ -71,7 +71,7 @@ get-default [] k c d lt = absurd (omega arith)
 get-default (x ∷ xs) zero c d lt = refl
 get-default (x ∷ xs) (suc k) c d lt = get-default xs k c d (omega arith)
 
--- a program in the tidy form is what the allocator needs
+-- a program in the tidy form satisfies the allocator's requirements
 pub valid-from : (flat : Flat) (labels : ℕ) → IsFlat flat → IsTidy flat → IsSmall flat labels → IsValid flat
 valid-from flat labels valid tidy small = record {
   nodes = λ p x node lt e. reads-below flat.inputs p x (get_or flat.nodes p node) (node-at flat.inputs flat.nodes p node lt valid.nodes) e;
@@ -192,7 +192,7 @@ checks-done flat checked valid within settled =
 
 -- ---- the end
 
--- What the code so far spells once all nodes are made, with the slots that there are.
+-- What the code so far denotes once all nodes are made, with the slots that exist.
 pub record Whole (flat : Flat) (code : Listing) : Type 0 where
   pub state : State
   pub read : reading code ≡ Some state
@@ -220,7 +220,7 @@ whole-from {flat} {made} {read} {checked} {code} {r} {s} {n} valid h all settled
           ∙ (λ i. Some (record { inputs = inputs i; nodes = nodes i; checks = checks i; outputs = flat.outputs }));
     }
 
--- nothing is wrong with the code once all nodes are made
+-- the code is valid once all nodes are made
 pub sealed-from : {flat : Flat} {made read checked : ℕ} {code : Listing} {r s : ℕ → Option ℕ} {n : ℕ} → IsValid flat
     → Sound flat made read checked (given_before made flat.outputs) code r s n → length flat.nodes ≤ made
     → (checked < length flat.checks → made ≤ moment_from 0 flat.checks checked) → code_fault (with_slots code n) ≡ None

@@ -289,7 +289,7 @@ sound-make {flat} {made} {read} {checked} {given} {code} {r} {s} {n} h k node q 
       few = few-push flat code n (instr_of node k q) h.few (spill-node node k q);
     }
 
--- the arguments of a node are read, and slots lose those that are dead
+-- the arguments of a node are read, and the slots of those that are dead are freed
 pub sound-pass : {flat : Flat} {made read checked : ℕ} {given : List (Option ℕ)} {code : Listing} {r s : ℕ → Option ℕ} {n : ℕ}
     → Sound flat made read checked given code r s n → (node : Node) (s' : ℕ → Option ℕ) → read < length flat.nodes → node ≡ node_at flat.nodes read
     → (checked < length flat.checks → read ≤ moment_from 0 flat.checks checked) → Cleared (λ x. reads x node) (is_live flat made (suc read) checked) s s'
@@ -364,7 +364,7 @@ loads-test {flat} {made} {read} {checked} {given} {code} {r} {s} {n} h check g k
     loads-next h n (Test g k check.over_only check.label) _ (omega arith) h.few.within (next-tested h check g k below is lt lt' guard condition) y
     ∙ sym (loads-now h y)
 
--- a check is done, and slots lose what is dead of what it read
+-- a check is done, and the slots of its dead nodes are freed
 pub sound-test : {flat : Flat} {made read checked : ℕ} {given : List (Option ℕ)} {code : Listing} {r s : ℕ → Option ℕ} {n : ℕ}
     → Sound flat made read checked given code r s n → (check : Check) (g k : ℕ) (s' : ℕ → Option ℕ) → checked < length flat.checks
     → check ≡ get_or flat.checks checked check → g < REGISTERS → k < REGISTERS → r g ≡ Some check.guard → r k ≡ Some check.condition
@@ -418,7 +418,7 @@ sound-test {flat} {made} {read} {checked} {given} {code} {r} {s} {n} h check g k
       few = few-push flat code n (Test g k check.over_only check.label) h.few refl;
     }
 
--- an output may be given
+-- an output may be set
 next-given : {flat : Flat} {made read checked : ℕ} {given : List (Option ℕ)} {code : Listing} {r s : ℕ → Option ℕ} {n : ℕ}
     → (h : Sound flat made read checked given code r s n) → (j k x : ℕ) → j < length flat.outputs → k < REGISTERS → get_or given j None ≡ None → r k ≡ Some x
     → Next code n h.spelled.state (Output j k) (record h.spelled.state { outputs = set h.spelled.state.outputs j (Some x) })
@@ -517,7 +517,7 @@ loads-stored {flat} {made} {read} {checked} {given} {code} {r} old size h k i x 
     let fits = slots-more old size h x grows live away in
     loads-next h size (Store k i) _ fits.0 fits.1 (next-store code size k i x h.spelled.state lt below (held-by h i x at)) y ∙ sym (loads-now h y)
 
--- a slot's number is one of 32 bits
+-- a slot's number fits in 32 bits
 pub slot-small : {flat : Flat} {made read checked : ℕ} {given : List (Option ℕ)} {code : Listing} {r : ℕ → Option ℕ} (old : List (Option ℕ)) (size : ℕ)
     → Sound flat made read checked given code r (look old) (length old) → (x : ℕ)
     → (size ≡ length old) ⊎ ((size ≡ suc (length old)) × ((j : ℕ) → j < length old → is_some (look old j) ≡ true)) → is_live flat made read checked x ≡ true
@@ -608,7 +608,7 @@ settled-from flat made checked check is le lt =
     let condition : check.condition ≡ (get_or flat.checks checked check).condition = ap (λ (c : Check). c.condition) is in
     omega (arith, moment-reads 0 flat.checks checked check lt)
 
--- one of the outputs is given, or isn't of this node
+-- an output is set, or isn't of this node
 pub sound-gave : {flat : Flat} {made read checked : ℕ} {code : Listing} {r s : ℕ → Option ℕ} {n : ℕ} (p j : ℕ)
     → Sound flat made read checked (given_part p j flat.outputs) code r s n → (j' k : ℕ) → suc j ≡ j' → j < length flat.outputs → k < REGISTERS → r k ≡ Some p
     → get_or flat.outputs j 0 ≡ p → Sound flat made read checked (given_part p j' flat.outputs) (with_instr code (Output j k)) r s n
@@ -627,7 +627,7 @@ pub loads-gave : {flat : Flat} {made read checked : ℕ} {code : Listing} {r s :
     → get_or flat.outputs j 0 ≡ p → (y : ℕ) → loads_of y (with_instr code (Output j k)) ≡ loads_of y code
 loads-gave {flat} p j h k lt lt' at is y = loads-give h j k p lt lt' (part-free p j flat.outputs lt is) at y
 
--- slots are fewer than numbers of 32 bits
+-- the number of slots fits in 32 bits
 pub slots-small : {flat : Flat} {made read checked : ℕ} {given : List (Option ℕ)} {code : Listing} {r s : ℕ → Option ℕ} {n : ℕ}
     → Sound flat made read checked given code r s n → n ≤ 200000000
 slots-small {flat} {made} {read} {checked} {given} {code} {r} {s} {n} h =
