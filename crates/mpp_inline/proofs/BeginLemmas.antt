@@ -1,4 +1,4 @@
--- The first nodes, and the answer at the end.
+-- The start and the end of the program.
 use Rattle.std.proofs.Common.{◌≡◌, ℕ, zero, suc, ◌+◌, ◌*◌, ◌<◌, ◌≤◌, Bool, true, false, cond, List, [], ◌∷◌, ◌++◌, map, take, drop, length, get_or, slice_get}
 use Rattle.std.proofs.Common.{replicate, Option, Some, None, not, refl, ◌⊎◌, inl, inr, ⊎_elim, sym, ap, ◌∙◌, subst, arith, add-one, ℤ, pos, length-append}
 use mathlib.Core.Bool.{◌||◌, ◌&&◌}
@@ -113,7 +113,7 @@ pub replicate-long : {A : Type 0} (n : ℕ) (x : A) → length (replicate n x) �
 replicate-long zero x = refl
 replicate-long (suc n) x = ap suc (replicate-long n x)
 
--- cells of the first variables, with those of the rest to come
+-- the cells of the first variables, followed by those of the others
 pub record Starting (b c : Builder) (all rest : List Variable) (next : ℕ) (env : List ℕ) : Type 0 where
   pub grows : Grows b c
   pub known : Known c env
@@ -354,7 +354,7 @@ notes-known : (n : ℕ) (labels : List FaceLabel) (ps : List (ℕ × ℕ)) → A
 notes-known n labels [] a = tt
 notes-known n labels (p ∷ ps) a = (a.0.node, notes-known n labels ps a.1)
 
--- a note's label is one of the base
+-- the label of a note belongs to the base
 apart : (f : FaceLabel) → IsDriverLine f → IsVerif f → ⊥
 apart (Verif label) line v = line
 apart (DriverLine line) l v = v

@@ -59,7 +59,7 @@ cut-place n = ap pos (omega arith)
 
 -- ---- the cells of a table
 
--- the same by the index in whole units
+-- the same, by the index in whole units
 abbrev among : Environment → ℕ → ℤ → ℕ → Value → Value
 among values first q zero other = other
 among values first q (suc n) other = among values first q n (cond (int_eq q (pos n)) (values (first + n)) other)
@@ -140,7 +140,7 @@ leb-of m h = grind (arith, nat_tests)
 leb-not : (m : ℕ) → m < 999999 → leb 999999 m ≡ false
 leb-not m h = grind (arith, nat_tests)
 
--- a negative index: above -1 it means the first cell, and else none
+-- a negative index: above -1 it selects the first cell, otherwise none
 negative : (values : Environment) (first size m d : ℕ) → suc m / 1000000 ≡ d → among values first (neg_ℤ (pos d)) size (cond (leb 999999 m) (Num (pos 0)) Undef)
     ≡ picked_value values (picked_at first size (neg_ℤ (pos d)))
 negative values first size m zero e =

@@ -1,4 +1,4 @@
--- The inputs of a flat program with their types, and who reads those of the type `Truth`.
+-- The types of a flat program's inputs, and the nodes that read inputs of type `Truth`.
 use Rattle.std.proofs.Common.{◌≡◌, ℕ, zero, suc, ◌+◌, ◌<◌, Bool, true, false, cond, List, [], ◌∷◌, ◌++◌, drop, length, get_or, Option, refl, ⊎_elim, sym, ap}
 use Rattle.std.proofs.Common.{◌∙◌, subst, arith, add-one, pos}
 use Rattle.std.specs.List.{AllByRecursion, cons_option, filter_map}
