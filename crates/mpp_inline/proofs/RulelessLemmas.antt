@@ -156,7 +156,7 @@ body-lighter rules cells bodies (suc turns) f =
           (body_among bodies f),
     )
 
--- the driver without calls of the rules weighs no more
+-- the weight of the driver without calls of the rules is no greater
 pub left-lighter : (core : Core) (base : Base) → weight_of (core_left core) base ≤ weight_of core base
 left-lighter core base =
     let r = base_weight base in

@@ -30,7 +30,7 @@ use Rattle.mpp_inline.specs.inner.Sizes.{positions_weight, body_size, block_size
 
 -- ---- terms
 
--- a term of a driver weighs at least 1
+-- the weight of a term of a driver is at least 1
 pub formula-pos : (t : Formula) → 1 ≤ formula_weight t
 formula-pos (lit v) = omega arith
 formula-pos (cell x) = omega arith
