@@ -538,7 +538,7 @@ numbered-push m n used k d h updates is away =
 pub numbered-distinct : (m : BTreeMap ℕ ℕ) (used : List ℕ) → IsNumbered m used → AreDistinct used
 numbered-distinct m used h = λ i j a b e. some-is i j (sym (h.all i a) ∙ ap (get nat_cmp m) e ∙ h.all j b)
 
--- ---- whether all outputs were given
+-- ---- whether all outputs were set
 
 pub whole-not : (d : Parts) (k : ℕ) → Draft d → k < d.outs → contains nat_cmp d.given k ≡ false → (s : State) → reading (listing d) ≡ Some s
     → false ≡ is_some (all_given s.outputs)

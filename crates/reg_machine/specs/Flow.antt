@@ -46,7 +46,7 @@ with_slots code slots = record {
   instrs = code.instrs;
 }
 
--- ---- what is known of code so far
+-- ---- the symbolic run
 
 -- a table, with the entry at place k replaced
 abbrev pub put : {A : Type 0} → (ℕ → A) → ℕ → A → ℕ → A
@@ -122,7 +122,7 @@ step n instr s = if has_numbers n s instr then moved instr s else None
 abbrev pub reading : Listing → Option State
 reading code = fold (λ s instr. option_and_then (step code.counts instr) s) (Some (start code.counts.outputs)) code.instrs
 
--- ---- what is wrong
+-- ---- errors
 
 -- the error of an instruction in this state, if any
 abbrev pub wrong_at : Counts → State → Instr → Option Wrong
