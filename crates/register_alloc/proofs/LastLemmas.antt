@@ -97,7 +97,7 @@ last-more read items i item n last last' lt is h same noted =
     ∙ ap (λ m. take m items) (sym e) in
     subst (λ xs. IsLast read xs n last') whole (last-push read (take i items) item n last last' (i + 1) at h same noted)
 
--- the same with another default
+-- the same, for another default
 pub last-more-at : {X : Type 0} (read : ℕ → X → Bool) (items : List X) (i : ℕ) (d item : X) (n : ℕ) (last last' : List ℕ) → i < length items
     → item ≡ get_or items i d → IsLast read (take i items) n last → length last' ≡ length last
     → ((x : ℕ) → x < length last → get_or last' x 0 ≡ (if read x item then i + 1 else get_or last x 0)) → IsLast read (take (i + 1) items) n last'
