@@ -3,8 +3,8 @@ use m_fixed::{Op, Value};
 /// The number of registers, which are numbered 0 to 15.
 pub const REGISTERS: u8 = 16;
 
-/// An instruction. Its first operand is the register that it writes; of `Store` it is the slot, of
-/// `Output` the output.
+/// An instruction. Its first operand is the register, slot or output that it writes. `Check` writes
+/// none.
 #[derive(Clone, Copy, Debug, PartialEq, Eq)]
 pub enum Instr {
     /// `Take(r, n)`: sets register r to input n.
