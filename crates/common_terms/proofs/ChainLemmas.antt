@@ -71,7 +71,7 @@ chained-same links links' heads n same h =
       head = λ b lt. h.head b lt ∙ last-same f f' b n bucket;
     }
 
--- one more node is put into its chain
+-- one more node is linked into its chain
 pub chained-step : (links links' : List Link) (heads heads' : List ℕ) (i place : ℕ)
     → ((j : ℕ) → (link_at links' j).hash ≡ (link_at links j).hash)
     → ((j : ℕ) → j < i → (link_at links' j).next ≡ (link_at links j).next)
@@ -126,7 +126,7 @@ hashes-set links i link lt same j = go (eqb j i) refl
         ∙ ap (λ j. (link_at links j).hash) (sym e)
     go false d = ap (λ (l : Link). l.hash) (get_or-set_other links i j link no-link (eqb-false j i d))
 
--- the same by what is written
+-- the same, for the list operations of the code
 pub chained-set : (links : List Link) (heads : List ℕ) (i place : ℕ) (link : Link) → i < length links → place < length heads
     → place ≡ bucket_of links (length heads) i → link.hash ≡ (link_at links i).hash → link.next ≡ get_or heads place 0 → AreChained links heads i
     → AreChained (set links i link) (set heads place (i + 1)) (i + 1)
@@ -250,7 +250,8 @@ table-added key nodes node links links' links'' new heads heads' n hash e cut mo
 
 -- ---- the search
 
--- The node isn't among those from `left` on; the one before `left` is the last of what is left of the node's chain.
+-- The loop invariant of the search: the node isn't among those from `left` on, and `left` is one
+-- more than the next candidate.
 pub record IsSearch (nodes : List Node) (links : List Link) (heads : List ℕ) (node : Node) (b left : ℕ) : Type 0 where
   pub within : left ≤ length nodes
   pub chain : (i : ℕ) → left ≡ suc i → bucket_of links (length heads) i ≡ b

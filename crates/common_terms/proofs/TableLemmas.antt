@@ -1,4 +1,4 @@
--- What a table of nodes has after a node was entered.
+-- The contents of a table of nodes after a node is entered.
 use Rattle.std.proofs.Common.{◌≡◌, ℕ, ◌+◌, ◌<◌, ◌⊎◌, List, [], ◌∷◌, ◌++◌, length, ◌≤◌, refl, ap, sym, subst, ◌∙◌, inl, inr, ⊎_elim, arith}
 use Rattle.std.specs.Prelude.{Result, Ok, Err, IfOk, OnOk, OnErr}
 use Rattle.std.proofs.lemmas.Bool.{cases_lt}
@@ -59,7 +59,7 @@ few-entered old new node k entered = ⊎_elim
     (λ a. let z : length new ≡ length old + 1 = ap length a.0 ∙ length_push old node in omega arith)
     entered.adds
 
--- the same, whatever the table answers
+-- the same, for every result of the table
 pub apart-either : {E : Type 0} (r : Result ℕ E) (old new : List Node) (node : Node) → AreApart old → IfOk r (IsEntered old new node) → OnErr r (new ≡ old)
     → AreApart new
 apart-either (Ok k) old new node apart entered same = apart-entered old new node k apart entered

@@ -1,4 +1,8 @@
-//! The nodes of a table, in buckets by their hashes. The nodes of a bucket are a chain: each has the number of the last one before it.
+//! The hash table. The nodes of a bucket form a linked list, its chain: each link has the number of
+//! the previous node of the bucket.
+//!
+//! Each node is stored once, in the vector of all nodes; the table adds eight bytes for each node
+//! (hash and link) and four for each bucket. An `indexmap` would keep a second copy of the nodes.
 ghost use Rattle.std.specs.Prelude.{◌≡◌, ℕ, ◌+◌, ◌%◌, ◌<◌, ◌≤◌, true, false, ◌∷◌, [], ◌++◌, length, take, IfSome, IfNone, IfOk, OnOk, OnErr, slice_index_or};
 ghost use Rattle.flat_code.specs.Entries.{node_at};
 ghost use Rattle.common_terms.specs.Numbers.{IsAbsent, IsEntered};
@@ -8,15 +12,16 @@ use crate::Key;
 use flat_code::Node;
 use std::alloc::{AllocError, Global};
 
-/// What is kept of a node: its hash, and the number after that of the last node before it in its bucket, or 0.
+/// The hash of a node, and one more than the number of the previous node in its bucket, or 0 if
+/// there is none.
 #[derive(Clone, Copy)]
 pub struct Link {
     pub hash: u32,
     pub next: u32,
 }
 
-/// Nodes, what is kept of each, and of each bucket the number after that of its last node, or 0. After the links of the nodes
-/// one may be left over.
+/// The nodes, the link of each, and for each bucket one more than the number of its last node, or
+/// 0. After an error there may be one more link than nodes.
 #[derive(Drop)]
 pub struct Chains {
     pub alloc: Global,
@@ -35,7 +40,7 @@ fn bucket(hash: u32, buckets: usize) -> usize
     hash as usize % buckets
 }
 
-// Puts node i into its chain, in which all nodes before it are.
+// Links node i into its chain. All nodes before it are linked.
 fn chain(links: &mut [Link], heads: &mut [u32], i: usize)
     requires within { i < length links.old }
     requires small { i < 4_294_967_295 }
@@ -55,7 +60,7 @@ fn chain(links: &mut [Link], heads: &mut [u32], i: usize)
     heads[place] = (i + 1) as u32;
 }
 
-// Puts the first so many nodes into chains, of which all are empty.
+// Links the first `count` nodes into chains that are all empty.
 fn chain_all(links: &mut [Link], heads: &mut [u32], count: usize)
     requires within { count ≤ length links.old }
     requires small { count ≤ 4_294_967_295 }
@@ -71,7 +76,7 @@ fn chain_all(links: &mut [Link], heads: &mut [u32], count: usize)
     }
 }
 
-// Adds a value at the end.
+// Appends a value.
 fn append<T: Copy>(list: &mut Vec<T>, value: &T) -> Result<(), AllocError>
     ensures ok { OnOk result (list.new.items ≡ list.old.items ++ value.now ∷ []) }
     ensures err { OnErr result (list.new.items ≡ list.old.items) }
@@ -81,7 +86,7 @@ fn append<T: Copy>(list: &mut Vec<T>, value: &T) -> Result<(), AllocError>
 }
 
 impl Chains {
-    // Whether node i is this one.
+    // Whether node i equals this one; the hashes are compared first.
     fn is_here(&self, i: u32, node: &Node, hash: u32) -> bool
         requires table { IsTable self.now.key self.now.nodes.items self.now.links.items self.now.heads.items }
         requires within { i < length self.now.nodes.items }
@@ -92,7 +97,7 @@ impl Chains {
         self.links[i as usize].hash == hash && self.nodes[i as usize] == *node
     }
 
-    // The number of the node, if it is there.
+    // The number of the equal node, if there is one.
     fn find(&self, node: &Node, hash: u32) -> Option<u32>
         requires table { IsTable self.now.key self.now.nodes.items self.now.links.items self.now.heads.items }
         requires hash { hash ≡ node_hash self.now.key node.now }
@@ -113,7 +118,7 @@ impl Chains {
         None
     }
 
-    // Makes more buckets where there are as many nodes.
+    // Rebuilds the table with more buckets if there are as many nodes as buckets.
     fn make_room(&mut self) -> Result<(), AllocError>
         requires table { IsTable self.old.key self.old.nodes.items self.old.links.items self.old.heads.items }
         requires few { length self.old.nodes.items < 4_294_967_295 }
@@ -132,7 +137,7 @@ impl Chains {
         Ok(())
     }
 
-    // Adds a node that isn't there.
+    // Appends a node that isn't in the table.
     fn add(&mut self, node: &Node, hash: u32) -> Result<u32, AllocError>
         requires table { IsTable self.old.key self.old.nodes.items self.old.links.items self.old.heads.items }
         requires few { length self.old.nodes.items < 4_294_967_295 }
@@ -152,7 +157,7 @@ impl Chains {
         Ok(count as u32)
     }
 
-    // The next number, under which a node is added that isn't there.
+    // Appends a node that isn't in the table, and returns its number.
     fn enter(&mut self, node: &Node, hash: u32) -> Result<u32, AllocError>
         requires table { IsTable self.old.key self.old.nodes.items self.old.links.items self.old.heads.items }
         requires few { length self.old.nodes.items < 4_294_967_295 }
@@ -167,7 +172,7 @@ impl Chains {
         self.add(node, hash)
     }
 
-    /// The number of the equal node that is there, or else the next number, under which this node is added.
+    /// The number of the equal node, which is added if there is none.
     pub fn find_or_add(&mut self, node: &Node) -> Result<u32, AllocError>
         requires table { IsTable self.old.key self.old.nodes.items self.old.links.items self.old.heads.items }
         requires few { length self.old.nodes.items < 4_294_967_295 }

@@ -1,4 +1,4 @@
-//! The key under which nodes are hashed.
+//! The keys of hash tables of nodes.
 ghost use Rattle.std.specs.Prelude.{◌≡◌};
 ghost use Rattle.common_terms.specs.inner.Chains.{hash_after, node_hash};
 
@@ -7,7 +7,7 @@ use m_fixed::Value;
 use sha2::{Digest, Sha256};
 use std::hash::{BuildHasher, DefaultHasher, Hash, Hasher};
 
-/// A key that nodes are hashed under: each hash goes on from where the key left the hasher.
+/// A key of hashes: the state of a hasher to which the key was fed. Each hash continues from it.
 #[derive(Clone, Copy)]
 pub struct Key {
     start: DefaultHasher,
@@ -29,9 +29,9 @@ impl Key {
     }
 }
 
-/// The digest of nodes, one taken after the other, of which a key is made.
+/// A digest (SHA-256) of nodes, from which a key is derived.
 ///
-/// Whoever chose the nodes chose them before the key was, so they can't be chosen to collide under it.
+/// The key depends on all nodes, so nodes can't be chosen so that they collide under it.
 #[derive(Drop)]
 pub struct NodesDigest {
     digest: Sha256,
@@ -45,7 +45,7 @@ impl NodesDigest {
         }
     }
 
-    /// Takes a further node.
+    /// Adds a node to the digest.
     pub fn take(&mut self, node: Node) {
         match node {
             Node::Input(n) => self.take_numbers(0, n, 0, 0),
@@ -74,7 +74,7 @@ impl NodesDigest {
         self.digest.update(&bytes);
     }
 
-    /// The key that is made of the nodes so far.
+    /// The key derived from the nodes so far.
     pub fn key(self) -> Key {
         let NodesDigest { digest } = self;
         let mut start = DefaultHasher::new();

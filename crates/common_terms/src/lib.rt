@@ -1,7 +1,10 @@
-//! Numbers of nodes: equal nodes have one number, and other nodes have others.
+//! Numbers nodes so that equal nodes share one number: a hash table of nodes, for common
+//! subexpression elimination.
 //!
-//! Whoever writes a rule file chooses its nodes, and so they are hashed under a key that nobody knows
-//! before they are chosen. This crate doesn't know what nodes compute.
+//! Uses `flat_code` for nodes and `sha2` for keys. Knows nothing of what nodes compute.
+//!
+//! The author of a rule file chooses its nodes. They are hashed under a key that is derived from a
+//! digest of all nodes, so no file can make its nodes collide.
 #![tactic(auto)]
 
 mod chains;

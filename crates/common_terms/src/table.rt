@@ -1,4 +1,4 @@
-//! A table of nodes.
+//! The table of nodes.
 ghost use Rattle.std.specs.Prelude.{◌≡◌, ◌<◌, [], length, IfOk, OnErr};
 ghost use Rattle.flat_code.specs.Entries.{node_at};
 ghost use Rattle.common_terms.specs.Numbers.{AreApart, IsEntered};
@@ -9,7 +9,7 @@ use flat_code::Node;
 use std::alloc::{AllocError, Global};
 use std::marker::Model;
 
-/// Nodes, no two of them equal, each with its number, from 0. Contracts see them as their list.
+/// Distinct nodes, numbered from 0. Contracts see them as their list.
 #[derive(Drop)]
 pub struct NodeTable {
     chains: Chains,
@@ -30,17 +30,17 @@ impl Model for NodeTable {
 }
 
 impl NodeTable {
-    /// A table without nodes. Takes no memory.
+    /// An empty table. Takes no memory.
     ///
-    /// Where strangers choose the nodes, `NodeTable::under` is given a key that was made of them: other
-    /// nodes are hashed under a key that anyone can know.
+    /// Its key is public. If the nodes come from an untrusted source, use `NodeTable::under` with a
+    /// key that is derived from them.
     pub fn new(alloc: Global) -> NodeTable
         ensures { result ≡ [] }
     {
         NodeTable::under(alloc, NodesDigest::new().key())
     }
 
-    /// A table without nodes, of which those that will be added are hashed under this key. Takes no memory.
+    /// An empty table that hashes nodes under this key. Takes no memory.
     pub fn under(alloc: Global, key: Key) -> NodeTable
         ensures { result ≡ [] }
     {
@@ -55,7 +55,7 @@ impl NodeTable {
         }
     }
 
-    /// How many nodes there are. Takes no memory.
+    /// The number of nodes. Takes no memory.
     pub fn count(&self) -> u32
         ensures { result ≡ length self.now }
     {
@@ -78,8 +78,8 @@ impl NodeTable {
         chains.nodes
     }
 
-    /// The number of the equal node that is there, or else the next number, under which this node is
-    /// added. Its only error is running out of memory, and then the table has the nodes that it had.
+    /// The number of the equal node; if there is none, the node is added with the next number. The
+    /// only error is running out of memory, and then the table is unchanged.
     pub fn find_or_add(&mut self, node: Node) -> Result<u32, AllocError>
         requires room { length self.old < 4_294_967_295 }
         ensures entered { IfOk result (IsEntered self.old self.new node) }

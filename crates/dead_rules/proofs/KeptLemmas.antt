@@ -120,7 +120,7 @@ kept-push nodes new kept i numbers k node valid within h e live is =
           (cases_lt j (length new));
     }
 
--- The first i nodes are gathered: k of them are kept, and stand at the start of the list, numbered anew.
+-- The first i nodes are gathered: k of them are kept, at the start of the list, renumbered.
 pub record IsGathered (old nodes : List Node) (kept : ℕ → Bool) (i k : ℕ) (numbers : List ℕ) : Type 0 where
   pub size : length nodes ≡ length old
   pub few : k ≤ i

@@ -1,4 +1,4 @@
--- Marking what is reached.
+-- Marking of reached nodes.
 use Rattle.std.proofs.Common.{◌≡◌, ℕ, ◌-◌, ◌<◌, ◌≤◌, Bool, true, false, List, length, get_or, ap, sym, ◌∙◌, subst, inl, inr, ⊎_elim, arith}
 use Rattle.std.proofs.lemmas.Bool.{cases_lt, true≢false}
 use Rattle.std.proofs.lemmas.List.{get_or_read}
@@ -77,6 +77,6 @@ closed-skip flat p old live some h left = record {
   reached = h.reached;
 }
 
--- what is read at a place of a slice is the node there
+-- an element of a slice is the node at that place
 pub node-read : (nodes slice : List Node) (i : ℕ) (node : Node) → slice ≡ nodes → i < length nodes → node ≡ get_or slice i node → node ≡ node_at nodes i
 node-read nodes slice i node e lt is = get_or_read nodes i node lt (is ∙ ap (λ xs. get_or xs i node) e) (Lit Undef)

@@ -1,4 +1,4 @@
--- Programs under other numbers, and the loop that pushes.
+-- Renumbered programs, and the loop that pushes nodes.
 use Rattle.std.proofs.Common.{◌≡◌, ℕ, suc, false, ◌+◌, ◌<◌, ◌≤◌, List, [], ◌∷◌, ◌++◌, length, get_or, map, refl, ap, sym, ◌∙◌, subst, inl, inr, ⊎_elim, arith}
 use Rattle.std.specs.Prelude.{if◌then◌else◌, Result, Ok, Err, IfOk, None}
 use Rattle.std.specs.List.{AllByRecursion}
@@ -58,7 +58,8 @@ outputs-moved vs vs' m (x ∷ outputs) h =
     ap (λ v. v ∷ map (value_at vs') (map m outputs)) (h 0 (omega arith))
     ∙ ap (λ ys. value_at vs x ∷ ys) (outputs-moved vs vs' m outputs (λ j lt. h (suc j) (omega arith)))
 
--- a program answers as another where the nodes that checks and outputs read have the same values
+-- two programs have the same answer if the nodes that their checks and outputs read have the same
+-- values
 pub run-moved : (flat : Flat) (nodes : List Node) (m : ℕ → ℕ) (inputs : List Value)
     → ((x : ℕ) → IsRoot flat x → entry_at (values_for inputs) nodes (m x) ≡ entry_at (values_for inputs) flat.nodes x)
     → flat_run (with_nodes flat nodes m) inputs ≡ flat_run flat inputs
@@ -93,7 +94,7 @@ pub outputs-within : (m : ℕ → ℕ) (k n : ℕ) (outputs : List ℕ) → ((q 
     → AllByRecursion (λ output. output < n) (map m outputs)
 outputs-within m k n outputs h all = all-moved (λ output. output < k) (λ output. output < n) m outputs h all
 
--- what checks and outputs of a program read are nodes
+-- checks and outputs of a program read nodes that exist
 pub root-within : (flat : Flat) (x : ℕ) → IsFlat flat → IsRoot flat x → x < length flat.nodes
 root-within flat x h r = ⊎_elim
     (λ o. subst (λ x. x < length flat.nodes) (sym o.2) (one_of_all (λ output. output < length flat.nodes) flat.outputs o.0 (get_or flat.outputs o.0 0) h.outputs
@@ -112,7 +113,7 @@ labels-moved m checks j lt =
     let l : j < length checks = omega arith in
     (j, l, ap (λ (check : Check). check.label) (check-moved m checks j l))
 
--- A program under other numbers is valid, and answers the same.
+-- A renumbered program is valid, and has the same answer.
 pub becomes-moved : (flat : Flat) (nodes : List Node) (m : ℕ → ℕ) → AreValid flat.inputs nodes → length nodes ≤ length flat.nodes
     → ((x : ℕ) → IsRoot flat x → m x < length nodes)
     → ((x : ℕ) → IsRoot flat x → (inputs : List Value) → ArePlain inputs → entry_at (values_for inputs) nodes (m x) ≡ entry_at (values_for inputs) flat.nodes x)
@@ -205,7 +206,7 @@ carried-step count nodes i old new numbers k valid lt h grows stands =
         (λ x r. before x (reads-node count i x (node_at nodes i) (valid i lt) r) inputs plain)
         ∙ sym (entry-at (values_for inputs) count nodes i valid lt)
 
--- a push leaves the count of inputs
+-- a push doesn't change the number of inputs
 pub grows-inputs : (old new : Draft) → Grows old new → new.inputs ≡ old.inputs
 grows-inputs old new g = ⊎_elim (λ e. ap (λ (d : Draft). d.inputs) e) (λ n. ap (λ (d : Draft). d.inputs) n.1) g
 

@@ -1,4 +1,4 @@
-//! The kept nodes, numbered anew.
+//! Removes the nodes that aren't kept, and renumbers the others.
 ghost use Rattle.std.specs.Prelude.{◌≡◌, ◌+◌, ◌<◌, ◌≤◌, length, take, slice_set, if◌then◌else◌, IfOk};
 ghost use Rattle.flat_code.specs.Runs.{AreNodes};
 ghost use Rattle.dead_rules.specs.inner.Steps.{is_live, Kept};
@@ -7,21 +7,22 @@ use crate::moved::renamed;
 use flat_code::Node;
 use std::alloc::{AllocError, Global};
 
-/// The kept nodes, and for each node the number of kept ones before it.
+/// The kept nodes, and for each old node the number of kept nodes before it, which is the new
+/// number of a kept node.
 #[derive(Drop)]
 pub struct Compact {
     pub nodes: Vec<Node>,
     pub numbers: Vec<u32>,
 }
 
-// How many nodes are kept, and for each node the number of kept ones before it.
+// The number of kept nodes, and for each old node the number of kept nodes before it.
 #[derive(Drop)]
 struct Ranks {
     kept: usize,
     numbers: Vec<u32>,
 }
 
-// Puts a node that is kept after those that were put before, and answers how many there are.
+// Writes a node after the kept ones if it is live, and returns the new number of kept nodes.
 fn put(nodes: &mut [Node], kept: usize, node: Node, live: bool) -> usize
     requires { kept < length nodes.old }
     ensures nodes { nodes.new ≡ (if live then slice_set nodes.old kept node else nodes.old) }
@@ -34,7 +35,7 @@ fn put(nodes: &mut [Node], kept: usize, node: Node, live: bool) -> usize
     kept + 1
 }
 
-// Moves the kept nodes to the start of their list, numbered anew.
+// Moves the kept nodes to the start of the list, renumbered.
 fn gathered(
     alloc: Global,
     inputs: u32,
@@ -58,7 +59,7 @@ fn gathered(
     Ok(Ranks { kept, numbers })
 }
 
-/// The kept nodes, numbered anew. They move within their list, so no second one is made.
+/// The kept nodes, renumbered. They are moved within their vector; no second one is allocated.
 pub fn compacted(
     alloc: Global,
     inputs: u32,

@@ -1,4 +1,4 @@
-//! Of equal checks the first.
+//! Removes duplicate checks: the first of equal checks is kept.
 ghost use Rattle.std.specs.Prelude.{◌≡◌, ◌<◌, ◌≤◌, length, map, IfOk, OnOk};
 ghost use Rattle.dead_rules.specs.inner.Firsts.{check_node, IsTaken, AreFirsts};
 
@@ -7,7 +7,7 @@ use flat_code::{Check, Node};
 use m_fixed::Op;
 use std::alloc::{AllocError, Global};
 
-// A check as a node, by which a table of nodes finds it. Nothing computes it.
+// A check encoded as a node, so that a table of nodes can find it. The node is never computed.
 fn node_of(check: Check) -> Node
     ensures { result ≡ check_node check }
 {
@@ -18,7 +18,7 @@ fn node_of(check: Check) -> Node
     }
 }
 
-// A key that is made of all checks, under which they are hashed.
+// A hash key that is derived from all checks.
 fn key_of(checks: &[Check]) -> Key {
     let mut digest = NodesDigest::new();
     for check in checks {
@@ -27,7 +27,7 @@ fn key_of(checks: &[Check]) -> Key {
     digest.key()
 }
 
-// Takes a check, where none is equal to it. The table has the same checks.
+// Appends a check unless an equal one was taken. The table has the encoded checks.
 fn take(table: &mut NodeTable, taken: &mut Vec<Check>, check: Check) -> Result<(), AllocError>
     requires room { length table.old < 4_294_967_295 }
     requires same { table.old ≡ map check_node taken.old.items }
@@ -42,7 +42,7 @@ fn take(table: &mut NodeTable, taken: &mut Vec<Check>, check: Check) -> Result<(
     Ok(())
 }
 
-/// The checks without those that are equal to an earlier one.
+/// The checks without duplicates of earlier ones.
 pub fn firsts(alloc: Global, checks: &[Check]) -> Result<Vec<Check>, AllocError>
     requires { length checks.now ≤ 4_294_967_295 }
     ensures { IfOk result (λ new. AreFirsts checks.now new.items) }

@@ -1,4 +1,4 @@
-//! All nodes pushed into a builder.
+//! Folds a program: its nodes are pushed into a builder.
 ghost use Rattle.std.specs.Prelude.{◌≡◌, ◌≤◌, length, IfOk};
 ghost use Rattle.flat_code.specs.Runs.{AreNodes, IsFlat};
 ghost use Rattle.flat_code.specs.Passes.{Becomes};
@@ -11,14 +11,14 @@ use flat_code::{Flat, Node};
 use fold_terms::Builder;
 use std::alloc::{AllocError, Global};
 
-// A builder, and the number in it of each node that was pushed.
+// A builder, and the number there of each node pushed so far.
 #[derive(Drop)]
 struct Carry {
     builder: Builder,
     numbers: Vec<u32>,
 }
 
-// A key that is made of all nodes, under which they are hashed.
+// A hash key that is derived from all nodes.
 fn key_of(nodes: &[Node]) -> Key {
     let mut digest = NodesDigest::new();
     for node in nodes {
@@ -27,7 +27,7 @@ fn key_of(nodes: &[Node]) -> Key {
     digest.key()
 }
 
-// All nodes, pushed into a builder.
+// Pushes all nodes into a builder.
 fn push_all(alloc: Global, inputs: u32, nodes: &[Node]) -> Result<Carry, AllocError>
     requires valid { AreNodes inputs 0 nodes.now }
     requires few { length nodes.now ≤ 4_294_967_295 }

@@ -1,6 +1,8 @@
-//! The tidy form of a flat program: folded, shared, without what nothing reads, and without a check twice.
+//! Turns a flat program into its tidy form: folded and shared, without dead nodes and without
+//! duplicate checks.
 //!
-//! This crate doesn't know how a program was made, nor how it is run.
+//! Uses `flat_code` for the form, `fold_terms` and `common_terms` for the nodes. Knows nothing of
+//! how a program was made or is run.
 #![tactic(auto)]
 
 mod compact;

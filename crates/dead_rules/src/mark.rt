@@ -1,4 +1,4 @@
-//! Which nodes are read by a check or an output, or by such a node.
+//! Liveness: marks the nodes that an output or a check reads, directly or through other nodes.
 ghost use Rattle.std.specs.Prelude.{◌≡◌, ℕ, ◌<◌, true, false, ◌⊎◌, length, IfOk};
 ghost use Rattle.std.specs.List.{AllByRecursion};
 ghost use Rattle.flat_code.specs.Runs.{IsCheck, IsFlat};
@@ -59,7 +59,7 @@ fn mark_checks(live: &mut [bool], checks: &[Check])
     }
 }
 
-// Marks what marked nodes read.
+// Marks the arguments of marked nodes, from the last node to the first.
 fn mark_back(live: &mut [bool], flat: &Flat)
     requires valid { IsFlat flat.now }
     requires size { length live.old ≡ length flat.now.nodes }
@@ -76,7 +76,7 @@ fn mark_back(live: &mut [bool], flat: &Flat)
     }
 }
 
-// Marks the nodes that are reached, where none is marked yet.
+// Marks the reached nodes. No node is marked before.
 fn mark_all(live: &mut [bool], flat: &Flat)
     requires valid { IsFlat flat.now }
     requires size { length live.old ≡ length flat.now.nodes }
@@ -89,7 +89,7 @@ fn mark_all(live: &mut [bool], flat: &Flat)
     mark_back(live, flat);
 }
 
-/// Which nodes are reached.
+/// For each node whether it is reached.
 pub fn marked(alloc: Global, flat: &Flat) -> Result<Vec<bool>, AllocError>
     requires { IsFlat flat.now }
     ensures live { IfOk result (λ live. IsLive flat.now (is_live live.items)) }

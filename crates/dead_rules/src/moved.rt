@@ -1,4 +1,4 @@
-//! Nodes, checks and outputs under other numbers.
+//! Renumbers nodes, checks and outputs.
 ghost use Rattle.std.specs.Prelude.{◌≡◌, ◌<◌, length, map, IfOk};
 ghost use Rattle.std.specs.List.{AllByRecursion};
 ghost use Rattle.flat_code.specs.Runs.{IsCheck};
@@ -8,7 +8,7 @@ ghost use Rattle.dead_rules.specs.inner.Steps.{ReadsBelow, look};
 use flat_code::{Check, Flat, Node};
 use std::alloc::{AllocError, Global};
 
-/// The node with its arguments under other numbers.
+/// The node with renumbered arguments.
 pub fn renamed(numbers: &[u32], node: Node) -> Node
     requires { ReadsBelow (length numbers.now) node }
     ensures { result ≡ renamed (look numbers.now) node }
@@ -25,7 +25,7 @@ pub fn renamed(numbers: &[u32], node: Node) -> Node
     }
 }
 
-// The check with its nodes under other numbers.
+// The check with renumbered guard and condition.
 fn moved(numbers: &[u32], check: Check) -> Check
     requires { IsCheck (length numbers.now) check }
     ensures { result ≡ moved (look numbers.now) check }
@@ -38,7 +38,7 @@ fn moved(numbers: &[u32], check: Check) -> Check
     }
 }
 
-/// The checks with their nodes under other numbers.
+/// The checks with renumbered guards and conditions.
 pub fn moved_checks(
     alloc: Global,
     numbers: &[u32],
@@ -54,7 +54,7 @@ pub fn moved_checks(
     Ok(new)
 }
 
-/// Outputs under other numbers.
+/// The renumbered outputs.
 pub fn moved_outputs(
     alloc: Global,
     numbers: &[u32],
@@ -77,7 +77,7 @@ pub struct Ends {
     pub outputs: Vec<u32>,
 }
 
-/// The checks and outputs of the program under other numbers.
+/// The renumbered checks and outputs of a program.
 pub fn moved_ends(alloc: Global, numbers: &[u32], flat: &Flat) -> Result<Ends, AllocError>
     requires checks { AllByRecursion (IsCheck (length numbers.now)) flat.now.checks }
     requires outputs { AllByRecursion (λ output. output < length numbers.now) flat.now.outputs }

@@ -14,7 +14,7 @@ use flat_code::{Flat, Tidy};
 use m_places::Seq;
 use std::alloc::{AllocError, Global};
 
-// The program without the nodes that nothing reads.
+// The program without the nodes that aren't reached.
 fn removed(alloc: Global, flat: Flat) -> Result<Flat, AllocError>
     requires valid { IsFlat flat }
     requires few { length flat.nodes ≤ 4_294_967_295 }
@@ -36,7 +36,7 @@ fn removed(alloc: Global, flat: Flat) -> Result<Flat, AllocError>
     })
 }
 
-// The program with the first of equal checks alone.
+// The program without duplicate checks.
 fn sifted(alloc: Global, flat: Flat) -> Result<Flat, AllocError>
     requires valid { IsFlat flat }
     requires few { length flat.checks ≤ 4_294_967_295 }
@@ -53,12 +53,13 @@ fn sifted(alloc: Global, flat: Flat) -> Result<Flat, AllocError>
     })
 }
 
-/// The program in the tidy form. It answers the same for each list of values that programs are asked for,
-/// has as many inputs and outputs, no more nodes and checks, and no other labels. Its only error is running out of
-/// memory. It takes one step for each node, check and output of the program, which has fewer nodes and
-/// fewer checks than a `u32` counts.
+/// The program in the tidy form. It has the same answer for all plain inputs (each undefined or an
+/// amount), the same numbers of inputs and outputs, no more nodes and checks, and no other labels.
+/// The only error is running out of memory. Takes one step for each node, check and output. The
+/// program must have fewer nodes, and fewer checks, than 2^32, since `u32` numbers them.
 ///
-/// Of the nodes `Input(0)`, `Lit(1 unit)` and `Do(Op::Mul, 0, 1, 0)` with the last as output the first is left.
+/// Of the nodes `Input(0)`, `Lit(1 unit)` and `Do(Op::Mul, 0, 1, 0)`, with the last as output, only
+/// the first remains.
 pub fn tidy(alloc: Global, flat: &Flat) -> Result<Tidy, AllocError>
     requires valid { IsFlat flat.now }
     requires few { length flat.now.nodes ≤ 4_294_967_295 }

@@ -16,13 +16,13 @@ use Rattle.flat_code.specs.Facts.{facts, facts_with, ArePlain, AreWithin}
 use Rattle.flat_code.specs.inner.Renumber.{entry_by, AreValid}
 use Rattle.flat_code.proofs.ReadLemmas.{strong, entry-at, are-valid}
 
--- an input that is asked for has the fact of inputs, and so has what is read past their end
+-- a plain input has the fact of inputs, and so has an input that is missing
 pub plain-holds : (inputs : List Value) (n : ℕ) → ArePlain inputs → Holds fact_of_input (slice_index_or inputs n Undef)
 plain-holds [] n plain = input_fact_holds Undef tt (λ e. cc)
 plain-holds (v ∷ inputs) zero plain = input_fact_holds v plain.0.amount plain.0.bounded
 plain-holds (v ∷ inputs) (suc n) plain = plain-holds inputs n plain.1
 
--- all values that programs are asked for are within no facts
+-- all plain inputs are within an empty list of facts
 pub plain-within : (inputs : List Value) → ArePlain inputs → AreWithin [] inputs
 plain-within inputs plain = record { plain = plain; possible = λ n low. absurd (omega (arith, low)) }
 

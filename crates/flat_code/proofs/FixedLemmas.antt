@@ -1,4 +1,4 @@
--- The values of a program's nodes as a list that solves the equations of its nodes.
+-- The values of a program's nodes as the solution of one equation for each node.
 use Rattle.std.proofs.Common.{◌≡◌, ℕ, zero, suc, ◌+◌, ◌<◌, length, get_or, take, drop, List, [], ◌∷◌, ◌++◌, sym, ◌∙◌, ap, subst, refl, arith, length-append}
 use Rattle.std.specs.Prelude.{fold}
 use Rattle.std.proofs.lemmas.List.{take-append-drop, drop_more, get_or_append_left, get_or_push, length-take-le}
@@ -15,7 +15,7 @@ use Rattle.flat_code.proofs.RunLemmas.{length-node_values}
 abbrev more : {X : Type 0} → Reading X → List X → Node → List X
 more reading entries node = entries ++ entry_of reading entries node ∷ []
 
--- further nodes leave the entries before them
+-- further nodes don't change the entries before them
 fold_keeps : {X : Type 0} (reading : Reading X) (nodes : List Node) (entries : List X) (k : ℕ) (d : X) → k < length entries
     → get_or (fold (more reading) entries nodes) k d ≡ get_or entries k d
 fold_keeps reading [] entries k d h = refl
@@ -33,7 +33,7 @@ node_or inputs j (n ∷ nodes) (suc k) d all h =
     let there : (j + 1) + k ≡ j + suc k = omega arith in
     subst (λ i. IsNode inputs i (get_or nodes k d)) there (node_or inputs (j + 1) nodes k d all.1 (omega arith))
 
--- a node reads only what is below its place
+-- a node reads only nodes below its place
 pub entry_below : (inputs : List Value) (m k : ℕ) (vs ws : List Value) (node : Node) → IsNode m k node → ((j : ℕ) → j < k → value_at vs j ≡ value_at ws j)
     → entry_of (values_for inputs) vs node ≡ entry_of (values_for inputs) ws node
 entry_below inputs m k vs ws (Input n) h same = refl
@@ -46,7 +46,7 @@ entry_below inputs m k vs ws (Do op a b c) h same =
     ∙ ap (λ v. op_value op (value_at ws a) v (value_at vs c)) second
     ∙ ap (λ v. op_value op (value_at ws a) (value_at ws b) v) third
 
--- Each value is that of its node by the values of all.
+-- Each value is that of its node, given all values.
 pub values_fixed : (inputs : List Value) (m : ℕ) (nodes : List Node) (k : ℕ) (d : Node) → AreNodes m 0 nodes → k < length nodes
     → value_at (node_values inputs nodes) k ≡ entry_of (values_for inputs) (node_values inputs nodes) (get_or nodes k d)
 values_fixed inputs m nodes k d all h =

@@ -1,4 +1,4 @@
--- Nodes under other numbers.
+-- Renumbered nodes.
 use Rattle.std.proofs.Common.{◌≡◌, ℕ, ◌<◌, ◌≤◌, Bool, true, false, eqb, List, length, refl, ap, sym, ◌∙◌, subst, inl, inr, ⊎_elim, arith}
 use Rattle.std.proofs.lemmas.Bool.{cases_eq, cases_lt, eq-eqb, ne_eqb}
 use Rattle.m_fixed.specs.declared.amount.Value.{Value}
@@ -87,7 +87,7 @@ made-renamed kind m (Input n) = refl
 made-renamed kind m (Lit v) = refl
 made-renamed kind m (Do op a b c) = refl
 
--- the forms don't look at the numbers of arguments' arguments
+-- the forms don't depend on the numbers of arguments' arguments
 form-renamed : (op : Op) (m : ℕ → ℕ) (x y : Node) (f g : Possible) (same : Bool) → form op (renamed m x) (renamed m y) f g same ≡ form op x y f g same
 form-renamed Add m x y f g same = rw (literal_of-renamed is_null m x, literal_of-renamed is_null m y) refl
 form-renamed Sub m x y f g same = rw (literal_of-renamed is_null m y) refl

@@ -9,7 +9,7 @@ use Rattle.flat_code.specs.Runs.{Reading, entry, entry_of, entries_of, IsNode, A
 use Rattle.flat_code.specs.Entries.{node_at, entry_at}
 use Rattle.flat_code.specs.inner.Renumber.{entry_by, AreValid}
 
--- what holds where it holds of all smaller numbers holds
+-- strong induction over numbers
 pub strong : (P : ℕ → Type 0) → ((p : ℕ) → ((q : ℕ) → q < p → P q) → P p) → (p : ℕ) → P p
 strong P each p = go (suc p) p (omega arith)
   where
@@ -65,7 +65,7 @@ from-prefix r xs (node ∷ nodes) p lt = from-prefix r (more r xs node) nodes p 
 pub apply-same : {X : Type 0} (f : X → X → X → X) {a a' b b' c c' : X} → a ≡ a' → b ≡ b' → c ≡ c' → f a b c ≡ f a' b' c'
 apply-same f p q s = cc
 
--- an entry depends on those of the arguments alone
+-- an entry depends only on those of the arguments
 pub entry-same : {X : Type 0} (r : Reading X) (before before' : ℕ → X) (inputs p : ℕ) (node : Node) → IsNode inputs p node
     → ((q : ℕ) → q < p → before q ≡ before' q) → entry_by r before node ≡ entry_by r before' node
 entry-same r before before' inputs p (Input n) h same = refl
@@ -89,7 +89,7 @@ pub entry-at : {X : Type 0} (r : Reading X) (inputs : ℕ) (nodes : List Node) (
     → entry_at r nodes p ≡ entry_by r (entry_at r nodes) (node_at nodes p)
 entry-at r inputs nodes p h lt = from-at r [] nodes inputs p p lt (omega arith) (h p lt)
 
--- one more node leaves the entries of the others
+-- one more node doesn't change the entries of the others
 pub entries-push : {X : Type 0} (r : Reading X) (nodes : List Node) (node : Node) → entries_of r (nodes ++ node ∷ []) ≡ entries_of r nodes
     ++ entry_of r (entries_of r nodes) node ∷ []
 entries-push r nodes node = fold_push (more r) [] nodes node

@@ -16,7 +16,7 @@ use Rattle.flat_code.specs.declared.program.Node.{Node}
 use Rattle.flat_code.specs.declared.program.Check.{Check}
 use Rattle.flat_code.specs.Runs.{Reading, IsNode, AreNodes, entry_of, entries_of, values_for, node_values, value_at, check_stop, first_stop, flat_run}
 
--- a node more
+-- one node more
 pub entries_next : {X : Type 0} (reading : Reading X) (nodes : List Node) (i : ℕ) (node : Node) (entries : List X) → i < length nodes
     → node ≡ get_or nodes i node → entries ≡ entries_of reading (take i nodes)
     → entries_of reading (take (i + 1) nodes) ≡ entries ++ entry_of reading entries node ∷ []
@@ -26,7 +26,7 @@ entries_next reading nodes i node entries h is before =
     ∙ ap (λ es. es ++ entry_of reading es (get_or nodes i node) ∷ []) (sym before)
     ∙ ap (λ n. entries ++ entry_of reading entries n ∷ []) (sym is)
 
--- a check that doesn't stop leaves the search to the others
+-- if a check doesn't stop, the later checks decide
 pub first_next : (vs : List Value) (checks : List Check) (i : ℕ) (check : Check) (found : Option Stop) → i < length checks → check ≡ get_or checks i check
     → found ≡ check_stop vs check → first_stop vs (drop i checks) ≡ option_or found (first_stop vs (drop (i + 1) checks))
 first_next vs checks i check found h is stop =
@@ -45,11 +45,11 @@ length-fold reading (node ∷ nodes) entries =
 pub length-node_values : (inputs : List Value) (nodes : List Node) → length (node_values inputs nodes) ≡ length nodes
 length-node_values inputs nodes = let all = length-fold (values_for inputs) nodes [] in omega (arith, all)
 
--- within a list it doesn't matter what is read past its end
+-- within a list the default for places past its end doesn't matter
 same_read : (vs : List Value) (k : ℕ) (d e : Value) → k < length vs → get_or vs k d ≡ get_or vs k e
 same_read vs k d e h = get_or_from_slice_get vs k (get_or vs k e) d (slice_get-get_or vs k e h)
 
--- an output more
+-- one output more
 pub outputs_next : (vs : List Value) (outputs : List ℕ) (i : ℕ) (value : Value) (given new : List Value) → i < length outputs
     → get_or outputs i 0 < length vs → value ≡ get_or vs (get_or outputs i 0) value → given ≡ map (value_at vs) (take i outputs)
     → new ≡ given ++ value ∷ [] → new ≡ map (value_at vs) (take (i + 1) outputs)
@@ -72,7 +72,7 @@ run_ends flat inputs vs given held stops outputs =
     ∙ ap (λ found. option_map_or Stopped found (Values (map (value_at (node_values inputs flat.nodes)) flat.outputs)))
     (stops ∙ ap (λ values. first_stop values flat.checks) held)
 
--- what is known of all is known of the one at a place
+-- what holds of all elements holds of the one at a place
 pub node_at : (inputs j : ℕ) (nodes : List Node) (k : ℕ) (node : Node) → AreNodes inputs j nodes → slice_get nodes k ≡ Some node → IsNode inputs (j + k) node
 node_at inputs j [] k node all is = absurd (cc is)
 node_at inputs j (n ∷ nodes) zero node all is =

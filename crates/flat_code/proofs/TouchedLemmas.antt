@@ -36,12 +36,12 @@ differs_self Over = refl
 
 -- ---- an untouched node
 
--- an operator looks at an argument
+-- every operator has an argument
 some_arity : (op : Op) → 1 ≤ arity_of op
 some_arity Choose = omega arith
 some_arity _ = omega arith
 
--- and at none past its arity
+-- arguments past the arity don't matter
 second_same : (op : Op) (a b c y : Value) → (nat_lt 1 (arity_of op) && differs b y) ≡ false → op_value op a b c ≡ op_value op a y c
 second_same op a b c y h =
     ⊎_elim
@@ -63,7 +63,7 @@ op_same op a b c x y z h =
     let q = or_parts (differs a x) (nat_lt 1 (arity_of op) && differs b y) p.0 in
     ap (λ v. op_value op v b c) (differs-false a x q.0) ∙ second_same op x b c y q.1 ∙ third_same op x y c z p.1
 
--- A node that isn't touched has the same value by both lists.
+-- A node that isn't touched has the same value for both lists.
 pub entry_same : (before now : List Value) (put : List Bool) (vs ws : List Value) (node : Node)
     → ((n : ℕ) → get_or put n false ≡ false → value_at before n ≡ value_at now n) → is_touched put vs ws node ≡ false
     → entry_of (values_for before) vs node ≡ entry_of (values_for now) ws node
@@ -72,7 +72,7 @@ entry_same before now put vs ws (Lit v) same h = refl
 entry_same before now put vs ws (Do op a b c) same h =
     op_same op (value_at vs a) (value_at vs b) (value_at vs c) (value_at ws a) (value_at ws b) (value_at ws c) h
 
--- ---- what a test of arguments comes to
+-- ---- the value of a test of arguments
 
 pub some_argument_same : (f g : ℕ → Bool) (node : Node) → ((k : ℕ) → f k ≡ g k) → some_argument f node ≡ some_argument g node
 some_argument_same f g node h = ap (λ test. some_argument test node) (λ i. λ k. h k i)
@@ -141,7 +141,7 @@ differs_set old kept p v h same k = ⊎_elim at_p elsewhere (cases_eq k p)
         or_none false true = refl
         or_none false false = refl
 
--- A new value at p touches those that read p, where it differs.
+-- A new value at p touches the nodes that read p if it differs.
 pub touched_set : (put : List Bool) (old kept : List Value) (p : ℕ) (v : Value) (node : Node) → p < length kept → value_at kept p ≡ value_at old p
     → is_touched put old (set kept p v) node ≡ (is_touched put old kept node || (differs (value_at old p) v && some_argument (λ k. eqb k p) node))
 touched_set put old kept p v node h same =
@@ -157,7 +157,7 @@ touched_set put old kept p v node h same =
     or_assoc true b c = refl
     or_assoc false b c = refl
 
--- Whether a node is touched is settled by the new values below it.
+-- Whether a node is touched depends only on the new values below it.
 pub touched_below : (m p : ℕ) (put : List Bool) (old new other : List Value) (node : Node) → IsNode m p node
     → ((k : ℕ) → k < p → value_at new k ≡ value_at other k)
     → is_touched put old new node ≡ is_touched put old other node
@@ -166,7 +166,7 @@ touched_below m p put old new other node h same =
     (some_argument_below m p (λ k. differs (value_at old k) (value_at new k)) (λ k. differs (value_at old k) (value_at other k)) node h
     (λ k below. ap (differs (value_at old k)) (same k below)))
 
--- where nothing has a new value, the nodes of inputs that were put are touched, and no other
+-- if no value is new, the nodes of inputs that were set are touched, and no others
 pub touched_same : (put : List Bool) (vs : List Value) (node : Node) → is_touched put vs vs node ≡ of_put put node
 touched_same put vs node =
     ap (λ b. of_put put node || b) (some_argument_same (λ k. differs (value_at vs k) (value_at vs k)) (λ k. false) node (λ k. differs_self (value_at vs k))

@@ -1,4 +1,4 @@
--- Nodes by their numbers, and the entries that a reading gives them.
+-- Nodes by number, and the entries that a reading computes for them.
 use Rattle.std.specs.Prelude.{ℕ, List, slice_index_or}
 use Rattle.m_fixed.specs.declared.amount.Value.TheVariants.{Undef}
 use Rattle.flat_code.specs.declared.program.Node.{Node}

@@ -1,4 +1,4 @@
--- What a pass over flat programs keeps.
+-- What every pass over flat programs preserves.
 use Rattle.std.specs.Prelude.{◌≡◌, ℕ, ◌<◌, ◌≤◌, List, length}
 use Rattle.m_fixed.specs.declared.amount.Value.{Value}
 use Rattle.flat_code.specs.declared.program.Check.{Check}
@@ -7,13 +7,14 @@ use Rattle.flat_code.specs.Runs.{IsFlat, flat_run}
 use Rattle.flat_code.specs.Tidy.{check_at}
 use Rattle.flat_code.specs.Facts.{ArePlain}
 
--- the label of each of these checks is that of one of those
+-- each label of the first checks is a label of the second
 abbrev pub HaveLabelsOf : List Check → List Check → Type 0
 HaveLabelsOf old new = (j : ℕ) → j < length new → (i : ℕ) × (i < length old) × ((check_at new j).label ≡ (check_at old i).label)
 
--- The old program becomes the new one by a pass: the new one is valid, has as many inputs and outputs, no more nodes and no more checks,
--- the label of each of its checks is that of a check of the old one, and it answers the same for every list of values
--- that programs are asked for.
+-- A pass may turn the old program into the new one: the new one is valid, has the same numbers of
+-- inputs and outputs, no more nodes and checks, no other labels, and the same answer for all plain
+-- inputs (each undefined or an amount). The relation is transitive (`passes_compose`), so a
+-- sequence of passes is proved pass by pass.
 pub record Becomes (old new : Flat) : Type 0 where
   pub valid : IsFlat new
   pub inputs : new.inputs ≡ old.inputs

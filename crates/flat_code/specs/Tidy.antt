@@ -23,7 +23,7 @@ IsNormal (Input n) = Unit {0}
 IsNormal (Lit v) = Unit {0}
 IsNormal (Do op a b c) = (arity_of op < 2 → b ≡ a) × (arity_of op < 3 → c ≡ a)
 
--- of a node but a literal more than one value is possible
+-- more than one value is possible of the node, or it is a literal
 abbrev pub IsOpen : Node → Possible → Type 0
 IsOpen (Input n) fact = one_value fact ≡ None
 IsOpen (Lit v) fact = Unit {0}
@@ -46,7 +46,7 @@ is_literal_of test (Lit v) = test v
 is_literal_of test (Input n) = false
 is_literal_of test (Do op a b c) = false
 
--- an operator's node whose operator passes the test
+-- an operator node whose operator passes the test
 abbrev pub is_made_by : (Op → Bool) → Node → Bool
 is_made_by kind (Do op a b c) = kind op
 is_made_by kind (Input n) = false
@@ -56,7 +56,7 @@ abbrev pub is_neg : Op → Bool
 is_neg Neg = true
 is_neg _ = false
 
--- an operator whose result, where it is a number, is 1 or 0
+-- an operator whose result is 1 or 0 whenever it is a number
 abbrev pub is_test : Op → Bool
 is_test Eq = true
 is_test Ne = true
@@ -77,15 +77,15 @@ is_test _ = false
 
 -- ---- forms
 
--- The seven forms that are to be folded. Of an operator they look at its first two arguments, at what is known of
--- them, and at whether the second is the third:
--- a sum with 0, where the other is not undefined;
--- a difference of which 0 is taken, where the other is not undefined;
--- a product with 1;
--- the opposite of an opposite;
--- the truth of a test that is a number;
--- a choice with one branch, whose condition is a number;
--- a choice whose condition is a literal, or a number other than 0.
+-- The seven forms of an operator node that folding removes. They depend on the first two arguments,
+-- on the facts of these, and on whether the second argument equals the third:
+-- - a sum with 0, if the other term is never undefined;
+-- - a difference that subtracts 0, if the other term is never undefined;
+-- - a product with 1;
+-- - the opposite of an opposite;
+-- - the truth of a test that is always a number;
+-- - a choice between equal branches, if its condition is always a number;
+-- - a choice whose condition is a literal, or always a number other than 0.
 abbrev pub form : Op → Node → Node → Possible → Possible → Bool → Bool
 form Add x y f g same = (is_literal_of is_null y && not f.undef) || (is_literal_of is_null x && not g.undef)
 form Sub x y f g same = is_literal_of is_null y && not f.undef
@@ -95,7 +95,7 @@ form Truth x y f g same = is_made_by is_test x && is_number f
 form Choose x y f g same = is_literal x || (is_number f && (same || lacks_zero f))
 form _ x y f g same = false
 
--- whether a node, over these, has one of the forms
+-- whether a node, with arguments among these nodes, has one of the forms
 abbrev pub has_form : List Node → Node → Bool
 has_form nodes (Input n) = false
 has_form nodes (Lit v) = false
@@ -103,8 +103,8 @@ has_form nodes (Do op a b c) = form op (node_at nodes a) (node_at nodes b) (entr
 
 -- ---- all nodes
 
--- Nodes that are folded and shared: arguments past the arity are equal to the first, of no node but a literal one
--- value alone is possible, no two nodes are equal, and none has one of the forms.
+-- Folded and shared nodes: arguments past the arity equal the first, only literals have a single
+-- possible value, no two nodes are equal, and no node has one of the seven forms.
 pub record IsFolded (nodes : List Node) : Type 0 where
   pub normal : (p : ℕ) → p < length nodes → IsNormal (node_at nodes p)
   pub unfixed : (p : ℕ) → p < length nodes → IsOpen (node_at nodes p) (entry_at facts nodes p)
@@ -132,7 +132,7 @@ abbrev pub IsRoot : Flat → ℕ → Type 0
 IsRoot flat x = ((j : ℕ) × (j < length flat.outputs) × (x ≡ slice_index_or flat.outputs j 0)) ⊎ ((j : ℕ) × (j < length flat.checks)
     × ReadsCheck (check_at flat.checks j) x)
 
--- a node is read by a check or an output, or by such a node, and so on
+-- a node that an output or a check reads, directly or through other nodes
 pub data IsReached (flat : Flat) : ℕ → Type 0 where
   root : {x : ℕ} → IsRoot flat x → IsReached flat x
   argument : {p x : ℕ} → IsReached flat p → p < length flat.nodes → Reads (node_at flat.nodes p) x → IsReached flat x
@@ -141,7 +141,8 @@ pub data IsReached (flat : Flat) : ℕ → Type 0 where
 abbrev pub AreUnlike : List Check → Type 0
 AreUnlike checks = (i j : ℕ) → i < length checks → j < length checks → check_at checks i ≡ check_at checks j → i ≡ j
 
--- The tidy form: nodes that are folded and shared, each is read, and no two checks are equal.
+-- The tidy form: the nodes are folded and shared, every node is reached, and no two checks are
+-- equal.
 pub record IsTidy (flat : Flat) : Type 0 where
   pub folded : IsFolded flat.nodes
   pub reached : (p : ℕ) → p < length flat.nodes → IsReached flat p

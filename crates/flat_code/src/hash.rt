@@ -1,4 +1,4 @@
-//! Nodes as keys of tables.
+//! Hashing of nodes, for hash tables.
 ghost use Rattle.std.specs.Prelude.{◌≡◌, fold};
 ghost use Rattle.std.proofs.Common.{rules};
 ghost use Rattle.std.specs.Cmp.Rules.{hashing};

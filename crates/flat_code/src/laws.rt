@@ -8,8 +8,8 @@ ghost use Rattle.flat_code.specs.Entries.{entry_at};
 ghost use Rattle.flat_code.specs.Facts.{facts, facts_with, ArePlain, AreWithin};
 ghost use Rattle.flat_code.specs.Passes.{Becomes};
 
-/// The value of each node is possible by its fact: for each list of values within facts of the inputs, and, where nothing is known of
-/// the inputs, for each list of values that programs are asked for.
+/// Facts are sound: each node's value is possible by its fact, for all inputs within the given
+/// facts, and, without facts of inputs, for all plain inputs (each undefined or an amount).
 pub fn facts_hold()
     ensures within { (given : List Possible) (flat : Flat) (inputs : List Value) (p : ℕ) → IsFlat flat → AreWithin given inputs → p < length flat.nodes
         → Holds (entry_at (facts_with given) flat.nodes p) (value_at (node_values inputs flat.nodes) p) }
@@ -17,7 +17,7 @@ pub fn facts_hold()
         → Holds (entry_at facts flat.nodes p) (value_at (node_values inputs flat.nodes) p) }
 {}
 
-/// Two passes, one after the other, are a pass.
+/// The composition of two passes is a pass.
 pub fn passes_compose()
     ensures { (first second third : Flat) → Becomes first second → Becomes second third → Becomes first third }
 {}

@@ -1,6 +1,9 @@
-//! Flat programs, their run, what is known of their nodes, and their tidy form.
+//! Flat programs, the form that a program has from the passes to register code: nodes computed in
+//! order, checks and outputs, without jumps. The crate defines their semantics, the facts of their
+//! nodes and their tidy form.
 //!
-//! This crate knows nothing of rules, drivers or printed lines.
+//! Uses `m_fixed`, `observables` and `definedness`. Knows nothing of rules, drivers or printed
+//! lines.
 #![tactic(auto)]
 
 mod hash;

@@ -1,4 +1,4 @@
-//! A flat program's run.
+//! Runs of flat programs.
 ghost use Rattle.std.specs.Prelude.{◌≡◌, ◌<◌, length, map, IfOk, None, if◌then◌else◌};
 ghost use Rattle.std.specs.List.{AllByRecursion};
 ghost use Rattle.m_fixed.specs.declared.amount.Value.{Value};
@@ -10,11 +10,11 @@ use m_places::Seq;
 use observables::{Answer, Stop};
 use std::alloc::{AllocError, Global};
 
-/// What a program answers for these inputs, one for each of its inputs. It takes one step for each node,
-/// check and output. Its only error is running out of memory.
+/// The answer of a program for these inputs, one value for each of its inputs. Takes one step for
+/// each node, check and output. The only error is running out of memory.
 ///
-/// Of the nodes `Input(0)`, `Lit(2 units)` and `Do(Op::Mul, 0, 1, 0)`, with the last as output, the
-/// answer for an undefined input is an undefined value.
+/// For the nodes `Input(0)`, `Lit(2 units)` and `Do(Op::Mul, 0, 1, 0)`, with the last as output, an
+/// undefined input gives an undefined output.
 pub fn run_flat(alloc: Global, flat: &Flat, inputs: &[Value]) -> Result<Answer, AllocError>
     requires valid { IsFlat flat.now }
     requires inputs { length inputs.now ≡ flat.now.inputs }
@@ -30,7 +30,8 @@ pub fn run_flat(alloc: Global, flat: &Flat, inputs: &[Value]) -> Result<Answer, 
     }
 }
 
-/// The values of all nodes, in a list that has room for these alone. Its only error is running out of memory.
+/// The values of all nodes, in a vector of exactly their number. The only error is running out of
+/// memory.
 pub fn values_of(alloc: Global, nodes: &[Node], inputs: &[Value]) -> Result<Vec<Value>, AllocError>
     requires { AreNodes (length inputs.now) 0 nodes.now }
     ensures { IfOk result (λ values. values.items ≡ node_values inputs.now nodes.now) }
@@ -43,7 +44,7 @@ pub fn values_of(alloc: Global, nodes: &[Node], inputs: &[Value]) -> Result<Vec<
     Ok(values)
 }
 
-/// The value of a node, where the nodes before it have these. It takes no memory.
+/// The value of a node, given the values of the nodes before it. Takes no memory.
 pub fn value_of(node: Node, values: &[Value], inputs: &[Value]) -> Value
     requires { IsNode (length inputs.now) (length values.now) node }
     ensures { result ≡ entry_of (values_for inputs.now) values.now node }
@@ -60,7 +61,7 @@ pub fn value_of(node: Node, values: &[Value], inputs: &[Value]) -> Value
     }
 }
 
-/// The stop of the first check that has one, where the nodes have these values. It takes no memory.
+/// The stop of the first check that causes one, given the values of the nodes. Takes no memory.
 pub fn stop_among(checks: &[Check], values: &[Value]) -> Option<Stop>
     requires { AllByRecursion (IsCheck (length values.now)) checks.now }
     ensures { result ≡ first_stop values.now checks.now }
@@ -75,7 +76,7 @@ pub fn stop_among(checks: &[Check], values: &[Value]) -> Option<Stop>
     None
 }
 
-/// What ends a run at a check whose guard and condition have these values. It takes no memory.
+/// The stop of a check, given the values of its guard and condition. Takes no memory.
 pub fn stop_at(guard: Value, over_only: bool, label: u32, condition: Value) -> Option<Stop>
     ensures { result ≡ (if is_one guard then stop_of over_only label condition else None) }
 {

@@ -25,7 +25,7 @@ impl Model for Tidy {
 }
 
 impl Tidy {
-    /// A program that is in the tidy form, as it is. Takes no memory.
+    /// Wraps a program that is in the tidy form. Takes no memory.
     pub fn new(flat: Flat) -> Tidy
         requires valid { IsFlat flat }
         requires tidy { IsTidy flat }

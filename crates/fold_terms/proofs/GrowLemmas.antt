@@ -66,7 +66,7 @@ valid-push count nodes node valid h = each-push (λ nodes p. IsNode count p (nod
     (λ p lt. subst (IsNode count p) (sym (node-push nodes node p lt)) (valid p lt))
     (subst (IsNode count (length nodes)) (sym (node-last nodes node (length nodes) refl)) h)
 
--- a node that is in form and that isn't there yet is added
+-- a normalised node that isn't in the table is added
 pub built-push : (count : ℕ) (nodes : List Node) (known : List Possible) (node : Node) (fact : Possible) → IsBuilt count nodes known
     → IsNode count (length nodes) node → fact ≡ entry_of facts (entries_of facts nodes) node → IsFact fact → IsNormal node → IsOpen node fact
     → has_form nodes node ≡ false → ((k : ℕ) → k < length nodes → node_at nodes k ≡ node → ⊥) → IsBuilt count (nodes ++ node ∷ []) (known ++ fact ∷ [])
@@ -121,7 +121,7 @@ take-old old new x n h e = ⊎_elim (λ d. ap (take n) d ∙ take_all n old (ome
 take-whole : {X : Type 0} (xs new : List X) (n : ℕ) → new ≡ xs → n ≡ length xs → take n new ≡ xs
 take-whole xs new n d e = ap (take n) d ∙ take_all n xs (omega arith)
 
--- The table decides what was added: what is known of the nodes is cut to their number.
+-- The table decides what was added: the facts are truncated to the number of nodes.
 pub record IsCut (count : ℕ) (old new : List Node) (known : List Possible) : Type 0 where
   pub built : IsBuilt count new known
   pub grows : Longer old new
@@ -151,7 +151,7 @@ cut-more count nodes nodes' nodes'' known known' known'' node fact added kept mo
       grows = inr (node, e);
     }
 
--- whatever the table answers
+-- for every result of the table
 pub cut-either : {E : Type 0} (r : Result ℕ E) (count : ℕ) (nodes nodes' nodes'' : List Node) (known known' known'' : List Possible) (node : Node)
     (fact : Possible) → IsBuilt count nodes known → nodes'' ≡ nodes' → Extends known known' fact → OnOk r (known' ≡ known ++ fact ∷ [])
     → IfOk r (IsEntered nodes nodes' node) → OnErr r (nodes' ≡ nodes) → known'' ≡ take (length nodes') known'
@@ -164,14 +164,14 @@ cut-either (Ok k) count nodes nodes' nodes'' known known' known'' node fact buil
 cut-either (Err e) count nodes nodes' nodes'' known known' known'' node fact built kept more all entered same cut add =
     cut-same count nodes nodes' nodes'' known known' known'' fact built same kept more cut
 
--- a node that wasn't there and is now is the last one
+-- a node that is new in the table is the last one
 last-number : (old new : List Node) (node : Node) (k : ℕ) → new ≡ old ++ node ∷ [] → IsAbsent old node → k < length new → node_at new k ≡ node → k ≡ length old
 last-number old new node k added absent within is = ⊎_elim
     (λ l. absurd (absent k l (sym (node-push old node k l) ∙ ap (λ nodes. node_at nodes k) (sym added) ∙ is)))
     (λ e. e)
     (push-cases old node k (subst (λ nodes. k < length nodes) added within))
 
--- what the table adds is its answer
+-- the table returns the node that it adds
 pub wanted-entered : {E : Type 0} (r : Result ℕ E) (old noted new : List Node) (node : Node) → new ≡ noted → IfOk r (IsEntered old noted node)
     → IfOk r (AddsAnswer old new)
 wanted-entered (Ok k) old noted new node kept entered = ⊎_elim

@@ -1,4 +1,4 @@
--- Which node stands for a node that is folded.
+-- Which node denotes a node that is folded.
 use Rattle.std.proofs.Common.{◌≡◌, ◌≢◌, ℕ, ◌<◌, Bool, true, false, not, eqb, ◌⊎◌, List, length, Some, None, Option, ℤ, pos, refl, ap, sym, ◌∙◌, subst, inl, inr}
 use Rattle.std.proofs.Common.{⊎_elim, arith}
 use mathlib.Core.Bool.{◌&&◌, ◌||◌}
@@ -34,7 +34,7 @@ pub ok-both : {E : Type 0} (r : Result ℕ E) (P Q R : ℕ → Type 0) → ((k :
 ok-both (Ok k) P Q R f p q = f k p q
 ok-both (Err e) P Q R f p q = tt
 
--- a node stands for itself
+-- a node denotes itself
 pub denoted-node : (count : ℕ) (nodes : List Node) (node : Node) (k : ℕ) → AreValid count nodes → k < length nodes → node_at nodes k ≡ node
     → Denotes nodes node k
 denoted-node count nodes node k valid lt e = record {
@@ -135,7 +135,7 @@ denoted-product-right count nodes a b c valid la lb one fact = record {
       ∙ same-product-left (v b) (v c) (value-is count nodes inputs b plain valid lb fact));
 }
 
--- what an opposite is the opposite of is an earlier node
+-- the argument of an opposite is an earlier node
 pub opposite-within : (count a x : ℕ) (node : Node) → IsNode count a node → IsOpposite node x → x < a
 opposite-within count a x node h n = let early : IsNode count a (Do Neg x n.second n.third) = subst (IsNode count a) n.is h in early.0
 
@@ -232,7 +232,7 @@ zero-possible (Some r) n h e =
     let high : pos 0 ≤ℤ r.1 = subst (λ n. n ≤ℤ r.1) e h.1 in
     rw (at_most r.0 (pos 0) low, at_most (pos 0) r.1 high) refl
 
--- a number that is possible where 0 is not is another
+-- if 0 isn't possible, a possible number isn't 0
 other-number : (f : Possible) (n : ℤ) → Holds f (Num n) → lacks_zero f ≡ true → is_zero n ≡ false
 other-number f n h e = go (is_zero n) refl
   where
@@ -241,7 +241,7 @@ other-number f n h e = go (is_zero n) refl
         ∙ not-true (may_be_zero f.range) (and-parts (is_some f.range) (not (may_be_zero f.range)) e).1))
     go false z = refl
 
--- a choice that surely takes a branch, where both are the same or the condition is never 0
+-- a choice that always takes one branch: its branches are equal, or its condition is never 0
 sure-choice : (f : Possible) (v x y : Value) → Holds f v → is_number f ≡ true → (x ≡ y) ⊎ (lacks_zero f ≡ true) → chosen v x y ≡ x
 sure-choice f Undef x y h s which = absurd (not-undef f Undef h (number-undef f.undef f.over s) refl)
 sure-choice f Over x y h s which = absurd (not-over f Over h (number-over f.undef f.over s) refl)
@@ -310,7 +310,7 @@ normal-entry inputs before (Lit v) = refl
 normal-entry inputs before (Do op a b c) = further op before a b c (nat_lt (arity_of op) 2) (nat_lt (arity_of op) 3) (ltb-true (arity_of op) 2)
     (ltb-true (arity_of op) 3)
 
--- what stands for the node with other arguments past the arity stands for the node
+-- what denotes the node with other arguments past the arity denotes the node
 pub denoted-normal : (nodes : List Node) (node : Node) (k : ℕ) → Denotes nodes (normalised node) k → Denotes nodes node k
 denoted-normal nodes node k h = record {
   within = h.within;
@@ -320,7 +320,7 @@ denoted-normal nodes node k h = record {
       h.value inputs plain ∙ entry-by r vs (normalised node) ∙ normal-entry inputs (value nodes inputs) node ∙ sym (entry-by r vs node);
 }
 
--- a literal stands for a node of which its value alone is possible
+-- a literal denotes a node whose only possible value it is
 pub denoted-literal : (count : ℕ) (old new : List Node) (node : Node) (w : Value) (k : ℕ) → AreValid count old → AreValid count new → Longer old new
     → IsNode count (length old) node → one_value (entry_of facts (entries_of facts old) node) ≡ Some w → k < length new → node_at new k ≡ Lit w
     → Denotes new node k

@@ -1,4 +1,4 @@
--- What operators give where a form is folded.
+-- The values of operators in the seven forms.
 use Rattle.std.proofs.Common.{◌≡◌, ◌≢◌, ℕ, zero, suc, Bool, true, false, not, eqb, ℤ, pos, negsuc, ◌+ℤ◌, ◌-ℤ◌, ◌*ℤ◌, neg_ℤ, unsigned_abs, refl, ap, sym, ◌∙◌}
 use Rattle.std.proofs.Common.{subst, arith}
 use Rattle.std.specs.Prelude.{if◌then◌else◌}
@@ -106,7 +106,7 @@ twice-opposite (Num x) b c d e h =
 
 -- ---- truths
 
--- a test gives 0 or 1 where it gives a number
+-- if a test is a number, it is 0 or 1
 truth-bit : (t : Bool) (b c : Value) → op_value Truth (Num (truth t)) b c ≡ Num (truth t)
 unfolding op_value
 truth-bit true b c = refl
@@ -116,7 +116,7 @@ bounded-truth : (t : Bool) → bounded (truth t) ≡ Num (truth t)
 bounded-truth true = refl
 bounded-truth false = refl
 
--- a value that is undefined, Over or a truth
+-- a value that is undefined, Over, 0 or 1
 data IsTruth : Value → Type 0 where
   undef : IsTruth Undef
   over : IsTruth Over
@@ -125,7 +125,7 @@ data IsTruth : Value → Type 0 where
 bounded-bit : (t : Bool) → IsTruth (bounded (truth t))
 bounded-bit t = subst IsTruth (sym (bounded-truth t)) (bit t)
 
--- what tests give of numbers is a truth
+-- a test of numbers has such a value
 abbrev Bits : Op → Type 0
 Bits op = (x y : ℤ) → (t : Bool) × (result_of op x y ≡ truth t)
 

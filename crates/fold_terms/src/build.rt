@@ -18,7 +18,7 @@ use m_places::Seq;
 use std::alloc::{AllocError, Global};
 use std::marker::Model;
 
-// The value, where one alone is possible.
+// The only possible value, if there is exactly one.
 fn value_alone(fact: &Fact) -> Option<Value>
     ensures { result ≡ one_value fact.now }
 {
@@ -26,7 +26,7 @@ fn value_alone(fact: &Fact) -> Option<Value>
     fact.one_value()
 }
 
-// What is known of a literal.
+// The fact of a literal.
 fn literal_fact(value: &Value) -> Fact
     ensures is { result ≡ fact_of_value value.now }
     ensures fact { IsFact result }
@@ -35,7 +35,7 @@ fn literal_fact(value: &Value) -> Fact
 }
 
 impl Parts {
-    // A node with the value of this one.
+    // The number of a node with the value of this one, which is simplified, found, or appended.
     fn push(&mut self, node: Node) -> Result<u32, AllocError>
         requires built { IsBuilt self.old.inputs self.old.nodes self.old.facts }
         requires room { length self.old.nodes < 4_294_967_295 }
@@ -60,8 +60,8 @@ impl Parts {
     }
 }
 
-/// A flat program that grows node by node, and is folded and shared at each moment, also after an error.
-/// Contracts see how many inputs it has, and its nodes.
+/// A flat program under construction. Its nodes are folded and shared at all times, also after an
+/// error. Contracts see the number of inputs and the nodes.
 #[derive(Drop)]
 pub struct Builder {
     parts: Parts,
@@ -80,9 +80,10 @@ impl Model for Builder {
 }
 
 impl Builder {
-    /// A builder of a program with so many inputs, without nodes. Takes no memory.
+    /// An empty builder, for a program with this number of inputs. Takes no memory.
     ///
-    /// Where strangers choose the nodes, `Builder::under` is given a key that was made of them.
+    /// Its key is public. If the nodes come from an untrusted source, use `Builder::under` with a
+    /// key that is derived from them.
     pub fn new(alloc: Global, inputs: u32) -> Builder
         ensures { result ≡ record { inputs = inputs; nodes = [] } }
     {
@@ -95,7 +96,7 @@ impl Builder {
         }
     }
 
-    /// The same, with nodes that are hashed under this key. Takes no memory.
+    /// An empty builder that hashes nodes under this key. Takes no memory.
     pub fn under(alloc: Global, inputs: u32, key: Key) -> Builder
         ensures { result ≡ record { inputs = inputs; nodes = [] } }
     {
@@ -108,7 +109,7 @@ impl Builder {
         }
     }
 
-    /// How many nodes there are. Takes no memory.
+    /// The number of nodes. Takes no memory.
     pub fn count(&self) -> u32
         ensures count { result ≡ length self.now.nodes }
         ensures folded { IsFolded self.now.nodes }
@@ -116,9 +117,9 @@ impl Builder {
         self.parts.nodes.count()
     }
 
-    /// The number of a node with the value of this one, for each list of values that programs are asked
-    /// for. At most one node is added, and then it is the one that is answered; the nodes that were there stay. Its only error is
-    /// running out of memory.
+    /// The number of a node that has the value of this one for all plain inputs (each undefined or
+    /// an amount). At most one node is appended, and then its number is the result; the old nodes
+    /// are unchanged. The only error is running out of memory, and then nothing changes.
     pub fn push(&mut self, node: Node) -> Result<u32, AllocError>
         requires node { IsNode self.old.inputs (length self.old.nodes) node }
         requires room { length self.old.nodes < 4_294_967_295 }
@@ -131,7 +132,7 @@ impl Builder {
         self.parts.push(node)
     }
 
-    /// The program of these nodes, with these checks and outputs, as they are. Takes no memory.
+    /// The program of these nodes, with these checks and outputs unchanged. Takes no memory.
     pub fn finish(self, checks: Vec<Check>, outputs: Vec<u32>) -> Flat
         requires checks { AllByRecursion (IsCheck (length self.nodes)) checks.items }
         requires outputs { AllByRecursion (λ output. output < length self.nodes) outputs.items }

@@ -1,4 +1,4 @@
-//! The seven forms: a node with the value of one that is to be folded.
+//! The seven simplifications of operator nodes.
 ghost use Rattle.std.specs.Prelude.{◌≡◌, ◌<◌, false, length, IfSome, IfNone};
 ghost use Rattle.flat_code.specs.Runs.{IsNode};
 ghost use Rattle.flat_code.specs.Tidy.{has_form};
@@ -13,7 +13,7 @@ use flat_code::Node;
 use m_fixed::Op;
 
 impl Parts {
-    // A sum with 0.
+    // A sum with 0 is its other term.
     fn simple_sum(&self, a: u32, b: u32, c: u32) -> Option<u32>
         requires built { IsBuilt self.now.inputs self.now.nodes self.now.facts }
         requires node { IsNode self.now.inputs (length self.now.nodes) (Node.Do Op.Add a b c) }
@@ -29,7 +29,7 @@ impl Parts {
         None
     }
 
-    // A difference of which 0 is taken.
+    // A difference that subtracts 0 is its first term.
     fn simple_difference(&self, a: u32, b: u32, c: u32) -> Option<u32>
         requires built { IsBuilt self.now.inputs self.now.nodes self.now.facts }
         requires node { IsNode self.now.inputs (length self.now.nodes) (Node.Do Op.Sub a b c) }
@@ -42,7 +42,7 @@ impl Parts {
         None
     }
 
-    // A product with 1.
+    // A product with 1 is its other factor.
     fn simple_product(&self, a: u32, b: u32, c: u32) -> Option<u32>
         requires built { IsBuilt self.now.inputs self.now.nodes self.now.facts }
         requires node { IsNode self.now.inputs (length self.now.nodes) (Node.Do Op.Mul a b c) }
@@ -58,7 +58,7 @@ impl Parts {
         None
     }
 
-    // The opposite of an opposite.
+    // The opposite of an opposite is the original node.
     fn simple_opposite(&self, a: u32, b: u32, c: u32) -> Option<u32>
         requires built { IsBuilt self.now.inputs self.now.nodes self.now.facts }
         requires node { IsNode self.now.inputs (length self.now.nodes) (Node.Do Op.Neg a b c) }
@@ -68,7 +68,7 @@ impl Parts {
         opposite_of(self.node_at(a))
     }
 
-    // The truth of a test that is a number.
+    // The truth of a test that is always a number is the test.
     fn simple_truth(&self, a: u32, b: u32, c: u32) -> Option<u32>
         requires built { IsBuilt self.now.inputs self.now.nodes self.now.facts }
         requires node { IsNode self.now.inputs (length self.now.nodes) (Node.Do Op.Truth a b c) }
@@ -81,7 +81,7 @@ impl Parts {
         None
     }
 
-    // A choice that is decided.
+    // A choice that always takes the same branch is this branch.
     fn simple_choice(&self, a: u32, b: u32, c: u32) -> Option<u32>
         requires built { IsBuilt self.now.inputs self.now.nodes self.now.facts }
         requires node { IsNode self.now.inputs (length self.now.nodes) (Node.Do Op.Choose a b c) }
@@ -97,7 +97,7 @@ impl Parts {
         None
     }
 
-    // A node with the value of an operator's node that is to be folded.
+    // The existing node that an operator node simplifies to, if any.
     fn simple_operator(&self, op: Op, a: u32, b: u32, c: u32) -> Option<u32>
         requires built { IsBuilt self.now.inputs self.now.nodes self.now.facts }
         requires node { IsNode self.now.inputs (length self.now.nodes) (Node.Do op a b c) }
@@ -115,7 +115,7 @@ impl Parts {
         }
     }
 
-    /// A node with the value of one that is to be folded.
+    /// The existing node that a node simplifies to, if any.
     pub fn simple(&self, node: &Node) -> Option<u32>
         requires built { IsBuilt self.now.inputs self.now.nodes self.now.facts }
         requires node { IsNode self.now.inputs (length self.now.nodes) node.now }

@@ -1,4 +1,4 @@
-//! What is known of nodes, as a builder keeps it: 24 bytes a node.
+//! The facts of nodes as a builder stores them: 24 bytes for each node.
 ghost use Rattle.std.specs.Prelude.{◌≡◌, ◌<◌, ◌≤◌, ◌∷◌, [], ◌++◌, length, take, OnOk, OnErr, slice_index_or};
 ghost use Rattle.m_fixed.specs.Amounts.{IsAmount, most};
 ghost use Rattle.m_fixed.specs.Rounding.{signed};
@@ -10,8 +10,8 @@ use m_fixed::Amount;
 use std::alloc::{AllocError, Global};
 use std::marker::Model;
 
-/// A fact as it is kept: whether undefined, Over and numbers are possible, and the sign and the size of the least
-/// number and of the greatest.
+/// A stored fact: whether undefined, `Over` and numbers are possible, and sign and magnitude of the
+/// least and the greatest number.
 #[derive(Clone, Copy)]
 pub struct PackedFact {
     pub undef: bool,
@@ -23,7 +23,7 @@ pub struct PackedFact {
     pub high: u64,
 }
 
-// A number as its sign and its size, in millionths.
+// A number as sign and magnitude, in millionths.
 #[derive(Clone, Copy)]
 struct Signed {
     negative: bool,
@@ -55,7 +55,7 @@ fn amount_of(negative: bool, size: u64) -> Amount
     }
 }
 
-// The fact as it is kept.
+// Encodes a fact.
 fn packed(fact: Fact) -> PackedFact
     ensures { unpacked result ≡ fact }
 {
@@ -85,7 +85,7 @@ fn packed(fact: Fact) -> PackedFact
     }
 }
 
-// The fact that is kept so.
+// Decodes a fact.
 fn opened_fact(packed: PackedFact) -> Fact
     requires { IsFact (unpacked packed) }
     ensures { result ≡ unpacked packed }
@@ -105,7 +105,7 @@ fn opened_fact(packed: PackedFact) -> Fact
     }
 }
 
-/// What is known of nodes, in their order. Contracts see the list of facts.
+/// The facts of nodes, in order. Contracts see them as their list.
 #[derive(Drop)]
 pub struct KnownFacts {
     packed: Vec<PackedFact>,
@@ -140,7 +140,7 @@ impl KnownFacts {
         opened_fact(self.packed[place as usize])
     }
 
-    /// Adds a fact at the end.
+    /// Appends a fact.
     pub fn push(&mut self, fact: Fact) -> Result<(), AllocError>
         ensures ok { OnOk result (self.new ≡ self.old ++ fact ∷ []) }
         ensures err { OnErr result (self.new ≡ self.old) }
@@ -149,7 +149,7 @@ impl KnownFacts {
         Ok(())
     }
 
-    /// Keeps the first so many facts.
+    /// Keeps the first `count` facts.
     pub fn truncate(&mut self, count: usize)
         ensures { self.new ≡ take count self.old }
     {

@@ -1,7 +1,8 @@
-//! Flat programs that are folded while they grow: by what is known of a node, by the seven forms, and by
-//! sharing of equal nodes.
+//! Builds flat programs whose nodes are folded and shared at all times: constants are folded by
+//! facts, seven algebraic forms are simplified, and equal nodes are shared.
 //!
-//! This crate knows nothing of drivers, and looks one argument back only.
+//! Uses `flat_code`, `definedness` for facts and `common_terms` for sharing. Knows nothing of
+//! drivers or rules. A simplification inspects a node and its arguments, and no deeper.
 #![tactic(auto)]
 
 mod build;

@@ -1,4 +1,4 @@
-//! The nodes of a builder, in the table that shares them, with what is known of each.
+//! The state of a builder: its nodes in the table that shares them, and the fact of each.
 ghost use Rattle.std.specs.Prelude.{◌≡◌, ◌<◌, false, [], ◌∷◌, ◌++◌, length, take, IfOk, OnOk, OnErr};
 ghost use Rattle.definedness.specs.Facts.{IsFact};
 ghost use Rattle.flat_code.specs.Runs.{entry_of, entries_of, IsNode};
@@ -15,7 +15,7 @@ use definedness::{Fact, fact_of, fact_of_input, fact_of_value};
 use flat_code::Node;
 use std::alloc::AllocError;
 
-/// Nodes that are folded, in a table in which each stands once, and what is known of each.
+/// Folded nodes, each stored once, and the fact of each.
 #[derive(Drop)]
 pub struct Parts {
     pub inputs: u32,
@@ -23,7 +23,7 @@ pub struct Parts {
     pub facts: KnownFacts,
 }
 
-/// The fact, of which it is told that it is one.
+/// The fact itself, with its invariant available to the caller's proof.
 pub fn opened(fact: Fact) -> Fact
     ensures is { result ≡ fact }
     ensures fact { IsFact result }
@@ -33,7 +33,7 @@ pub fn opened(fact: Fact) -> Fact
 }
 
 impl Parts {
-    /// A node.
+    /// The node with this number.
     pub fn node_at(&self, k: u32) -> Node
         requires { k < length self.now.nodes }
         ensures { result ≡ node_at self.now.nodes k }
@@ -41,7 +41,7 @@ impl Parts {
         self.nodes.at(k)
     }
 
-    /// What is known of a node.
+    /// The fact of the node with this number.
     pub fn fact_at(&self, k: u32) -> Fact
         requires built { IsBuilt self.now.inputs self.now.nodes self.now.facts }
         requires within { k < length self.now.nodes }
@@ -50,7 +50,7 @@ impl Parts {
         self.facts.at(k)
     }
 
-    /// What is known of a new node.
+    /// The fact of a new node, from the facts of its arguments.
     pub fn fact_of_node(&self, node: &Node) -> Fact
         requires built { IsBuilt self.now.inputs self.now.nodes self.now.facts }
         requires node { IsNode self.now.inputs (length self.now.nodes) node.now }
@@ -66,8 +66,8 @@ impl Parts {
         }
     }
 
-    // The number of the equal node that is there, or else of this node, which is added. After the facts
-    // of the nodes one may be left over.
+    // The number of the equal node, which is added if there is none. Afterwards there may be one
+    // more fact than nodes.
     fn note(&mut self, node: Node, fact: Fact) -> Result<u32, AllocError>
         requires room { length self.old.nodes < 4_294_967_295 }
         ensures inputs { self.new.inputs ≡ self.old.inputs }
@@ -80,7 +80,7 @@ impl Parts {
         self.nodes.find_or_add(node)
     }
 
-    // A fact that is left over is cut off.
+    // Removes a surplus fact.
     fn cut(&mut self)
         ensures inputs { self.new.inputs ≡ self.old.inputs }
         ensures nodes { self.new.nodes ≡ self.old.nodes }
@@ -90,7 +90,7 @@ impl Parts {
         self.facts.truncate(count);
     }
 
-    /// The number of the equal node that is there, or else of this node, which is added.
+    /// The number of the equal node, which is added if there is none.
     pub fn enter(&mut self, node: Node, fact: Fact) -> Result<u32, AllocError>
         requires built { IsBuilt self.old.inputs self.old.nodes self.old.facts }
         requires room { length self.old.nodes < 4_294_967_295 }

@@ -1,4 +1,4 @@
-//! Tests and changes of one node.
+//! Tests and rewrites of a single node.
 ghost use Rattle.std.specs.Prelude.{◌≡◌, IfSome, IfNone, false};
 ghost use Rattle.flat_code.specs.Runs.{is_one};
 ghost use Rattle.flat_code.specs.Tidy.{is_literal, is_literal_of, is_null, is_made_by, is_test, is_neg};
@@ -8,7 +8,7 @@ use definedness::Fact;
 use flat_code::{Node, is_one};
 use m_fixed::{Amount, Op, Value, arity};
 
-/// The node with arguments past the arity that are equal to the first.
+/// The node, with each argument past the arity replaced by the first.
 pub fn normalised(node: Node) -> Node
     ensures { result ≡ normalised node }
 {
@@ -24,7 +24,7 @@ pub fn normalised(node: Node) -> Node
     }
 }
 
-/// Whether it is the literal 0.
+/// Whether the node is the literal 0.
 pub fn is_zero_literal(node: Node) -> bool
     ensures { result ≡ is_literal_of is_null node }
 {
@@ -43,7 +43,7 @@ fn is_null(value: Value) -> bool
     }
 }
 
-/// Whether it is the literal 1.
+/// Whether the node is the literal 1.
 pub fn is_unit_literal(node: Node) -> bool
     ensures { result ≡ is_literal_of is_one node }
 {
@@ -53,7 +53,7 @@ pub fn is_unit_literal(node: Node) -> bool
     }
 }
 
-/// The value of a literal.
+/// The value of a literal; none for other nodes.
 pub fn literal(node: Node) -> Option<Value>
     ensures some { IfSome result (λ v. node ≡ Node.Lit v) }
     ensures none { IfNone result (is_literal node ≡ false) }
@@ -71,7 +71,7 @@ fn is_neg(op: Op) -> bool
     op == Op::Neg
 }
 
-/// What an opposite is the opposite of.
+/// The argument of an opposite; none for other nodes.
 pub fn opposite_of(node: Node) -> Option<u32>
     ensures some { IfSome result (λ x. IsOpposite node x) }
     ensures none { IfNone result (is_made_by is_neg node ≡ false) }
@@ -85,7 +85,7 @@ pub fn opposite_of(node: Node) -> Option<u32>
     }
 }
 
-/// Whether it is a comparison or another test.
+/// Whether the node's operator is a comparison or another test.
 pub fn is_test_node(node: Node) -> bool
     ensures { result ≡ is_made_by is_test node }
 {
@@ -128,7 +128,7 @@ fn is_test(op: Op) -> bool
     }
 }
 
-/// The node of a choice whose condition is a literal.
+/// The branch that a choice with a literal condition takes.
 pub fn choice_of(value: Value, a: u32, b: u32, c: u32) -> u32
     ensures { result ≡ choice_of value a b c }
 {
@@ -145,7 +145,8 @@ fn branch_of(amount: Amount, b: u32, c: u32) -> u32
     if amount.millionths() == 0 { c } else { b }
 }
 
-/// Whether a choice surely gives its first branch.
+/// Whether a choice always takes its first branch, by the fact of its condition and whether its
+/// branches are equal.
 pub fn is_decided(fact: Fact, same: bool) -> bool
     ensures { result ≡ is_decided fact same }
 {

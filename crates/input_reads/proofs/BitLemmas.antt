@@ -102,7 +102,7 @@ lists-more masks n count lists new p h = record {
     and-true true = refl
     and-true false = refl
 
--- one list more that is empty
+-- one more empty list
 pub none-more : (lists : List (List ℕ)) → ((k : ℕ) → list_at lists k ≡ []) → (k : ℕ) → list_at (lists ++ [] ∷ []) k ≡ []
 none-more [] h zero = refl
 none-more [] h (suc k) = refl
@@ -131,7 +131,7 @@ put-one vecs k n d w h more =
     map-set (λ (u : Vec ℕ Global). u.items) vecs k w
     ∙ ap (set (lists_in vecs) k) (more ∙ ap (λ xs. xs ++ n ∷ []) (sym (get_or-map (λ (u : Vec ℕ Global). u.items) vecs k d [] h)))
 
--- what was written over a whole list is the list
+-- a list that is written over a whole list replaces it
 pub whole : {X : Type 0} (xs ys : List X) (n : ℕ) → length xs ≡ length ys → n ≡ length ys → take n (xs ++ drop (length xs) ys) ≡ xs
 whole [] [] n e f = ap (λ k. take k []) f
 whole [] (y ∷ ys) n e f = absurd (omega (arith, e))

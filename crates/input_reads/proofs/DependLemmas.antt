@@ -1,4 +1,4 @@
--- May depend, as a test and by steps.
+-- Dependence as a test, and as a path.
 use Rattle.std.proofs.Common.{◌≡◌, ℕ, ◌+◌, ◌<◌, ◌≤◌, Bool, true, false, List, [], ◌∷◌, ◌++◌, length, get_or, take, drop, refl, ap, sym, ◌∙◌, subst, inl, inr}
 use Rattle.std.proofs.Common.{⊎_elim, arith, length-append}
 use Rattle.std.specs.Prelude.{fold, ◌&&◌, ◌||◌, ◌⊎◌}
@@ -78,7 +78,7 @@ looks-same known n inputs p f g (Do op a b c) h same =
     ∙ ap (λ t. g a || (looks_at_second op (fact_at known a) && t) || (looks_at_third op (fact_at known a) && f c)) (same b h.1)
     ∙ ap (λ t. g a || (looks_at_second op (fact_at known a) && g b) || (looks_at_third op (fact_at known a) && t)) (same c h.2)
 
--- whether a node may depend on an input, by the nodes at which it looks
+-- whether a node may depend on an input, by the nodes that it uses
 pub depend-at : (known : List Possible) (nodes : List Node) (inputs p n : ℕ) → AreNodes inputs 0 nodes → p < length nodes
     → may_depend known nodes p n ≡ (is_open (fact_at known p) && looks_at known n (λ x. may_depend known nodes x n) (node_at nodes p))
 depend-at known nodes inputs p n valid h =

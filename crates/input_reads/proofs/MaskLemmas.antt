@@ -1,4 +1,4 @@
--- Masks: one added, one node after another, and what the bits say at the end.
+-- Masks: one addition, the backward pass node by node, and the meaning of the bits at its end.
 use Rattle.std.proofs.Common.{◌≡◌, ◌≢◌, ℕ, zero, suc, ◌+◌, ◌*◌, ◌%◌, ◌^◌, ◌<◌, ◌≤◌, Bool, true, false, eqb, List, length, set, bit_or, w64, refl, ap, sym, ◌∙◌}
 use Rattle.std.proofs.Common.{subst, inl, inr, ⊎_elim, arith}
 use Rattle.std.specs.Prelude.{◌||◌, ◌⊎◌, max}
@@ -87,7 +87,7 @@ adds-unread read mask old none = record {
   only = λ k x b. inl b;
 }
 
--- ---- asked nodes
+-- ---- requested nodes
 
 pub none-marked : (wanted masks : List ℕ) → ((k x : ℕ) → has (mask_at masks x) k ≡ false) → IsMarked wanted 0 masks
 none-marked wanted masks none = record {
@@ -112,7 +112,7 @@ bit-other masks x y k j h small ne = ⊎_elim
     (λ (other : y ≢ x). with-other masks x y (1 * 2 ^ k % 2 ^ 64) j other)
     (cases_eq y x)
 
--- one asked node more
+-- one requested node more
 pub marked-more : (wanted masks : List ℕ) (k x : ℕ) → x ≡ number_at wanted k → x < length masks → k < 64 → IsMarked wanted k masks
     → IsMarked wanted (k + 1) (with_bit masks x k)
 marked-more wanted masks k x e h small m = record {

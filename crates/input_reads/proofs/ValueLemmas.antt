@@ -1,4 +1,5 @@
--- Where two lists of inputs agree on what a node may depend on, it has one value.
+-- If two lists of inputs agree on those on which a node may depend, the node has the same value for
+-- both.
 use Rattle.std.proofs.Common.{◌≡◌, ℕ, ◌<◌, ◌≤◌, Bool, true, false, List, length, Option, None, Some, refl, ap, sym, ◌∙◌, subst, inl, inr, ⊎_elim, arith}
 use Rattle.std.specs.Prelude.{ℤ, nat_lt, is_none, if◌then◌else◌}
 use Rattle.std.proofs.lemmas.Bool.{cases_lt, lt-ltb}
@@ -50,7 +51,7 @@ some-arity : (op : Op) → 1 ≤ arity_of op
 some-arity Choose = omega arith
 some-arity _ = omega arith
 
--- an operator but a choice
+-- an operator other than a choice
 plain-same : (op : Op) (a b c x y z : Value) → arity_of op ≤ 2 → a ≡ x → (nat_lt 1 (arity_of op) ≡ true → b ≡ y) → op_value op a b c ≡ op_value op x y z
 plain-same op a b c x y z few first second =
     ap (λ v. op_value op v b c) first

@@ -1,4 +1,4 @@
-//! The inputs on which nodes may depend.
+//! The inputs on which requested nodes may depend.
 ghost use Rattle.std.specs.Prelude.{◌≡◌, ◌<◌, ◌≤◌, ◌++◌, IfOk, OnOk, length, map};
 ghost use Rattle.std.specs.List.{AllByRecursion};
 ghost use Rattle.flat_code.specs.Runs.{AreNodes};
@@ -11,12 +11,14 @@ use flat_code::Node;
 use m_places::Seq;
 use std::alloc::{AllocError, Global};
 
-/// For each asked node the inputs on which its value may depend, in ascending order, where these are the facts of all nodes. Its only error is
-/// running out of memory.
+/// For each requested node the inputs on which its value may depend, in ascending order, given the
+/// facts of all nodes. The only error is running out of memory.
 ///
-/// Of the nodes `Input(0)`, `Input(1)` and `Do(Op::Choose, 0, 1, 1)`, where the first is known to be 1, the last depends on input 1 alone.
+/// For the nodes `Input(0)`, `Input(1)` and `Do(Op::Choose, 0, 1, 1)`, of which the first is known
+/// to be 1, the last depends on input 1 alone.
 ///
-/// It takes a step for each node and each input, for each 64 asked nodes, and one for each input of each asked node.
+/// Takes one step for each node and each input, for every 64 requested nodes, and one for each
+/// input of each result.
 pub fn dependences(
     alloc: Global,
     nodes: &[Node],
@@ -39,7 +41,7 @@ pub fn dependences(
     Ok(Seq::from_vec(found))
 }
 
-// How many are in a group, of so many that are left.
+// The size of the next group, at most 64.
 fn group_of(left: usize) -> usize
     requires { 0 < left }
     ensures some { 0 < result }
@@ -49,7 +51,7 @@ fn group_of(left: usize) -> usize
     left.min(64)
 }
 
-// The same of 64 asked nodes at most, after what was found before.
+// Appends the results of a group of at most 64 requested nodes.
 fn add_group(
     alloc: Global,
     nodes: &[Node],

@@ -7,8 +7,8 @@ ghost use Rattle.flat_code.specs.Runs.{AreNodes, node_values, value_at};
 ghost use Rattle.input_reads.specs.Reads.{may_depend, depends_on};
 ghost use Rattle.input_reads.specs.Steps.{Depends, AreHeld};
 
-/// Where two lists of inputs agree on those on which a node may depend, and all nodes have values that are possible by their facts, the node
-/// has the same value for both.
+/// Dependences are sound: if two lists of inputs agree on those on which a node may depend, and all
+/// values are possible by their facts, the node has the same value for both.
 pub fn dependences_suffice()
     ensures { (known : List Possible) (nodes : List Node) (inputs p : ℕ) (before now : List Value)
         → AreNodes inputs 0 nodes → AreHeld known (node_values before nodes) → AreHeld known (node_values now nodes) → p < length nodes
@@ -16,7 +16,7 @@ pub fn dependences_suffice()
         → value_at (node_values before nodes) p ≡ value_at (node_values now nodes) p }
 {}
 
-/// A node may depend on an input where it does by steps, and there alone.
+/// A node may depend on an input exactly if there is a path of dependence.
 pub fn dependences_are_steps()
     ensures steps { (known : List Possible) (nodes : List Node) (inputs p n : ℕ)
         → AreNodes inputs 0 nodes → Contains (depends_on known nodes inputs p) n → Depends known nodes n p }

@@ -1,6 +1,8 @@
-//! The inputs on which the values of a flat program's nodes may depend, by what is known of all nodes.
+//! Dependence analysis of flat programs: the inputs on which the value of a node may depend, given
+//! the facts of all nodes.
 //!
-//! This crate knows nothing of rules, households or printed lines.
+//! Uses `flat_code` for programs and `definedness` for facts. Knows nothing of rules, households or
+//! printed lines.
 #![tactic(auto)]
 
 mod found;

@@ -1,11 +1,11 @@
-//! From masks to lists.
+//! Converts masks to lists.
 ghost use Rattle.std.specs.Prelude.{◌≡◌, ◌<◌, ◌≤◌, ◌++◌, ℕ, [], IfOk, OnOk, length, map};
 ghost use Rattle.input_reads.specs.inner.Lists.{lists_in, list_at, with_number, IsPut, AreLists};
 
 use m_places::Seq;
 use std::alloc::{AllocError, Global};
 
-// So many empty lists.
+// The given number of empty lists.
 fn empty_lists(alloc: Global, count: usize) -> Result<Vec<Vec<u32>>, AllocError>
     ensures many { IfOk result (λ lists. length lists.items ≡ count) }
     ensures empty { IfOk result (λ lists. (k : ℕ) → list_at (lists_in lists.items) k ≡ []) }
@@ -17,7 +17,7 @@ fn empty_lists(alloc: Global, count: usize) -> Result<Vec<Vec<u32>>, AllocError>
     Ok(lists)
 }
 
-// Puts a number at the end of a list, if it is there.
+// Appends a number to list k, if it exists.
 fn put(lists: &mut [Vec<u32>], k: usize, n: u32) -> Result<(), AllocError>
     ensures { OnOk result (lists_in lists.new ≡ with_number (lists_in lists.old) k n) }
 {
@@ -27,7 +27,7 @@ fn put(lists: &mut [Vec<u32>], k: usize, n: u32) -> Result<(), AllocError>
     Ok(())
 }
 
-// Puts a number at the end of each list whose bit a mask has, in a step for each.
+// Appends a number to each list whose bit is in the mask, in one step for each bit that is 1.
 fn put_by_mask(lists: &mut [Vec<u32>], mask: u64, n: u32) -> Result<(), AllocError>
     requires { length lists.old ≤ 64 }
     ensures { OnOk result (IsPut mask 0 n (lists_in lists.old) (lists_in lists.new)) }
@@ -41,7 +41,7 @@ fn put_by_mask(lists: &mut [Vec<u32>], mask: u64, n: u32) -> Result<(), AllocErr
     Ok(())
 }
 
-/// For each bit below a count, the numbers whose masks have it, in ascending order.
+/// For each bit below the count, the numbers whose masks have it, in ascending order.
 pub fn lists_of(alloc: Global, masks: &[u64], count: usize) -> Result<Vec<Vec<u32>>, AllocError>
     requires count { count ≤ 64 }
     requires few { length masks.now < 4_294_967_296 }
@@ -54,7 +54,7 @@ pub fn lists_of(alloc: Global, masks: &[u64], count: usize) -> Result<Vec<Vec<u3
     Ok(lists)
 }
 
-/// Adds lists to those that were found before.
+/// Appends lists to those of earlier groups.
 pub fn add_lists(lists: Vec<Vec<u32>>, found: &mut Vec<Seq<u32>>) -> Result<(), AllocError>
     ensures { OnOk result (found.new.items ≡ found.old.items ++ lists_in lists.items) }
 {

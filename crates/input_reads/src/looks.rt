@@ -1,4 +1,4 @@
-//! At which nodes a node looks.
+//! Which arguments a node uses.
 ghost use Rattle.std.specs.Prelude.{◌≡◌};
 ghost use Rattle.definedness.specs.Ranges.{may_be_zero, may_be_other};
 ghost use Rattle.input_reads.specs.Reads.{is_open, looks_at_second, looks_at_third};
@@ -31,7 +31,7 @@ fn may_be_other(fact: Fact) -> bool
     }
 }
 
-/// Whether an operator looks at its second argument, where this is known of the first.
+/// Whether an operator uses its second argument, given the fact of the first.
 pub fn looks_at_second(op: Op, first: Fact) -> bool
     ensures { result ≡ looks_at_second op first }
 {
@@ -41,7 +41,7 @@ pub fn looks_at_second(op: Op, first: Fact) -> bool
     }
 }
 
-/// Whether an operator looks at its third argument, where this is known of the first.
+/// Whether an operator uses its third argument, given the fact of the first.
 pub fn looks_at_third(op: Op, first: Fact) -> bool
     ensures { result ≡ looks_at_third op first }
 {

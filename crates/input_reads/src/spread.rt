@@ -1,4 +1,5 @@
-//! From asked nodes back to the inputs on which they may depend: 64 asked nodes at a time, with a bit for each.
+//! The backward pass: from 64 requested nodes at a time, with one bit for each, to the inputs on
+//! which they may depend.
 ghost use Rattle.std.specs.Prelude.{◌≡◌, ℕ, ◌<◌, ◌≤◌, true, List, length, IfOk};
 ghost use Rattle.std.specs.List.{AllByRecursion};
 ghost use Rattle.flat_code.specs.declared.program.Node.TheVariants.{Input};
@@ -12,7 +13,7 @@ use flat_code::Node;
 use m_fixed::Op;
 use std::alloc::{AllocError, Global};
 
-// Adds a mask to that of a number, if it is read.
+// Adds a mask to the mask of number x, if `is_read`.
 fn add_mask(is_read: bool, masks: &mut [u64], x: u32, mask: u64)
     requires { x < length masks.old }
     ensures { Adds (λ y. (is_read ≡ true) × (y ≡ x)) mask masks.old masks.new }
@@ -22,7 +23,7 @@ fn add_mask(is_read: bool, masks: &mut [u64], x: u32, mask: u64)
     }
 }
 
-// Adds a mask to those of the arguments at which an operator looks.
+// Adds a mask to the masks of the arguments that an operator uses.
 fn add_to_arguments(masks: &mut [u64], known: &[Fact], op: Op, a: u32, b: u32, c: u32, mask: u64)
     requires node { IsNode 0 (length masks.old) (Node.Do op a b c) }
     requires known { length known.now ≡ length masks.old }
@@ -34,7 +35,8 @@ fn add_to_arguments(masks: &mut [u64], known: &[Fact], op: Op, a: u32, b: u32, c
     add_mask(looks_at_third(op, first), masks, c, mask);
 }
 
-// Adds the mask of a node of which more than one value is possible to those of the nodes at which it looks, or to that of its input.
+// Adds the mask of a node to the masks of the nodes that it uses, or to the mask of its input. More
+// than one value is possible of the node.
 fn add_node(masks: &mut [u64], found: &mut [u64], known: &[Fact], node: Node, mask: u64)
     requires node { IsNode (length found.old) (length masks.old) node }
     requires known { length known.now ≡ length masks.old }
@@ -48,7 +50,7 @@ fn add_node(masks: &mut [u64], found: &mut [u64], known: &[Fact], node: Node, ma
     }
 }
 
-// The same of the node with this number, whatever is known of it.
+// The same for the node with this number. Nothing is added if only one value is possible of it.
 fn add_from(masks: &mut [u64], found: &mut [u64], known: &[Fact], nodes: &[Node], p: usize)
     requires within { p < length nodes.now }
     requires nodes { AreNodes (length found.old) 0 nodes.now }
@@ -63,7 +65,7 @@ fn add_from(masks: &mut [u64], found: &mut [u64], known: &[Fact], nodes: &[Node]
     }
 }
 
-// Goes back through all nodes, each once.
+// Visits all nodes, from the last to the first.
 fn spread_back(masks: &mut [u64], found: &mut [u64], known: &[Fact], nodes: &[Node])
     requires nodes { AreNodes (length found.old) 0 nodes.now }
     requires known { length known.now ≡ length nodes.now }
@@ -79,7 +81,7 @@ fn spread_back(masks: &mut [u64], found: &mut [u64], known: &[Fact], nodes: &[No
     }
 }
 
-// Gives each of 64 asked nodes at most its bit, where no bit is 1.
+// Sets the bit of each of at most 64 requested nodes. No bit is 1 before.
 fn mark_requested(masks: &mut [u64], wanted: &[u32])
     requires few { length wanted.now ≤ 64 }
     requires within { AllByRecursion (λ p. p < length masks.old) wanted.now }
@@ -92,7 +94,8 @@ fn mark_requested(masks: &mut [u64], wanted: &[u32])
     }
 }
 
-// For each input a mask, where no bit is 1 yet: bit k is 1 where the asked node k may depend on it.
+// Computes for each input a mask whose bit k is 1 if the requested node k may depend on the input.
+// No bit is 1 before.
 fn fill(masks: &mut [u64], found: &mut [u64], known: &[Fact], nodes: &[Node], wanted: &[u32])
     requires nodes { AreNodes (length found.old) 0 nodes.now }
     requires known { length known.now ≡ length nodes.now }
@@ -108,7 +111,8 @@ fn fill(masks: &mut [u64], found: &mut [u64], known: &[Fact], nodes: &[Node], wa
     spread_back(masks, found, known, nodes);
 }
 
-/// For each input a mask: bit k is 1 where the asked node k may depend on it. Of asked nodes there are 64 at most.
+/// For each input a mask whose bit k is 1 if the requested node k may depend on the input. At most
+/// 64 nodes are requested.
 pub fn input_masks(
     alloc: Global,
     nodes: &[Node],

@@ -1,4 +1,4 @@
--- Outputs and their nodes by numbers.
+-- Outputs and their nodes, by number.
 use Rattle.std.proofs.Common.{ℕ, zero, suc, ◌+◌, ◌<◌, ◌≤◌, Bool, true, false, cond, List, [], ◌∷◌, length, get_or, map, arith}
 use Rattle.std.specs.Prelude.{filter}
 use Rattle.std.specs.List.{AllByRecursion, range_with_len}
@@ -10,7 +10,7 @@ all-at count k [] h low = absurd (omega (arith, low))
 all-at count zero (p ∷ ps) h low = h.0
 all-at count (suc k) (p ∷ ps) h low = all-at count k ps h.1 (omega (arith, low))
 
--- the nodes of outputs are below a count where all are
+-- the nodes of some outputs are below a count if those of all outputs are
 pub nodes-low : (count : ℕ) (ps ks : List ℕ) → AllByRecursion (λ p. p < count) ps → AllByRecursion (λ k. k < length ps) ks
     → AllByRecursion (λ p. p < count) (map (node_of ps) ks)
 nodes-low count ps [] h low = tt

@@ -1,4 +1,4 @@
--- Outputs that are the first with their names, one after another.
+-- The first output with each name, output by output.
 use Rattle.std.proofs.Common.{◌≡◌, ℕ, ◌+◌, ◌<◌, Bool, true, false, cond, List, [], ◌∷◌, ◌++◌, length, get_or, take, Option, Some, None, slice_get, refl, ap}
 use Rattle.std.proofs.Common.{sym, ◌∙◌}
 use Rattle.std.specs.Prelude.{◌||◌, not}
@@ -13,7 +13,7 @@ use Rattle.observables.specs.Outputs.{names_of}
 use Rattle.m_facts.specs.Found.{name_of, is_first}
 use Rattle.m_facts.specs.inner.Parts.{with_output}
 
--- the same names are there
+-- both sets have the same names
 abbrev pub SameNames : List (List ℕ) → List (List ℕ) → Type 0
 SameNames names others = (x : List ℕ) → has x names ≡ has x others
 
@@ -49,7 +49,7 @@ names-next outputs k output names low is agreed = λ x.
     by (Named name) x = there x name (has name names) refl
     by (Noted number) x = none (has x names)
 
--- an output's name is new where the names before it lack it
+-- an output's name is new if no earlier output has it
 pub first-is : (outputs : List FaceOutput) (k : ℕ) (output : FaceOutput) (names : List (List ℕ)) (fresh : Bool) → slice_get outputs k ≡ Some output
     → SameNames names (names_of (take k outputs))
     → fresh ≡ option_map_or (λ name. not (has name names)) (name_of output) false → fresh ≡ is_first outputs k

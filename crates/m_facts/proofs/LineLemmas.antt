@@ -1,4 +1,4 @@
--- The line of what is possible of a cell, in parts.
+-- The parts of the line of a fact.
 use Rattle.std.proofs.Common.{◌≡◌, ℕ, ℤ, Bool, true, false, cond, List, [], ◌∷◌, ◌++◌, Some, None, refl, ap, sym, ◌∙◌, append_assoc, append-nil}
 use Rattle.std.specs.Prelude.{codes}
 use Rattle.std.specs.Ordering.{int_eq}
@@ -20,14 +20,14 @@ after text true false = refl
 after text false true = refl
 after text false false = sym (append-nil text)
 
--- where no number is possible
+-- no number is possible
 pub alone-line : (name words : List ℕ) (fact : Possible) → fact.range ≡ None → words ≡ words_alone fact.undef fact.over
     → joined (name ∷ codes " " ∷ words ∷ new_line ∷ []) ≡ fact_line name fact
 alone-line name words fact none is =
     ap (λ text. joined (name ∷ codes " " ∷ text ∷ new_line ∷ [])) (is ∙ sym (alone fact.undef fact.over))
     ∙ ap (λ range. joined (name ∷ codes " " ∷ joined_by_or (numbers_text range ++ words_text fact.undef fact.over) ∷ new_line ∷ [])) (sym none)
 
--- where the numbers have this text
+-- the numbers have this text
 numbers-line : (name text words : List ℕ) (fact : Possible) (r : ℤ × ℤ) → fact.range ≡ Some r → text ≡ range_text r → words ≡ words_after fact.undef fact.over
     → name ++ (codes " " ++ (text ++ (words ++ (new_line ++ [])))) ≡ fact_line name fact
 numbers-line name text words fact r some has is =
@@ -42,7 +42,7 @@ pub number-line : (name words : List ℕ) (fact : Possible) (r : ℤ × ℤ) →
 number-line name words fact r some equal is = numbers-line name (printed r.0) words fact r some
     (sym (ap (λ b. cond b (printed r.0) (joined (printed r.0 ∷ codes " to " ∷ printed r.1 ∷ []))) equal)) is
 
--- an interval of several
+-- an interval of several numbers
 pub interval-line : (name words : List ℕ) (fact : Possible) (r : ℤ × ℤ) → fact.range ≡ Some r → int_eq r.0 r.1 ≡ false
     → words ≡ words_after fact.undef fact.over
     → joined (name ∷ codes " " ∷ printed r.0 ∷ codes " to " ∷ printed r.1 ∷ words ∷ new_line ∷ []) ≡ fact_line name fact

@@ -1,4 +1,4 @@
--- Lines in parts.
+-- The parts of the lines.
 use Rattle.std.proofs.Common.{◌≡◌, ℕ, ◌+◌, ◌<◌, ◌≤◌, List, [], ◌∷◌, ◌++◌, length, get_or, drop, refl, ap, sym, ◌∙◌, append-nil, ◌⊎◌, inl, inr, arith}
 use Rattle.std.specs.Prelude.{codes, min}
 use Rattle.std.proofs.lemmas.Bool.{cases_lt}
@@ -18,7 +18,7 @@ use Rattle.m_facts.specs.inner.Parts.{output_line, outputs_lines}
 
 -- ---- outputs
 
--- the lines of all outputs are those of the names
+-- the lines of all outputs are those of the outputs with names
 pub outputs-are : (outputs : List FaceOutput) (facts : List Possible) → outputs_lines outputs facts ≡ facts_lines (names_of outputs) (named_facts outputs facts)
 outputs-are [] facts = refl
 outputs-are (Named name ∷ outputs) [] = refl

@@ -1,4 +1,4 @@
--- What is found is true.
+-- The findings are true.
 use Rattle.std.proofs.Common.{◌≡◌, ℕ, ◌+◌, ◌<◌, ◌≤◌, Bool, true, false, cond, List, [], ◌∷◌, length, get_or, drop, map, Option, Some, None, slice_get, refl, ap}
 use Rattle.std.proofs.Common.{sym, ◌∙◌, subst, ⊎_elim, arith}
 use Rattle.std.specs.Prelude.{is_some, filter, option_map}
@@ -41,7 +41,7 @@ abbrev ReportsAll : Flat → Face → (List Value → Observation) → Type 0
 ReportsAll flat face observe = (vs : List Value) → AreValuesOf face.inputs vs → observation face.labels (notes_of face.outputs) (flat_run flat vs) ≡ Some
     (observe vs)
 
--- ---- what is told where a run doesn't stop
+-- ---- the observation of a run that does not stop
 
 reported-are : (flat : Flat) (face : Face) (vs reported : List Value) (notes : List Label)
     → observation face.labels (notes_of face.outputs) (flat_run flat vs) ≡ Some (values notes reported)
@@ -130,7 +130,7 @@ silent-true base flat face given observe valid shown all =
 
 -- ---- dependences
 
--- the value that is told at a place is that of its output's node
+-- the reported value at a place is that of its output's node
 reported-at : (flat : Flat) (face : Face) (vs reported : List Value) (notes : List Label) (place k : ℕ)
     → observation face.labels (notes_of face.outputs) (flat_run flat vs) ≡ Some (values notes reported)
     → k ≡ length (notes_of face.outputs) + place → k < length flat.outputs

@@ -1,4 +1,4 @@
--- What is found of the requested cells of a program, where facts of its inputs are known.
+-- The findings about the requested cells of a program, given facts of its inputs.
 use Rattle.std.specs.Prelude.{ℕ, Bool, false, not, List, length, map, take, slice_get, slice_index_or, Option, Some, None}
 use Rattle.std.specs.Option.{option_map_or, option_and_then}
 use Rattle.m_names.specs.Names.{has}
@@ -15,7 +15,7 @@ use Rattle.micro_m.specs.declared.base.Base.{Base}
 use Rattle.m_lint.specs.Findings.{fact_at, never_stopping, numbers_with}
 use Rattle.m_facts.specs.declared.found.FactsFound.{FactsFound}
 
--- the facts of all nodes of a program, where its inputs have these
+-- the facts of all nodes of a program, given those of its inputs
 abbrev pub known_of : Flat → List Possible → List Possible
 known_of flat given = entries_of (facts_with given) flat.nodes
 
@@ -27,11 +27,11 @@ name_of (Noted number) = None
 abbrev pub name_at : List FaceOutput → ℕ → Option (List ℕ)
 name_at outputs k = option_and_then name_of (slice_get outputs k)
 
--- whether the output with this number has a name, and none before it has the same
+-- whether the output with this number has a name that no earlier output has
 abbrev pub is_first : List FaceOutput → ℕ → Bool
 is_first outputs k = option_map_or (λ name. not (has name (names_of (take k outputs)))) (name_at outputs k) false
 
--- the outputs that are the first with their names, by number and in order
+-- the outputs that are the first with their names, as ascending numbers
 abbrev pub firsts_of : List FaceOutput → List ℕ
 firsts_of outputs = numbers_with (is_first outputs) (length outputs)
 
@@ -39,8 +39,8 @@ firsts_of outputs = numbers_with (is_first outputs) (length outputs)
 abbrev pub node_of : List ℕ → ℕ → ℕ
 node_of ps k = slice_index_or ps k 0
 
--- What is found, where the nodes have these facts: what is possible of each output, the checks of the base that never stop, the first
--- outputs with their names, and the inputs on which each of these may depend.
+-- The findings, given the facts of all nodes: the fact of each output, the checks of the base that
+-- never stop, the first output with each name, and the inputs on which each of these may depend.
 abbrev pub found_by : List Possible → Base → Flat → Face → FactsFound
 found_by known base flat face = record {
   possible = map (fact_at known) flat.outputs;
@@ -49,6 +49,6 @@ found_by known base flat face = record {
   reads = map (depends_on known flat.nodes flat.inputs) (map (node_of flat.outputs) (firsts_of face.outputs));
 }
 
--- What is found, where the inputs have these facts.
+-- The findings, given the facts of the inputs.
 abbrev pub found_of : Base → Flat → Face → List Possible → FactsFound
 found_of base flat face given = found_by (known_of flat given) base flat face

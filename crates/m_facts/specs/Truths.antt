@@ -1,4 +1,4 @@
--- When what is found is true: what it says holds of whatever households within the facts are told.
+-- When findings are true: they hold of the observations of all households within the facts.
 use Rattle.std.specs.Prelude.{◌≡◌, ℕ, List, Contains, Some}
 use Rattle.std.specs.List.{AllZip}
 use Rattle.m_fixed.specs.declared.amount.Value.{Value}
@@ -13,18 +13,18 @@ use Rattle.micro_m.specs.declared.base.Base.{Base}
 use Rattle.m_lint.specs.Findings.{label_of_check}
 use Rattle.m_lint.specs.Truths.{ReportsEnding}
 
--- values that inputs may have, each of which is possible by the fact of its input
+-- values that the inputs may have, each possible by the fact of its input
 pub record AreAllowed (inputs : List Coded) (given : List Possible) (vs : List Value) : Type 0 where
   pub may : AreValuesOf inputs vs
   pub within : AreWithin given vs
 
--- Each value that a household is told is possible by the fact of its cell.
+-- Every value reported to a household within the facts is possible by the fact of its cell.
 abbrev pub ArePossible : List Coded → List Possible → (List Value → Observation) → List Possible → Type 0
 ArePossible inputs given observe facts =
     (vs : List Value) → AreAllowed inputs given vs → (notes : List Label) (reported : List Value) → observe vs ≡ values notes reported
     → AllZip Holds facts reported
 
--- The check's label is told to no household.
+-- The label of the check is reported to no household within the facts.
 abbrev pub IsSilent : Base → List Coded → List Possible → (List Value → Observation) → ℕ → Type 0
 IsSilent base inputs given observe k =
     (label : Label) → label_of_check base k ≡ Some label → (vs : List Value) → AreAllowed inputs given vs → ReportsEnding (observe vs) label → ⊥
@@ -33,7 +33,8 @@ IsSilent base inputs given observe k =
 abbrev pub AgreeOn : List ℕ → List Value → List Value → Type 0
 AgreeOn ns vs ws = (n : ℕ) → Contains ns n → value_at vs n ≡ value_at ws n
 
--- Two households that agree on these inputs, of which neither stops, are told the same value at this place.
+-- If two households within the facts agree on these inputs, and neither run stops, both are given
+-- the same value at this place.
 abbrev pub DependsOn : List Coded → List Possible → (List Value → Observation) → ℕ → List ℕ → Type 0
 DependsOn inputs given observe place ns =
     (vs ws : List Value) → AreAllowed inputs given vs → AreAllowed inputs given ws → AgreeOn ns vs ws

@@ -1,2 +1,2 @@
--- What the contracts of inner functions speak of. Those of the public calls need none of it.
+-- Definitions that only the contracts of private functions use.
 pub mod Parts

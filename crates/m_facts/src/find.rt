@@ -1,4 +1,4 @@
-//! What is found of a program, where facts of its inputs are known.
+//! Computes the findings.
 ghost use Rattle.std.specs.Prelude.{◌≡◌, ◌<◌, ◌^◌, IfOk, length, map, take};
 ghost use Rattle.std.specs.List.{AllByRecursion};
 ghost use Rattle.observables.specs.declared.face.FaceLabel.TheVariants.{Verif};
@@ -20,14 +20,15 @@ use micro_m::Base;
 use observables::Face;
 use std::alloc::{AllocError, Global};
 
-/// What is found of a base and the program that it is compiled to, with its face, where the first inputs have these facts. An input past
-/// their end may be undefined or any amount. Its only error is running out of memory.
+/// The findings about a base and the program compiled from it, with the program's interface, given
+/// the facts of the first inputs. Each further input may be undefined or any amount. The only error
+/// is running out of memory.
 ///
-/// Of the nodes `Input(0)`, `Lit(2 units)` and `Do(Op::Mul, 0, 1, 0)`, with the last as an output, where the input is 0 to 5 units, 0 to
-/// 10 units are possible of the output, and it depends on input 0.
+/// For the nodes `Input(0)`, `Lit(2 units)` and `Do(Op::Mul, 0, 1, 0)`, with the last as output,
+/// and an input of 0 to 5 units, the output is 0 to 10 units, and it depends on input 0.
 ///
-/// It takes a step for each node, check and output, and for each byte of the labels and names; and then, for each 64 requested cells, a
-/// step for each node and input, and one for each input on which a cell may depend.
+/// Takes one step for each node, check and output, and for each byte of labels and names; then, for
+/// every 64 requested cells, one step for each node and input, and one for each input in a result.
 pub fn find_facts(
     alloc: Global,
     base: &Base,
@@ -46,7 +47,7 @@ pub fn find_facts(
     found_by(alloc, &known, base, flat, face)
 }
 
-// The same, where all nodes have these facts.
+// The same, given the facts of all nodes.
 fn found_by(
     alloc: Global,
     known: &[Fact],

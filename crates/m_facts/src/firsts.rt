@@ -1,4 +1,4 @@
-//! Outputs that are the first with their names.
+//! The first output with each name.
 ghost use Rattle.std.specs.Prelude.{◌≡◌, ◌<◌, ◌^◌, false, not, IfOk, OnOk, length};
 ghost use Rattle.std.specs.Option.{option_map_or};
 ghost use Rattle.m_names.specs.Names.{has};
@@ -9,7 +9,7 @@ use m_names::{Key, Names, NamesDigest};
 use observables::FaceOutput;
 use std::alloc::{AllocError, Global};
 
-/// The outputs with names that no output before them has, by number and in order.
+/// The outputs whose name no earlier output has, as ascending numbers.
 pub(crate) fn firsts_of(alloc: Global, outputs: &[FaceOutput]) -> Result<Vec<u32>, AllocError>
     requires { length outputs.now < 2 ^ 32 }
     ensures { IfOk result (λ firsts. firsts.items ≡ firsts_of outputs.now) }
@@ -24,7 +24,7 @@ pub(crate) fn firsts_of(alloc: Global, outputs: &[FaceOutput]) -> Result<Vec<u32
     Ok(firsts)
 }
 
-// A key that is made of all names, so that nobody can choose them to collide.
+// A hash key derived from all names, so that no choice of names makes them collide.
 fn key_of(outputs: &[FaceOutput]) -> Key {
     let mut digest = NamesDigest::new();
     for output in outputs {
@@ -35,7 +35,7 @@ fn key_of(outputs: &[FaceOutput]) -> Key {
     digest.key()
 }
 
-// Adds the name of an output, and says whether it is new.
+// Adds the name of an output, and returns whether it is new.
 fn add_name(alloc: Global, output: &FaceOutput, names: &mut Names) -> Result<bool, AllocError>
     ensures fresh { IfOk result (λ fresh. fresh ≡ option_map_or (λ name. not (has name names.old)) (name_of output.now) false) }
     ensures added { OnOk result (names.new ≡ with_output output.now names.old) }

@@ -1,15 +1,15 @@
 use definedness::Fact;
 use m_places::Seq;
 
-/// What is found of the requested cells of a program, where facts of its inputs are known.
+/// The findings about the requested cells of a program, given facts of its inputs.
 #[derive(Drop)]
 pub struct FactsFound {
-    /// What is possible of each output, in order.
+    /// The fact of each output, in order.
     pub possible: Seq<Fact>,
-    /// The checks of the base that never stop a run and are never noted, by number and in order.
+    /// The checks of the base that never stop a run and are never noted, as ascending numbers.
     pub silent: Seq<u32>,
-    /// The outputs with names that no output before them has, by number and in order.
+    /// The outputs whose name no earlier output has, as ascending numbers.
     pub firsts: Seq<u32>,
-    /// For each of these the inputs on which its value may depend, by number and in order.
+    /// For each of these the inputs on which its value may depend, as ascending numbers.
     pub reads: Seq<Seq<u32>>,
 }

@@ -1,5 +1,6 @@
-//! Laws of what is found. Each function does nothing: its contract is the law. They hold whatever answers the program gives in the place of
-//! a source: where its run, read through its face, tells to each list of values of its inputs what `tells` does.
+//! Laws of the findings. Each function does nothing: its contract is the law. They hold for every
+//! function `observe` that gives, for all values of the inputs, the observation of the program's
+//! run; so they hold for the answers of a source.
 ghost use Rattle.std.specs.Prelude.{◌≡◌, ◌+◌, ℕ, List, Some, length};
 ghost use Rattle.std.specs.List.{AllByRecursion};
 ghost use Rattle.m_fixed.specs.declared.amount.Value.{Value};
@@ -17,22 +18,25 @@ ghost use Rattle.m_facts.specs.Found.{known_of, node_of, found_of};
 ghost use Rattle.m_facts.specs.Lines.{named_facts};
 ghost use Rattle.m_facts.specs.Truths.{ArePossible, IsSilent, DependsOn};
 
-/// Each value that a household within the facts is told is possible by what is printed of its cell.
+/// Every value reported to a household within the facts is possible by the printed fact of its
+/// cell.
 pub fn values_are_possible()
     ensures { (base : Base) (flat : Flat) (face : Face) (given : List Possible) (observe : List Value → Observation) → IsFlat flat → IsFaceOf face flat
         → ((vs : List Value) → AreValuesOf face.inputs vs → observation face.labels (notes_of face.outputs) (flat_run flat vs) ≡ Some (observe vs))
         → ArePossible face.inputs given observe (named_facts face.outputs (found_of base flat face given).possible) }
 {}
 
-/// The label of a check that never stops is told to no household within the facts.
+/// The label of a check that never stops is reported to no household within the facts.
 pub fn silent_checks_never_stop()
     ensures { (base : Base) (flat : Flat) (face : Face) (given : List Possible) (observe : List Value → Observation) → IsFlat flat → IsFaceOf face flat
         → ((vs : List Value) → AreValuesOf face.inputs vs → observation face.labels (notes_of face.outputs) (flat_run flat vs) ≡ Some (observe vs))
         → AllByRecursion (IsSilent base face.inputs given observe) (found_of base flat face given).silent }
 {}
 
-/// Two households within the facts that agree on the inputs on which a requested cell may depend, of which neither stops, are told the
-/// same value of it. The place of a value that is told is the number of its output without the notes, which stand first.
+/// If two households within the facts agree on the inputs on which a requested cell may depend, and
+/// neither run stops, both are given the same value of the cell. `place` counts the reported
+/// values; the outputs of notes come before them, so the cell's output is numbered `place` plus the
+/// number of notes.
 pub fn dependences_suffice()
     ensures { (flat : Flat) (face : Face) (given : List Possible) (observe : List Value → Observation) (place k : ℕ) → IsFlat flat → IsFaceOf face flat
         → ((vs : List Value) → AreValuesOf face.inputs vs → observation face.labels (notes_of face.outputs) (flat_run flat vs) ≡ Some (observe vs))

@@ -1,11 +1,13 @@
-//! What holds of the requested cells of a program for all households whose inputs have given facts: the values that are possible, the
-//! verifications that never stop and are never noted, and the inputs on which a cell may depend.
+//! Findings about the requested cells of a program, for all households within given facts of the
+//! inputs: the possible values, the verifications that never stop a run and are never noted, and
+//! the inputs on which a cell may depend.
 //!
-//! The facts of all nodes are found once, and all three are read off them. A cell that is requested twice has its line twice, but the
-//! inputs on which it may depend are found and printed once, with the first output that has its name. The law of dependences holds of
-//! each output.
+//! Uses `definedness` for facts, `input_reads` for dependences and `m_lint` for verifications.
+//! Knows nothing of commands, files, source text or ranges.
 //!
-//! This crate knows nothing of commands, files, source text or ranges.
+//! The facts of all nodes are computed once, and all findings follow from them. A cell that is
+//! requested twice has two lines of possible values, but its dependences are computed and printed
+//! once, for the first output with its name. The law of dependences holds for every output.
 #![tactic(auto)]
 
 mod find;

@@ -1,4 +1,4 @@
-//! The line of what is possible of a cell.
+//! The line of a fact.
 ghost use Rattle.std.specs.Prelude.{◌≡◌, ◌∷◌, [], codes};
 ghost use Rattle.m_ports.specs.Giving.{Gives};
 ghost use Rattle.m_text.specs.Pieces.{joined, new_line};
@@ -10,8 +10,8 @@ use definedness::Fact;
 use m_fixed::{Amount, write_amount};
 use m_ports::{Failed, Sink, give_pieces};
 
-/// Writes the line of a name and what is possible, as `IRN 0 to 9000 or undefined`, with its line feed. On a failure a prefix of the
-/// line was appended. It takes no memory.
+/// Writes the line of a cell's name and fact, as `IRN 0 to 9000 or undefined`, with its line feed.
+/// After a failure, a prefix of the line is written. Takes no memory.
 pub(crate) fn print_fact<K: Sink>(name: &[u8], fact: Fact, out: &mut K) -> Result<(), Failed>
     ensures { Gives K.written K.faults out.old out.new result (fact_line name.now fact) }
 {
@@ -28,7 +28,7 @@ pub(crate) fn print_fact<K: Sink>(name: &[u8], fact: Fact, out: &mut K) -> Resul
     }
 }
 
-// The words where no number is possible.
+// The text of a fact by which no number is possible.
 fn words_alone(undef: bool, over: bool) -> &'static [u8]
     ensures { result.now ≡ words_alone undef over }
 {
@@ -45,7 +45,7 @@ fn words_alone(undef: bool, over: bool) -> &'static [u8]
     }
 }
 
-// The words after numbers.
+// The text after the possible numbers.
 fn words_after(undef: bool, over: bool) -> &'static [u8]
     ensures { result.now ≡ words_after undef over }
 {

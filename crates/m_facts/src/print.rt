@@ -1,4 +1,4 @@
-//! What is found of requested cells as lines.
+//! Prints the findings.
 ghost use Rattle.std.specs.Prelude.{◌≡◌, ◌≤◌, ◌∷◌, [], codes, slice_get, min};
 ghost use Rattle.std.specs.Option.{option_map_or};
 ghost use Rattle.m_ports.specs.Giving.{Gives};
@@ -16,9 +16,10 @@ use m_ports::{Failed, Sink, give_pieces};
 use micro_m::Base;
 use observables::{Coded, Face, FaceOutput};
 
-/// Writes the lines of what is found: of each requested cell what is possible, as `IRN 0 to 9000 or undefined`, of each check that never
-/// stops its line, as `never stops 2000 A20`, and of each requested cell once `depends IRN` with the codes of the inputs on which it may
-/// depend, each with its line feed. On a failure a prefix of the lines was appended. It takes no memory.
+/// Writes the lines of the findings, each with its line feed: the fact of each requested cell, as
+/// `IRN 0 to 9000 or undefined`; the checks that never stop, as `never stops 2000 A20`; and, once
+/// for each name, the inputs on which the cell may depend, as `depends IRN 1AJ`. After a failure, a
+/// prefix of the lines is written. Takes no memory.
 pub fn print_facts<K: Sink>(
     base: &Base,
     face: &Face,
@@ -32,7 +33,7 @@ pub fn print_facts<K: Sink>(
     print_reads(face, found.firsts.as_slice(), found.reads.as_slice(), out)
 }
 
-// The lines of outputs of which this is possible.
+// The lines of the facts of outputs.
 fn print_outputs<K: Sink>(
     outputs: &[FaceOutput],
     possible: &[Fact],
@@ -71,7 +72,7 @@ fn print_silent<K: Sink>(base: &Base, silent: &[u32], out: &mut K) -> Result<(),
     Ok(())
 }
 
-// The lines of outputs with these numbers, and the inputs on which each may depend.
+// The lines of these outputs and the inputs on which each may depend.
 fn print_reads<K: Sink>(
     face: &Face,
     firsts: &[u32],
@@ -87,7 +88,7 @@ fn print_reads<K: Sink>(
     Ok(())
 }
 
-// The name of the output with this number, if it has one.
+// The name of the output with this number, empty if it has none.
 fn printed_name(outputs: &[FaceOutput], k: u32) -> &[u8]
     ensures { result.now ≡ printed_name outputs.now k }
 {
@@ -106,7 +107,7 @@ fn name_of(output: &FaceOutput) -> &[u8]
     }
 }
 
-// The line of a name and the inputs on which it may depend.
+// The line of a cell's name and the inputs on which it may depend.
 fn print_read<K: Sink>(
     inputs: &[Coded],
     name: &[u8],

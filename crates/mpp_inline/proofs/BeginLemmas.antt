@@ -1,4 +1,4 @@
--- The first nodes, and the answer at the end.
+-- The start and the end of the program.
 use Rattle.std.proofs.Common.{◌≡◌, ℕ, zero, suc, ◌+◌, ◌*◌, ◌<◌, ◌≤◌, Bool, true, false, cond, List, [], ◌∷◌, ◌++◌, map, take, drop, length, get_or, slice_get}
 use Rattle.std.proofs.Common.{replicate, Option, Some, None, not, refl, ◌⊎◌, inl, inr, ⊎_elim, sym, ap, ◌∙◌, subst, arith, add-one, ℤ, pos, length-append}
 use mathlib.Core.Bool.{◌||◌, ◌&&◌}
@@ -113,7 +113,7 @@ pub replicate-long : {A : Type 0} (n : ℕ) (x : A) → length (replicate n x) �
 replicate-long zero x = refl
 replicate-long (suc n) x = ap suc (replicate-long n x)
 
--- cells of the first variables, with those of the rest to come
+-- the cells of the first variables, followed by those of the others
 pub record Starting (b c : Builder) (all rest : List Variable) (next : ℕ) (env : List ℕ) : Type 0 where
   pub grows : Grows b c
   pub known : Known c env
@@ -204,7 +204,7 @@ begun-from inputs n (v ∷ vs) h =
     let s = by-role inputs n v.item.role v.item.value_word (filter_map input_declared vs) h in
     λ i. replicate v.cells (s.0 i) ++ begun-from inputs (next_input n v.item.role) vs s.1 i
 
--- the first nodes are worth what the cells begin with, for values that the inputs may have
+-- the first nodes have the initial values of the cells, for values that the inputs may have
 pub begun-same : (declared : Declared) (inputs : List Value) → AreValuesOf (inputs_declared declared) inputs
     → begun_from inputs 0 declared.variables ≡ start_from inputs 0 declared.variables
 begun-same declared inputs h = begun-from inputs 0 declared.variables h
@@ -219,7 +219,7 @@ inputs-alike m n (v ∷ vs) = elim (is_input v.item.role) as (λ b. length (cond
       | false ↦ inputs-alike (m + 1) (n + 1) vs
     ]
 
--- the inputs so far and those that are left make all
+-- the inputs so far and the remaining ones are all inputs
 pub inputs-next : (next total : ℕ) (v : Variable) (rest : List Variable) → next + length (inputs_from 0 (v ∷ rest)) ≡ total
     → next_input next v.item.role + length (inputs_from 0 rest) ≡ total
 inputs-next next total v rest h = by (is_input v.item.role) h
@@ -285,14 +285,14 @@ whole-run {a} {b} {c} {env} {env'} {next} {labels} {start} inputs l g s =
     s.moved inputs (inr one) ∙ ap (λ v. under v (run b inputs env) next) one
     ∙ (λ i. then_do (outcome_of ((g.grows.reported inputs ∙ l.reported inputs) i) (g.value inputs i)) next)
 
--- the labels of the rules stand first
+-- the labels of the rules are first
 pub first-faces : (ds : List Label) (ls : List FaceLabel) → length ds ≤ length ls
     → ((i : ℕ) (d : Label) → i < length ds → get_or ls i (DriverLine 0) ≡ Verif (get_or ds i d)) → take (length ds) ls ≡ map Verif ds
 first-faces [] ls h e = refl
 first-faces (c ∷ cs) [] h e = absurd (omega arith)
 first-faces (c ∷ cs) (l ∷ ls) h e = λ i. e 0 c (omega arith) i ∷ first-faces cs ls (omega arith) (λ k d lt. e (suc k) d (omega arith)) i
 
--- after them stand lines
+-- the labels after them are driver lines
 pub further-faces : (n : ℕ) (ls : List FaceLabel) → ((l : ℕ) → n ≤ l → IsDriverLine (get_or ls l (DriverLine 0))) → AllByRecursion IsDriverLine (drop n ls)
 further-faces zero [] h = tt
 further-faces zero (l ∷ ls) h = (h 0 (omega arith), further-faces zero ls (λ k lt. h (suc k) (omega arith)))
@@ -324,7 +324,7 @@ reported-one labels notes l None p outs a h rest = rest
 reported-one labels notes l (Some stop) p outs a h rest = ap (option_map (λ label. stopped (cause_of stop label)))
     (slice_get-get_or labels (label_number stop) (DriverLine 0) (omega (arith, a, h)))
 
--- what a program tells, read through its labels
+-- the observation of a program, by its labels
 reported-flat : (n : ℕ) (labels : List FaceLabel) (notes : List ℕ) (vs : List Value) (checks : List Check) (outs : List Value)
     → AllByRecursion (λ c. IsCheckWithin n (length labels) c) checks →
     observation labels notes (option_map_or Stopped (first_stop vs checks) (Values outs)) ≡ Some
@@ -354,7 +354,7 @@ notes-known : (n : ℕ) (labels : List FaceLabel) (ps : List (ℕ × ℕ)) → A
 notes-known n labels [] a = tt
 notes-known n labels (p ∷ ps) a = (a.0.node, notes-known n labels ps a.1)
 
--- a note's label is one of the base
+-- the label of a note belongs to the base
 apart : (f : FaceLabel) → IsDriverLine f → IsVerif f → ⊥
 apart (Verif label) line v = line
 apart (DriverLine line) l v = v

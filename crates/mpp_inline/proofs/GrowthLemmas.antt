@@ -1,4 +1,4 @@
--- A flat program that grows: what stays, and what a node or a check adds.
+-- The program under construction: what is kept, and what a node or a check adds.
 use Rattle.std.proofs.Common.{◌≡◌, ℕ, zero, suc, ◌+◌, ◌<◌, ◌≤◌, Bool, true, false, nat_lt, List, [], ◌∷◌, ◌++◌, length, get_or, set, None, refl, sym, ap, ◌∙◌}
 use Rattle.std.proofs.Common.{subst, ⊎_elim, arith, length-append}
 use Rattle.std.specs.List.{AllByRecursion, cons_option}
@@ -34,11 +34,11 @@ use Rattle.mpp_inline.proofs.UsableLemmas.{read-as-before}
 
 -- ---- labels
 
--- past the labels stands a line
+-- a label that doesn't exist reads as a driver line
 pub past-line : (labels : List FaceLabel) (l : ℕ) → length labels ≤ l → IsDriverLine (get_or labels l (DriverLine 0))
 past-line labels l h = subst IsDriverLine (sym (get_or_past labels l (DriverLine 0) h)) tt
 
--- after labels of which the last is a line
+-- past the old labels, to which a driver line was appended, every label reads as a driver line
 line-last : (labels more : List FaceLabel) (line l : ℕ) → more ≡ labels ++ DriverLine line ∷ [] → length labels ≤ l
     → IsDriverLine (get_or more l (DriverLine 0))
 line-last [] more line zero e h = subst (λ ls. IsDriverLine (get_or ls 0 (DriverLine 0))) (sym e) tt
@@ -47,7 +47,7 @@ line-last (f ∷ labels) more line zero e h = absurd (omega (arith, h))
 line-last (f ∷ labels) more line (suc l) e h = subst (λ ls. IsDriverLine (get_or ls (suc l) (DriverLine 0))) (sym e)
     (line-last labels (labels ++ DriverLine line ∷ []) line l refl (omega (arith, h)))
 
--- a label after older ones: it was new then, or it is new now
+-- a label past the old ones, after two extensions: the first or the second added it
 new-then : (m l : ℕ) (first second : FaceLabel) → (b : Bool) → nat_lt l m ≡ b → (l < m → second ≡ first) → IsDriverLine first → (m ≤ l → IsDriverLine second)
     → IsDriverLine second
 new-then m l first second true e kept old new = subst IsDriverLine (sym (kept (ltb-true l m e))) old
@@ -123,7 +123,7 @@ pushed-node {b} {c} {n} p = ap (λ ns. node_at ns (count b)) p.nodes ∙ get_or-
 pushed-older : {b c : Builder} {n : Node} {k : ℕ} → Pushed b c n k → (j : ℕ) → j < count b → node_of c j ≡ node_of b j
 pushed-older {b} {c} {n} p j h = ap (λ ns. node_at ns j) p.nodes ∙ get_or-append b.nodes.items (n ∷ []) (Lit Undef) j h
 
--- a new node that is no input of the type `Truth` is usable
+-- a new node that isn't an input of type `Truth` is usable
 pub pushed-within : {b c : Builder} {n : Node} {k : ℕ} → Pushed b c n k → (IsTruthInput b.inputs n → ⊥) → IsUsable c k
 pushed-within {b} {c} {n} {k} p other = record {
   there = pushed-there p;
@@ -139,7 +139,7 @@ pushed-keeps : {b c : Builder} {n : Node} {k : ℕ} → Pushed b c n k → (inpu
 pushed-keeps {b} {c} {n} p inputs j h =
     ap (λ ns. get_or (node_values inputs ns) j Undef) p.nodes ∙ value-kept inputs b.nodes.items n j h
 
--- a new node reads what it may
+-- a new node reads usable nodes
 pushed-nodes : {b c : Builder} {n : Node} {k : ℕ} → Pushed b c n k → IsWithinCount b n → Sane b → (q x : ℕ) → q < count c → Reads (node_of c q) x
     → IsTruthInput c.inputs (node_of c x) → node_of c q ≡ Do And x x x
 pushed-nodes {b} {c} {n} p w s q x h = ⊎_elim
@@ -220,7 +220,7 @@ faces-on {labels} {b} {c} l f = record {
   others = λ k h. new-then (faces b) k (face b k) (face c k) (nat_lt k (faces b)) refl (l.keeps_face k) (f.others k h) (l.new_faces k);
 }
 
--- what a check's label stands for, that older labels stay, and that new ones are lines
+-- the label of a check; old labels are unchanged, and new ones are driver lines
 pub record Faced (b c : Builder) (l : ℕ) (f : FaceLabel) : Type 0 where
   pub more : faces b ≤ faces c
   pub keeps : (j : ℕ) → j < faces b → face c j ≡ face b j
@@ -379,11 +379,11 @@ gives-pushed value p w other s e = record { grows = pushed-grows p w s; within =
 pub gives-lit : {b c : Builder} {k : ℕ} (v : Value) → Pushed b c (Lit v) k → Sane b → Gives b c (λ inputs. v) k
 gives-lit v p s = gives-pushed (λ inputs. v) p tt (λ t. t) s (λ inputs. refl)
 
--- a node that is there
+-- a node that exists
 pub gives-old : {b : Builder} (k : ℕ) → Sane b → IsUsable b k → Gives b b (λ inputs. at b inputs k) k
 gives-old k s h = record { grows = grows-none s; within = h; value = λ inputs. refl }
 
--- the same value in other words
+-- rewriting of the value
 pub gives-same : {b c : Builder} {k : ℕ} {v w : List Value → Value} → ((inputs : List Value) → v inputs ≡ w inputs) → Gives b c v k → Gives b c w k
 gives-same e g = record { grows = g.grows; within = g.within; value = λ inputs. g.value inputs ∙ e inputs }
 

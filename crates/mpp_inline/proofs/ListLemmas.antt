@@ -79,7 +79,7 @@ pub received-map : {A B : Type 0} (f : A → B) (d : A) (xs : List ℕ) (from in
     → map f (received d xs from into) ≡ received (f d) xs (map f from) (map f into)
 received-map f d xs from into = written-map f (picked d xs from) into ∙ ap (λ ps. written ps (map f into)) (picked-map f d xs from)
 
--- values received by cells, and cells made undefined
+-- cells that receive values, and cells that become undefined
 pub with-received : (xs : List ℕ) (from into : Env) → with_values xs (environment from) into ≡ received Undef xs from into
 with-received [] from into = refl
 with-received (x ∷ xs) from into = with-received xs from (set into x (get_or from x Undef))
@@ -96,7 +96,7 @@ pub length-with : (xs : List ℕ) (e : Environment) (into : Env) → length (wit
 length-with [] e into = refl
 length-with (x ∷ xs) e into = length-with xs e (set into x (e x)) ∙ length-set into x (e x)
 
--- environments that differ at some cells alone
+-- environments that differ at most at some cells
 pub or-false : (a b : Bool) → (a || b) ≡ false → (a ≡ false) × (b ≡ false)
 or-false true b e = absurd (false≢true (sym e))
 or-false false b e = (refl, e)
@@ -138,7 +138,7 @@ alike [] (y ∷ ys) n e = absurd (omega arith)
 alike (x ∷ xs) [] n e = absurd (omega arith)
 alike (x ∷ xs) (y ∷ ys) n e = λ i. e 0 i ∷ alike xs ys (omega arith) (λ k. e (suc k)) i
 
--- one of the cells gets its former entry back
+-- one of the cells is restored
 back : (x : ℕ) (xs e f : List ℕ) → SameBut (x ∷ xs) e f → SameBut xs e (set f x (get_or e x 0))
 back x xs e f s = record {
   size = length-set f x (get_or e x 0) ∙ s.size;
@@ -154,7 +154,7 @@ back x xs e f s = record {
   ] refl;
 }
 
--- all of them get their former entries back
+-- all of them are restored
 pub restored : (xs e f : List ℕ) → SameBut xs e f → received 0 xs e f ≡ e
 restored [] e f s = alike f e s.size (λ x. s.same x refl)
 restored (x ∷ xs) e f s = restored xs e (set f x (get_or e x 0)) (back x xs e f s)

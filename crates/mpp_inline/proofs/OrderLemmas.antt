@@ -1,4 +1,5 @@
--- Definitions computed in an order give the values of the base, so a driver runs the same over both.
+-- Definitions computed in their order give the values of the base, so a driver runs the same over
+-- both.
 use Rattle.std.proofs.Common.{◌≡◌, ℕ, zero, suc, ◌+◌, ◌<◌, Bool, true, false, cond, List, [], ◌∷◌, length, set, slice_get, Option, Some, None, not, refl, sym}
 use Rattle.std.proofs.Common.{ap, ◌∙◌, subst, arith, add-one}
 use Rattle.std.specs.Prelude.{option_and_then, option_map}
@@ -37,7 +38,7 @@ computed-filled : (base : Base) (ps : List ℕ) (e : Env) → computed base ps e
 computed-filled base [] e = refl
 computed-filled base (p ∷ ps) e = computed-filled base ps (set e (target_at base p) (term_value (environment e) (term_at base p)))
 
--- a failure whose cause is there, and the failure of those after it
+-- a failure that has a cause, and the failure of later checks
 some-none : {X : Type 0} {x : X} → Some x ≡ None → ⊥
 some-none p = cc
 
@@ -64,7 +65,7 @@ next-failure : (labels : List Label) (f g : Option Failure) (n : Option Label) (
 next-failure labels None g n ns e next is h = ap (behind (cons_option n [])) is ∙ note-next n (option_and_then (failure_cause labels) g) ns e
 next-failure labels (Some failure) g n ns e next is h = next-cause (failure_cause labels failure) (cons_option n []) (cons_option n ns) e next (h failure refl)
 
--- a failure's label is there
+-- the label of a failure exists
 label-there : (labels : List Label) (number : ℕ) (d : Label) → number < length labels → slice_get labels number ≡ None → ⊥
 label-there labels number d h e = some-none (sym (slice_get-get_or labels number d h) ∙ e)
 
@@ -87,7 +88,7 @@ reported labels number d kind Over failure h f e =
     let same : OverCheck number ≡ failure = cc in
     none-mapped over (slice_get labels number) (label-there labels number d h) (subst (λ x. failure_cause labels x ≡ None) (sym same) e)
 
--- the checks one after the other stop at the first failure
+-- the checks in turn stop at the first failure
 no-label : Label
 no-label = record { verif = []; error = []; kind = Anomalie; text = [] }
 

@@ -1,4 +1,4 @@
--- Runs so far, and what comes after them.
+-- Run states and their continuations.
 use Rattle.std.proofs.Common.{◌≡◌, List, [], ◌∷◌, ◌++◌, Option, Some, None, refl, sym, ap, ◌∙◌}
 use Rattle.std.specs.Option.{option_or}
 use Rattle.m_places.specs.declared.verification.Label.{Label}
@@ -40,7 +40,7 @@ pub then-then : (o : RunState) (f g : Env → RunState) → then_do (then_do o f
 then-then (goes ns e) f g = behind-then ns (f e) g
 then-then (stops cause) f g = refl
 
--- a change of the environment alone
+-- a change of the environment only
 set-by : (s : Option Cause) (ns : List Label) (e : Env) (f : Env → Env) → unless_stopped s (goes ns (f e)) ≡ then_do (unless_stopped s (goes ns e))
     (λ x. goes [] (f x))
 set-by None ns e f = sym (goes-last (goes ns (f e)))
@@ -61,7 +61,7 @@ pub wrap : (s : SoFar) (e : Env) (before : Env → Env) (does : Env → RunState
     (λ x. then_do (does (before x)) (λ f. goes [] (after x f)))
 wrap s e before does after = wrap-by s.stop s.notes e before does after
 
--- two steps, of which the first and then the second are one
+-- two steps in sequence as one
 both-by : (s : Option Cause) (ns : List Label) (e : Env) (first second both : Env → RunState) → then_do (first e) second ≡ both e
     → then_do (then_do (unless_stopped s (goes ns e)) first) second ≡ then_do (unless_stopped s (goes ns e)) both
 both-by None ns e first second both h = behind-then ns (first e) second ∙ ap (behind ns) h
@@ -71,7 +71,7 @@ pub both-steps : (s : SoFar) (e : Env) (first second both : Env → RunState) �
     → then_do (then_do (outcome_of s e) first) second ≡ then_do (outcome_of s e) both
 both-steps s e first second both h = both-by s.stop s.notes e first second both h
 
--- a stop or notes more
+-- an added stop or added notes
 found-by : (s : Option Cause) (ns : List Label) (e : Env) (cause : Option Cause) (more : List Label) (next : Env → RunState)
     → unless_stopped cause (goes more e) ≡ next e → unless_stopped (option_or s cause) (goes (ns ++ more) e) ≡ then_do (unless_stopped s (goes ns e)) next
 found-by None ns e None more next h = sym (behind-goes ns more e) ∙ ap (behind ns) h

@@ -1,4 +1,4 @@
--- Where a base has neither definitions nor checks, calls of the rules change nothing.
+-- If a base has no definitions and no checks, calls of the rules change nothing.
 use Rattle.std.proofs.Common.{◌≡◌, ℕ, zero, suc, ◌+◌, ◌≤◌, List, [], ◌∷◌, ◌++◌, length, get_or, set, Some, refl, sym, ap, ◌∙◌, arith, add-one}
 use Rattle.std.specs.Prelude.{option_and_then}
 use Rattle.std.specs.Option.{option_map_or}
@@ -26,7 +26,7 @@ use Rattle.mpp_inline.proofs.ListLemmas.{with-same}
 
 -- ---- the rules
 
--- a cell that gets its own value
+-- a cell that is set to its own value
 set-own : (l : Env) (i : ℕ) → set l i (get_or l i Undef) ≡ l
 set-own [] i = refl
 set-own (v ∷ vs) zero = refl
@@ -156,7 +156,7 @@ body-lighter rules cells bodies (suc turns) f =
           (body_among bodies f),
     )
 
--- what is left of a driver costs no more
+-- the weight of the driver without calls of the rules is no greater
 pub left-lighter : (core : Core) (base : Base) → weight_of (core_left core) base ≤ weight_of core base
 left-lighter core base =
     let r = base_weight base in
@@ -164,7 +164,7 @@ left-lighter core base =
     ap (λ n. body_weight r base.cells (left_in core.bodies) (suc n) core.main) (length-map core.bodies body_left) in
     omega (arith, same, body-lighter r base.cells core.bodies (suc (length core.bodies)) core.main)
 
--- the flat program of what is left is that of the driver
+-- its flat program is that of the driver
 pub inlined-left : (core made : Core) (base : Base) (declared : Declared) (requests : List ℕ) (flat : Flat) (labels : List FaceLabel) (notes : List ℕ)
     → IsRuleless base → made ≡ core_left core → IsInlined made base declared requests flat labels notes
     → IsInlined core base declared requests flat labels notes

@@ -67,7 +67,7 @@ pub read-or : (labels : List FaceLabel) (o p : Option Stop) → stop_read labels
 read-or labels None p = refl
 read-or labels (Some s) p = refl
 
--- what a condition's stop is to a reader
+-- the cause of a condition's stop
 abbrev pub face_judged : Bool → FaceLabel → Value → Option Cause
 face_judged only f Undef = None
 face_judged only f (Num z) = cond (only || is_zero z) None (Some (cause_of (Failed 0) f))
@@ -102,7 +102,7 @@ read-fired labels g only l v = elim (is_one g) as
       | false ↦ refl
     ]
 
--- more labels change no older stop
+-- added labels don't change an older stop
 pub read-kept : (labels more : List FaceLabel) → ((l : ℕ) → l < length labels → get_or more l (DriverLine 0) ≡ get_or labels l (DriverLine 0))
     → (vs : List Value) (n : ℕ) (cs : List Check) → AllByRecursion (λ c. IsCheckWithin n (length labels) c) cs
     → stop_read more (first_stop vs cs) ≡ stop_read labels (first_stop vs cs)

@@ -1,4 +1,4 @@
--- Sizes of parts, and calls one level less deep.
+-- Sizes of parts, and calls at a depth one less.
 use Rattle.std.proofs.Common.{◌≡◌, ℕ, zero, suc, ◌+◌, ◌-◌, ◌<◌, ◌≤◌, Bool, true, false, List, [], ◌∷◌, ◌++◌, map, length, get_or, set, eqb, All, refl, sym, ap}
 use Rattle.std.proofs.Common.{◌∙◌, subst, arith, replicate, length-append}
 use mathlib.Core.Bool.{◌||◌}
@@ -30,7 +30,7 @@ use Rattle.mpp_inline.specs.inner.Sizes.{positions_weight, body_size, block_size
 
 -- ---- terms
 
--- a term of a driver costs 1 at least
+-- the weight of a term of a driver is at least 1
 pub formula-pos : (t : Formula) → 1 ≤ formula_weight t
 formula-pos (lit v) = omega arith
 formula-pos (cell x) = omega arith
@@ -44,7 +44,7 @@ weight-at w [] n x h e = absurd (omega (arith, h))
 weight-at w (y ∷ xs) zero x h e = ap w (sym e)
 weight-at w (y ∷ xs) (suc n) x h e = weight-at w xs n x (omega (arith, h)) e
 
--- three arguments weigh no more than all
+-- three arguments weigh at most as much as all
 pub three-trees : (ts : List Tree) → get_or (map tree_weight ts) 0 0 + get_or (map tree_weight ts) 1 0 + get_or (map tree_weight ts) 2 0 ≤ trees_weight
     (trees_of ts)
 three-trees [] = omega arith
@@ -92,7 +92,7 @@ others-kept ws p (q ∷ qs) e =
     let s = or-false (eqb p q) (is_among p qs) e in
     omega (arith, other-kept ws p q s.0, others-kept ws p qs s.1)
 
--- distinct positions weigh no more than all
+-- distinct positions weigh at most as much as all
 summed-within : (ws ps : List ℕ) → AreDistinctCells ps → summed ws ps ≤ total ws
 summed-within ws [] d = omega arith
 summed-within ws (p ∷ ps) d = omega (arith, others-kept ws p ps d.0, summed-within (set ws p 0) ps d.1, taken ws p)

@@ -1,4 +1,4 @@
--- Stages: the run so far against the meaning so far.
+-- Stages: the run so far, compared with the meaning of the driver so far.
 use Rattle.std.proofs.Common.{length, ◌≡◌, ℕ, ◌<◌, Bool, true, false, cond, List, [], ◌∷◌, get_or, set, slice_get, Option, Some, None, ◌⊎◌, inl, inr, ⊎_elim}
 use Rattle.std.proofs.Common.{not, refl, sym, ap, ◌∙◌, subst, arith, pos}
 use mathlib.Core.Bool.{◌&&◌}
@@ -42,7 +42,7 @@ pub truth-value : (a b c : Value) → op_value Truth a b c ≡ truth_of a
 unfolding op_value
 truth-value a b c = refl
 
--- stages one after the other
+-- stages in sequence
 pub stage-first : {b : Builder} {env : List ℕ} {g : ℕ} (does : Env → RunState) → Placed b env g → Stage b b g env env does does
 stage-first does r = record { base = longer-none r.sane; known = r.known; taken = λ inputs h. refl; idle = λ inputs h. refl }
 
@@ -68,7 +68,7 @@ stage-next {labels} {b} {c} {d} {e} {f} {h} {g} {does} {rest} {whole} r s t =
       idle = λ inputs i. n.idle inputs (s.base.keeps inputs g r.placed.guard ∙ i) ∙ s.idle inputs i;
     }
 
--- a change of the environment alone
+-- a change of the environment only
 pub stage-simple : {b c : Builder} {env env' : List ℕ} {g : ℕ} (f : Env → Env) → Placed b env g → Grows b c → Known c env'
     → ((inputs : List Value) → denoted c inputs env' ≡ f (denoted b inputs env)) → Stage b c g env env' (λ e. goes [] e) (λ e. goes [] (f e))
 stage-simple {b} {c} {env} {env'} {g} f r grows kn e = record {
@@ -95,7 +95,7 @@ del-stage {b} {env} {g} x r =
     stage-simple (λ e. set e x Undef) r (grows-none r.sane) (known-set x 0 zero_in r.known)
     (λ inputs. denoted-set inputs x 0 Undef (longer-none r.sane) r.known (r.sane.undef inputs))
 
--- a stop and notes that a condition's value gives
+-- the stop and the notes of a condition's value
 found-stage : {b d : Builder} {env : List ℕ} {g : ℕ} (t : Environment → Value) (j : Value → Env → RunState) (cause : Value → Option Cause) (more : Value
     → List Label) → ((v : Value) (x : Env) → unless_stopped (cause v) (goes (more v) x) ≡ j v x) → Longer b d → Placed b env g →
     ((inputs : List Value) → at b inputs g ≡ Num (pos 1000000)
@@ -162,7 +162,7 @@ verif-face labels number label is kind Undef e = refl
 verif-face labels number label is kind (Num z) e = stopped-number labels number label is (is_stopping (kind_at labels number)) (is_zero z) e kind
 verif-face labels number label is kind Over e = sym (ap (λ o. unless_stopped (option_map over o) (goes [] e)) is)
 
--- what a note tells whose node is 1 where this value is a number other than 0
+-- what a note reports whose node is 1 if this value is a number other than 0
 abbrev note_by : Label → Value → List Label
 note_by label v = cons_option (note_read (Verif label) (truth_of v)) []
 
@@ -359,7 +359,7 @@ chosen-second s e line t a b h =
     both-steps s e (λ x. over_judged line (t (environment x)) x) b (λ x. chosen_block line (t (environment x)) (a x) (b x))
     (judged-second line (t (environment e)) e a b h)
 
--- the guards of a choice, once its condition is there
+-- the guards of an `if`, once its condition is emitted
 pub open-branches : {b c c1 c2 d : Builder} {env : List ℕ} {g line v k i j : ℕ} {t : Environment → Value} → (Sane b → Known b env → TermStep b c env t v)
     → CheckedLine c c1 g v line → {c3 : Builder} → Pushed c1 c2 (Do Truth v v v) k → Pushed c2 c3 (Do Choose k g 1) i → Pushed c3 d (Do Choose k 1 g) j
     → Placed b env g → Opened b d env g line t (record { truth = k; first = i; second = j })
@@ -404,7 +404,7 @@ open-branches {b} {c} {c1} {c2} {d} {env} {g} {line} {v} {k} {i} {j} {t} step p 
           ∙ (λ x. chosen (sym (g3.base.keeps inputs k k_in3) x) (g2.base.sane.zero inputs x) (l03.keeps inputs g r.guard x));
     }
 
--- the merge, an entry at a time
+-- the merge, entry by entry
 pub merge-first : {b : Builder} {env : List ℕ} {truth : ℕ} (ps : List (ℕ × ℕ)) → Placed b env truth → Merged b b truth ps ps env env
 merge-first ps r = record { grows = grows-none r.sane; known = r.known; first = λ inputs h. refl; second = λ inputs h. refl }
 

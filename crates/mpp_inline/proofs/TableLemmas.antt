@@ -1,4 +1,5 @@
--- Tables read at an index: a choice for each cell comes to the cell that the index means.
+-- Tables read at an index: the choices for all cells give the value of the cell that the index
+-- selects.
 use Rattle.std.proofs.Common.{◌≡◌, ℕ, zero, suc, ◌+◌, ◌*◌, ◌/◌, ◌<◌, ◌≤◌, Bool, true, false, cond, ltb, leb, List, get_or, ⊎_elim, refl, sym, ap, ◌∙◌, arith, ℤ}
 use Rattle.std.proofs.Common.{pos, negsuc, subst}
 use Rattle.std.specs.Prelude.{neg_ℤ, int_le, unsigned_abs}
@@ -58,7 +59,7 @@ cut-place n = ap pos (omega arith)
 
 -- ---- the cells of a table
 
--- the same by the index in whole units
+-- the same, by the index in whole units
 abbrev among : Environment → ℕ → ℤ → ℕ → Value → Value
 among values first q zero other = other
 among values first q (suc n) other = among values first q n (cond (int_eq q (pos n)) (values (first + n)) other)
@@ -139,7 +140,7 @@ leb-of m h = grind (arith, nat_tests)
 leb-not : (m : ℕ) → m < 999999 → leb 999999 m ≡ false
 leb-not m h = grind (arith, nat_tests)
 
--- a negative index: above -1 it means the first cell, and else none
+-- a negative index: above -1 it selects the first cell, otherwise none
 negative : (values : Environment) (first size m d : ℕ) → suc m / 1000000 ≡ d → among values first (neg_ℤ (pos d)) size (cond (leb 999999 m) (Num (pos 0)) Undef)
     ≡ picked_value values (picked_at first size (neg_ℤ (pos d)))
 negative values first size m zero e =

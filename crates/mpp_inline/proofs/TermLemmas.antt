@@ -46,7 +46,7 @@ applied-step {b} {b1} {b2} {b3} {c} {env} {i} {j} {k} {n} op values f1 f2 f3 p s
           ((s3.value inputs ∙ ap (λ e. get_or (values (environment e)) 2 Undef) (denoted-on inputs l2 kn)) d));
     }
 
--- the node of what is missing
+-- the node of a missing argument
 pub undef-step : {b : Builder} (value : List Value → Value) → ((inputs : List Value) → Undef ≡ value inputs) → Sane b → Gives b b value 0
 undef-step value e s = record { grows = grows-none s; within = s.literal 0 (omega arith); value = λ inputs. s.undef inputs ∙ e inputs }
 
@@ -75,7 +75,7 @@ fold-next {b} {c} {d} {e} {env} {x} {k} {n} {op} {whole} t rest a step p kn =
           ∙ a.value inputs;
     }
 
--- what goes on from a term's node
+-- continuations of a term's node
 pub chain-step : {b c d : Builder} {env : List ℕ} {x k : ℕ} (t : Environment → Value) (f : Environment → Value → Value)
     → (Sane b → Known b env → TermStep b c env t x)
     → (Sane c → Known c env → IsUsable c x → Gives c d (λ inputs. f (environment (denoted c inputs env)) (at c inputs x)) k) → Sane b → Known b env

@@ -1,4 +1,4 @@
--- The inputs of a flat program with their types, and who reads those of the type `Truth`.
+-- The types of a flat program's inputs, and the nodes that read inputs of type `Truth`.
 use Rattle.std.proofs.Common.{◌≡◌, ℕ, zero, suc, ◌+◌, ◌<◌, Bool, true, false, cond, List, [], ◌∷◌, ◌++◌, drop, length, get_or, Option, refl, ⊎_elim, sym, ap}
 use Rattle.std.proofs.Common.{◌∙◌, subst, arith, add-one, pos}
 use Rattle.std.specs.List.{AllByRecursion, cons_option, filter_map}
@@ -88,7 +88,7 @@ kinds-step (InputRole code) word kinds stated e = ap (λ ks. type_declared word 
 kinds-step (ComputedRole size) word kinds stated e = e
 kinds-step (Constant amount) word kinds stated e = e
 
--- they are those that are said
+-- they are the declared types
 pub kinds-stated : (vs : List Variable) → kinds_from vs ≡ kinds_of (filter_map input_declared vs)
 kinds-stated [] = refl
 kinds-stated (v ∷ vs) = kinds-step v.item.role v.item.value_word (kinds_from vs) (filter_map input_declared vs) (kinds-stated vs)

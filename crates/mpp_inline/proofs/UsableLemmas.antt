@@ -16,7 +16,7 @@ use Rattle.mpp_inline.specs.Inlined.{IsTruthInput}
 use Rattle.mpp_inline.specs.inner.Growth.{count, node_of, IsUsable, MayStand, Longer}
 use Rattle.mpp_inline.proofs.ListLemmas.{all-more}
 
--- a node stays usable where the older nodes stay
+-- a node remains usable if the older nodes are unchanged
 pub usable-kept : {b c : Builder} {k : ℕ} → c.inputs ≡ b.inputs → count b ≤ count c → ((j : ℕ) → j < count b → node_of c j ≡ node_of b j) → IsUsable b k
     → IsUsable c k
 usable-kept {b} {c} {k} same more kept h = record {
@@ -27,7 +27,7 @@ usable-kept {b} {c} {k} same more kept h = record {
 pub usable-on : {b c : Builder} {k : ℕ} → Longer b c → IsUsable b k → IsUsable c k
 usable-on l h = usable-kept l.inputs l.longer l.keeps_node h
 
--- what checks and notes read stays usable
+-- nodes that checks and notes read remain usable
 pub checks-kept : {b c : Builder} → ((k : ℕ) → IsUsable b k → IsUsable c k) → (cs : List Check)
     → AllByRecursion (λ d. IsUsable b d.guard × IsUsable b d.condition) cs → AllByRecursion (λ d. IsUsable c d.guard × IsUsable c d.condition) cs
 checks-kept {b} {c} on cs a = all-more (λ d. IsUsable b d.guard × IsUsable b d.condition) (λ d. IsUsable c d.guard × IsUsable c d.condition)
@@ -50,7 +50,7 @@ reads-older inputs m (n ∷ ns) (suc p) x a h r =
     let low : x < m + 1 + p = reads-older inputs (m + 1) ns p x a.1 (omega (arith, h)) r in
     omega (arith, low)
 
--- a node that may come next: it reads usable nodes, or is the And of an input of the type `Truth`
+-- a node that may be appended: it reads usable nodes, or is the `And` of an input of type `Truth`
 pub record IsWithinCount (b : Builder) (n : Node) : Type 0 where
   pub node : IsNode (length b.inputs) (count b) n
   pub read : (x : ℕ) → Reads n x → IsTruthInput b.inputs (node_of b x) → n ≡ Do And x x x
@@ -68,7 +68,7 @@ may-stand {b} (Do op i j k) h = record {
       r);
 }
 
--- the And of a node that is there
+-- the `And` of a node that exists
 pub and-stands : {b : Builder} (k : ℕ) → k < count b → IsWithinCount b (Do And k k k)
 and-stands k h = record {
   node = (h, h, h);
@@ -76,7 +76,7 @@ and-stands k h = record {
       (⊎_elim (λ (e : x ≡ k). sym e) (⊎_elim (λ (e : x ≡ k). sym e) (λ (e : x ≡ k). sym e)) r);
 }
 
--- what a node reads is before it
+-- a node reads earlier nodes
 pub reads-node : (inputs m : ℕ) (d : Node) (x : ℕ) → IsNode inputs m d → Reads d x → x < m
 reads-node inputs m (Input i) x a r = absurd r
 reads-node inputs m (Lit v) x a r = absurd r
@@ -93,7 +93,7 @@ last-or m p h = by (nat_lt p m) refl
     by true e = inl (ltb-true p m e)
     by false e = inr (let up : m ≤ p = ltb-false p m e in omega (arith, up, h))
 
--- a node reads as before, where what it reads was there
+-- a node reads the same nodes as before, if they existed
 pub read-as-before : (ks ks' : List InputType) (n n' m m' : Node) (x : ℕ) → ks' ≡ ks → n' ≡ n → m' ≡ m → (Reads n x → IsTruthInput ks m → n ≡ Do And x x x)
     → Reads n' x → IsTruthInput ks' m' → n' ≡ Do And x x x
 read-as-before ks ks' n n' m m' x e f g h r t = f ∙ h (subst (λ y. Reads y x) f r) (subst (λ y. IsTruthInput ks y) g (subst (λ y. IsTruthInput y m') e t))

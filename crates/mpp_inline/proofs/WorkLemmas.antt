@@ -1,4 +1,4 @@
--- What is left, as the program grows, and what each command and item does to it.
+-- The work list as the program grows, and the effect of each command and item on it.
 use Rattle.std.proofs.Common.{Bor, ◌≡◌, ℕ, true, false, cond, List, [], ◌∷◌, ◌++◌, set, inl, inr, ⊎_elim, refl, sym, ap, ◌∙◌, subst, arith, pos}
 use Rattle.std.specs.List.{AllByRecursion}
 use Rattle.std.specs.declared.vec.Vec.{Vec}
@@ -47,7 +47,7 @@ bit-chosen t x y b p q = ⊎_elim
     (λ (h : t ≡ Num (pos 1000000)). bit-of (ap (λ v. chosen v x y) h) p)
     b
 
--- a change by writes that count where the guard is 1
+-- writes that take effect only if the guard is 1
 pub step-written : {b d f : Builder} {env env1 env2 : List ℕ} {g : ℕ} {next : Env → RunState} (given : List (ℕ × ℕ)) → Placed b env g
     → Stage b d g env env1 (λ e. goes [] e) next → env1 ≡ written given env → Merged d f g [] given env env2 → Step b f g env env2 next
 step-written {b} {d} {f} {env} {env1} {env2} {g} {next} given r s is m =
@@ -84,7 +84,7 @@ pub del-step : {b d : Builder} {env env' : List ℕ} {g : ℕ} (x : ℕ) → (Pl
     → Step b d g env env' (λ e. goes [] (set e x Undef))
 del-step {b} {d} {env} {env'} {g} x write r = step-written ((x, 0) ∷ []) r (del-stage x r) refl (write r (r.sane.literal 0 (omega arith)))
 
--- each of these cells chosen, and then some cells taken from them
+-- a choice for each of these cells, from which some cells are then copied
 merged-received : {d f : Builder} {env env1 env2 : List ℕ} {g : ℕ} (xs ds : List ℕ) → Placed d env g → SameBut ds env env1
     → Merged d f g [] (picked 0 ds env1) env env2 → Merged d f g [] (picked 0 xs env1) env (received 0 xs env2 env)
 merged-received {d} {f} {env} {env1} {env2} {g} xs ds r frame m =
@@ -108,7 +108,7 @@ merged-received {d} {f} {env} {env1} {env2} {g} xs ds r frame m =
           ∙ ap (denoted d inputs) (restored xs env env (same-none xs env));
     }
 
--- the rules, where the received cells are chosen, and where all defined cells are
+-- the rules, with choices for the received cells, and with choices for all defined cells
 pub rules-step : {labels : List Label} {b c d f : Builder} {env env1 env2 : List ℕ} {g : ℕ} {checks' : Env → RunState} {first : Env → Env} (xs : List ℕ)
     → (Sane b → Known b env → Computed b c env env1 (λ e. e) first) → (Ready labels c env1 g → Stage c d g env1 env1 (λ e. goes [] e) checks')
     → (Placed d env g → Held d (picked 0 xs env1) → Merged d f g [] (picked 0 xs env1) env env2) → Ready labels b env g
@@ -135,7 +135,7 @@ rules-step-all {labels} {b} {c} {d} {f} {env} {env1} {env2} {g} xs ds frame defs
     step-written (picked 0 xs env1) r.placed (rules-stage xs defs checks r) refl
     (merged-received xs ds p frame (write p (held-picked ds env1 l.sane s.known)))
 
--- what is left, as the program grows
+-- the work list as the program grows
 pub entries-on : {b c : Builder} (inputs : List Value) (ps : List (ℕ × ℕ)) → Longer b c → AllByRecursion (λ p. IsUsable b p.1) ps
     → entries c inputs ps ≡ entries b inputs ps
 entries-on inputs [] l a = refl
@@ -183,7 +183,7 @@ pub left-fewer : (b : Builder) (ws : List Work) (w : Work) → AllByRecursion (K
 left-fewer b [] w a = (tt, a.0)
 left-fewer b (v ∷ ws) w a = let r = left-fewer b ws w a.1 in ((a.0, r.0), r.1)
 
--- what stays where the program grows
+-- what is unchanged when the program grows
 pub standing-on : {whole : Whole} {b c : Builder} {env env' : List ℕ} {g : ℕ} {ws : List Work} → Longer b c → Known c env' → Standing whole b env g ws
     → Standing whole c env' g ws
 standing-on {whole} {b} {c} {env} {env'} {g} {ws} l kn s = record {
@@ -210,7 +210,7 @@ standing-guard h s = record {
 pub own-guard : {whole : Whole} {b : Builder} {env : List ℕ} {g : ℕ} {ws : List Work} → Standing whole b env g ws → Guarding b g
 own-guard s = record { within = s.ready.placed.guard; bit = s.bit }
 
--- a command that leaves nothing
+-- a command that pushes no item
 pub step-moves : {whole : Whole} {b c : Builder} {env env' : List ℕ} {g : ℕ} {ws : List Work} (depth : ℕ) (a : Action) → Standing whole b env g ws
     → Step b c g env env' (does_one whole depth a) → Moves whole b c env' g ws ws (λ inputs. ahead whole b inputs env g depth a)
 step-moves {whole} {b} {c} {env} {env'} {g} {ws} depth a s t = record {
@@ -221,13 +221,13 @@ step-moves {whole} {b} {c} {env} {env'} {g} {ws} depth a s t = record {
       ∙ finish-on whole inputs ws (ahead whole b inputs env g depth a) t.base s.left;
 }
 
--- the same of a command in other words
+-- rewriting of the target
 pub step-moves-is : {whole : Whole} {b c : Builder} {env env' : List ℕ} {g : ℕ} {ws : List Work} {a a' : Action} (depth : ℕ) → a ≡ a'
     → Standing whole b env g ws → Step b c g env env' (does_one whole depth a) → Moves whole b c env' g ws ws (λ inputs. ahead whole b inputs env g depth a')
 step-moves-is {whole} {b} {c} {env} {env'} {g} {ws} {a} {a'} depth is s t = subst
     (λ x. Moves whole b c env' g ws ws (λ inputs. ahead whole b inputs env g depth x)) is (step-moves depth a s t)
 
--- a choice
+-- an `if`
 pub guards-apart : {b d : Builder} {env : List ℕ} {g line : ℕ} {t : Environment → Value} {r : Branches} → Placed b env g
     → (inputs : List Value) (one two : Env → RunState) → IsBit (at b inputs g) → Opened b d env g line t r
     → under (at d inputs r.second) (under (at d inputs r.first) (run d inputs env) one) two ≡ under (at b inputs g) (run b inputs env)

@@ -1,4 +1,4 @@
--- What the flat program of a driver is, and when there is none.
+-- What the flat program of a driver is, and which drivers are too large to have one.
 use Rattle.std.specs.Prelude.{◌≡◌, ℕ, ◌+◌, ◌*◌, ◌<◌, ◌≤◌, min, List, take, drop, map, length, slice_index_or, Some, All}
 use Rattle.std.specs.List.{AllByRecursion}
 use Rattle.m_fixed.specs.declared.amount.Value.{Value}
@@ -26,23 +26,24 @@ use Rattle.driver_core.specs.Weights.{weight_of}
 use Rattle.mpp_inline.specs.declared.fault.InlineFault.{InlineFault}
 use Rattle.mpp_inline.specs.declared.fault.InlineFault.TheVariants.{DriverTooLarge, Memory}
 
--- the most nodes, the most checks, the most notes, and the most labels after those of the base
+-- the limit on nodes, on checks, on notes, and on labels after those of the base
 abbrev pub most_nodes : ℕ
 most_nodes = 100_000_000
 
--- a label that stands for a line of the driver
+-- a label that names a line of the driver
 abbrev pub IsDriverLine : FaceLabel → Type 0
 IsDriverLine (Verif label) = ⊥
 IsDriverLine (DriverLine line) = Unit {0}
 
--- a node that is an input of the type `Truth`, where the inputs have these types
+-- a node that is an input of type `Truth`, given the types of the inputs
 abbrev pub IsTruthInput : List InputType → Node → Type 0
 IsTruthInput kinds (Input n) = slice_index_or kinds n Any ≡ Truth
 IsTruthInput kinds (Lit v) = ⊥
 IsTruthInput kinds (Do op a b c) = ⊥
 
--- An input of the type `Truth` is read by an And of it with itself alone, which is undefined, 0 or 1 whatever the input is. Neither an
--- output nor a check reads it, and so no note does: a note's node is an output.
+-- An input of type `Truth` is read only by an `And` of it with itself, which is undefined, 0 or 1
+-- for any value of the input. Neither an output nor a check reads it directly; nor does a note,
+-- whose node is an output.
 pub record HasTruths (kinds : List InputType) (flat : Flat) : Type 0 where
   pub read : (p x : ℕ) → p < length flat.nodes → Reads (node_at flat.nodes p) x → IsTruthInput kinds (node_at flat.nodes x)
       → node_at flat.nodes p ≡ Do And x x x
@@ -52,35 +53,37 @@ pub record HasTruths (kinds : List InputType) (flat : Flat) : Type 0 where
 abbrev pub kinds_of : List Coded → List InputType
 kinds_of inputs = map (λ input. input.kind) inputs
 
--- The flat program of a driver with what its labels tell, and the numbers of the labels of its notes.
+-- The flat program of a driver with its labels, and the label number of each note.
 pub record IsInlined (core : Core) (base : Base) (declared : Declared) (requests : List ℕ) (flat : Flat) (labels : List FaceLabel) (notes : List ℕ) : Type 0
   where
-    -- for every list of values that the inputs may have its answer, read through the labels and the notes, is the driver's
+    -- for all values that the inputs may have, the observation of its run is the driver's answer
     pub answer : (inputs : List Value) → AreValuesOf (inputs_declared declared) inputs
         → observation labels notes (flat_run flat inputs) ≡ Some (answer_of core base declared requests inputs)
     pub flat_program : IsFlat flat
-    -- the inputs of the type `Truth` are read by their Ands alone
+    -- an input of type `Truth` is read only by its `And`
     pub truths : HasTruths (kinds_of (inputs_declared declared)) flat
-    -- it has the inputs that are declared, and an output for each note and then for each request; a note is of a label of the base
+    -- its inputs are the declared ones; it has an output for each note, then one for each request;
+    -- the label of a note belongs to the base
     pub inputs : flat.inputs ≡ length (inputs_from 0 declared.variables)
     pub outputs : length flat.outputs ≡ length notes + length requests
     pub noted : AllByRecursion (λ number. number < length base.labels) notes
-    -- the first labels are those of the base, in order, all others are lines of the driver, and each check's label is there
+    -- the first labels are those of the base, in order; the others are lines of the driver; each
+    -- check's label exists
     pub first_labels : take (length base.labels) labels ≡ map Verif base.labels
     pub further_labels : AllByRecursion IsDriverLine (drop (length base.labels) labels)
     pub labelled : All (λ check. check.label < length labels) flat.checks
-    -- how large it is, which the driver's weight bounds, and how large it may be
+    -- its size is bounded by the weight of the driver, and by fixed limits
     pub size : length flat.nodes + length flat.checks + length labels + length notes ≤ 3 + length base.labels + 2 * base.cells + 6 * weight_of core base
     pub nodes_fit : length flat.nodes ≤ most_nodes
     pub checks_fit : length flat.checks ≤ most_nodes
     pub notes_fit : length notes ≤ most_nodes
     pub labels_fit : length labels ≤ length base.labels + most_nodes
 
--- a driver that isn't too large
+-- a driver within the limit of weight
 abbrev pub HasWeight : Core → Base → Type 0
 HasWeight core base = weight_of core base ≤ DRIVER_WEIGHT
 
--- a driver that is too large, with its weight as far as 64 bits hold it
+-- a driver above the limit, with its weight, saturated at 64 bits
 abbrev pub IsTooLarge : Core → Base → InlineFault → Type 0
 IsTooLarge core base (DriverTooLarge weight) = (DRIVER_WEIGHT < weight_of core base) × (weight ≡ min (weight_of core base) 18_446_744_073_709_551_615)
 IsTooLarge core base Memory = ⊥

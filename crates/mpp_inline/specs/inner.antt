@@ -1,5 +1,5 @@
--- What the contracts of inner functions speak of: a program so far, and what is left to do. Those of the public call need none
--- of it.
+-- The invariants of the pass: the program under construction, and the work list. The contract of
+-- `inline` uses none of them.
 pub mod Cells
 pub mod Growth
 pub mod Work

@@ -1,4 +1,4 @@
-//! The first nodes, and the outputs at the end.
+//! The start and the end of the program: literals, inputs and initial values, and the outputs.
 
 ghost use Rattle.std.specs.Prelude.{◌≡◌, ◌<◌, ◌≤◌, ◌+◌, ◌*◌, ◌^◌, [], ◌∷◌, ◌++◌, pos, IfOk, OnOk, length, map, replicate, slice_index_or, if◌then◌else◌};
 ghost use Rattle.m_fixed.specs.declared.amount.Value.TheVariants.{Undef, Num};
@@ -58,7 +58,7 @@ pub fn input_types(alloc: Global, symbols: &Symbols) -> Result<Seq<InputType>, A
     Ok(Seq::from_vec(kinds))
 }
 
-/// The type of a variable that is an input, after others.
+/// Appends the type of a variable if it is an input.
 fn add_type(kinds: &mut Vec<InputType>, item: &VariableItem) -> Result<(), AllocError>
     ensures { OnOk result (kinds.new.items ≡ kinds.old.items
         ++ (if is_input item.now.role then type_declared item.now.value_word ∷ [] else [])) }
@@ -92,7 +92,7 @@ fn first_labels(alloc: Global, labels: &[Label]) -> Result<Vec<FaceLabel>, Alloc
     Ok(faces)
 }
 
-/// An equal label, which shares the words of this one.
+/// A copy of a label that shares its strings.
 fn equal_label(alloc: Global, label: &Label) -> Result<Label, AllocError>
     ensures { IfOk result (λ equal. equal ≡ label.now) }
 {
@@ -107,7 +107,7 @@ fn equal_label(alloc: Global, label: &Label) -> Result<Label, AllocError>
     })
 }
 
-/// A node for each cell, with what the cell begins with.
+/// A node for each cell, with the cell's initial value.
 pub fn first_cells(
     alloc: Global,
     b: &mut Builder,
@@ -132,7 +132,7 @@ pub fn first_cells(
     Ok(env)
 }
 
-/// What a variable begins with, where the next input has this number.
+/// The node of a variable's initial value; `next` is the number of the next input.
 fn first_node(b: &mut Builder, item: &VariableItem, next: u32) -> Result<u32, AllocError>
     requires { load b.old + 2 * cells_in (size_in item.now.role) < 2 ^ 32 }
     ensures step { IfOk result (λ k. Sane b.old → InputIsThere b.old.inputs next (type_declared item.now.value_word) item.now.role
@@ -146,8 +146,8 @@ fn first_node(b: &mut Builder, item: &VariableItem, next: u32) -> Result<u32, Al
     }
 }
 
-/// The node of an input: of the type `Truth` it is the `And` of the input with itself, which is undefined, 0 or 1 whatever the input
-/// is. Nothing else reads such an input.
+/// The node of an input. For type `Truth` it is the `And` of the input with itself, which is
+/// undefined, 0 or 1 for any value of the input; nothing else reads such an input.
 fn input_node(b: &mut Builder, kind: InputType, next: u32) -> Result<u32, AllocError>
     requires { load b.old + 2 < 2 ^ 32 }
     ensures step { IfOk result (λ k. Sane b.old → HasInput b.old.inputs next kind
@@ -162,7 +162,7 @@ fn input_node(b: &mut Builder, kind: InputType, next: u32) -> Result<u32, AllocE
     }
 }
 
-/// The type that a declaration says.
+/// The declared type.
 fn kind_of(item: &VariableItem) -> InputType
     ensures { result ≡ type_declared item.now.value_word }
 {
@@ -172,7 +172,7 @@ fn kind_of(item: &VariableItem) -> InputType
     }
 }
 
-/// The number of the input after a variable, where there are so many inputs.
+/// The number of the next input after this variable, at most the number of inputs.
 fn input_behind(role: &Role, next: u32, inputs: u32) -> u32
     ensures { IsAnInput inputs next role.now → result ≡ next_input next role.now }
 {
@@ -183,7 +183,7 @@ fn input_behind(role: &Role, next: u32, inputs: u32) -> u32
     }
 }
 
-/// So many cells with this node.
+/// Appends this number of cells, all with this node.
 fn add_cells(env: &mut Vec<u32>, cells: u32, number: u32) -> Result<(), AllocError>
     ensures { OnOk result (env.new.items ≡ env.old.items ++ replicate cells number) }
 {
@@ -195,7 +195,7 @@ fn add_cells(env: &mut Vec<u32>, cells: u32, number: u32) -> Result<(), AllocErr
     Ok(())
 }
 
-/// The nodes of the notes, and then those of the requested cells.
+/// The nodes of the notes, followed by those of the requested cells.
 pub fn outputs_of(
     alloc: Global,
     notes: &[(u32, u32)],
@@ -221,7 +221,7 @@ fn nodes_of(alloc: Global, notes: &[(u32, u32)]) -> Result<Vec<u32>, AllocError>
     Ok(nodes)
 }
 
-/// The numbers of the labels of notes.
+/// The label numbers of notes.
 pub fn numbers_of(alloc: Global, notes: &[(u32, u32)]) -> Result<Vec<u32>, AllocError>
     ensures { IfOk result (λ numbers. numbers.items ≡ numbers_of notes.now) }
 {
@@ -232,7 +232,7 @@ pub fn numbers_of(alloc: Global, notes: &[(u32, u32)]) -> Result<Vec<u32>, Alloc
     Ok(numbers)
 }
 
-/// The nodes of the requested cells, after others.
+/// Appends the nodes of the requested cells.
 fn add_outputs(outputs: &mut Vec<u32>, env: &[u32], requests: &[u32]) -> Result<(), AllocError>
     ensures { OnOk result (outputs.new.items
         ≡ outputs.old.items ++ map (λ x. slice_index_or env.now x 0) requests.now) }

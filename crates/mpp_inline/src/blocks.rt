@@ -1,4 +1,9 @@
-//! Commands, done from a list of what is left. No function here calls itself.
+//! Commands. No function here calls itself: nested blocks and bodies of functions are pushed on a
+//! work list, and a loop processes its last item.
+//!
+//! Each step keeps `load + 6 * left_weight` from growing: the size of the program plus six times
+//! the weight of the work list. The factor is six since an `if` adds up to five nodes, checks and
+//! labels besides its condition. The loop ends since each step lowers `left_turns`.
 
 ghost use Rattle.std.specs.Prelude.{◌≡◌, ℕ, ◌<◌, ◌≤◌, ◌-◌, ◌+◌, ◌*◌, ◌^◌, OnOk, IfOk, length};
 ghost use Rattle.micro_m.specs.Bases.{IsValidBase};
@@ -25,7 +30,7 @@ use driver_core::{CCommand, CCommandNode, Core, KindCells};
 use rule_order::Ordered;
 use std::alloc::{AllocError, Global};
 
-/// The body of a function, which is empty where calls are nested too deep, and where it isn't there.
+/// The body of a function; empty if the depth of calls is exhausted or the function doesn't exist.
 fn body_at(core: &Core, depth: usize, function: u32) -> &[CCommand]
     ensures means { (ordered : Ordered) → does (whole_of core.now ordered) (depth - 1) result.now
         ≡ calls core.now ordered.base ordered.sequence depth function }
@@ -43,7 +48,8 @@ fn body_at(core: &Core, depth: usize, function: u32) -> &[CCommand]
     }
 }
 
-/// A choice: its blocks are left, each under a guard of its own. The result is the guard from here on.
+/// Starts an `if`: emits its condition, and pushes its blocks, each under its own guard. Returns
+/// the next guard.
 fn begin_if<'a>(
     alloc: Global,
     b: &mut Builder,
@@ -71,7 +77,8 @@ fn begin_if<'a>(
     Ok(branches.first)
 }
 
-/// A block with these cells undefined, which get their values back.
+/// Starts a partition: makes these cells undefined, and pushes the block and the restoration of
+/// their nodes.
 fn begin_partition<'a>(
     alloc: Global,
     env: &mut [u32],
@@ -96,7 +103,7 @@ fn begin_partition<'a>(
     Ok(())
 }
 
-/// A block with the cells of a kind undefined, which get their values back.
+/// Starts a partition over the cells of a kind.
 fn begin_kind<'a>(
     alloc: Global,
     env: &mut [u32],
@@ -118,7 +125,8 @@ fn begin_kind<'a>(
     begin_partition(alloc, env, left, depth, line, &cells, block)
 }
 
-/// A function on a copy of the environment, of which these cells come back.
+/// Starts a call: pushes the body of the function, which runs on a copy of the environment, and the
+/// return of these cells.
 fn begin_call<'a>(
     alloc: Global,
     env: &[u32],
@@ -144,7 +152,7 @@ fn begin_call<'a>(
     Ok(())
 }
 
-/// A command, whose blocks are left. The result is the guard from here on.
+/// Emits a command, except for its blocks, which it pushes. Returns the next guard.
 fn begin_command<'a>(
     alloc: Global,
     b: &mut Builder,
@@ -209,7 +217,7 @@ fn begin_command<'a>(
     }
 }
 
-/// The first command of a block, whose other commands are left. The result is the guard from here on.
+/// Emits the first command of a block and pushes the rest of the block. Returns the next guard.
 fn begin_block<'a>(
     alloc: Global,
     b: &mut Builder,
@@ -241,7 +249,7 @@ fn begin_block<'a>(
     }
 }
 
-/// The last item of what is left. The result is the guard from here on.
+/// Processes an item of the work list. Returns the next guard.
 fn advance<'a>(
     alloc: Global,
     b: &mut Builder,
@@ -284,7 +292,7 @@ fn advance<'a>(
     }
 }
 
-/// The whole driver, from an environment on.
+/// Emits the whole driver, from this environment.
 pub fn emit_all(
     alloc: Global,
     b: &mut Builder,

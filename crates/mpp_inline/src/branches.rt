@@ -1,4 +1,4 @@
-//! The condition of a choice.
+//! Conditions of `if` commands.
 
 ghost use Rattle.std.specs.Prelude.{◌<◌, ◌≤◌, ◌+◌, ◌^◌, IfOk, OnOk};
 ghost use Rattle.driver_core.specs.Meaning.{formula_value};
@@ -13,7 +13,7 @@ use flat_code::Node;
 use m_fixed::Op;
 use std::alloc::{AllocError, Global};
 
-/// The truth of a condition, and the guards of both blocks.
+/// The truth of a condition, and the guards of the two blocks.
 #[derive(Clone, Copy)]
 pub struct Branches {
     pub truth: u32,
@@ -21,7 +21,8 @@ pub struct Branches {
     pub second: u32,
 }
 
-/// The condition of a choice, with a stop where it is over.
+/// Emits a condition, with a check that stops the run if its value is `Over`, and the guards of the
+/// two blocks.
 pub fn open_branches(
     alloc: Global,
     b: &mut Builder,

@@ -1,4 +1,4 @@
-//! A flat program that grows.
+//! The program under construction.
 
 ghost use Rattle.std.specs.Prelude.{◌<◌, ◌^◌, IfOk, OnOk};
 ghost use Rattle.mpp_inline.specs.inner.Growth.{Pushed, CheckedRule, CheckedLine, NotedAt};
@@ -9,15 +9,15 @@ use m_places::Seq;
 use observables::{FaceLabel, InputType};
 use std::alloc::AllocError;
 
-/// The literal undefined, which cells that aren't there name too.
+/// The literal undefined, also the node of a cell that doesn't exist.
 pub const UNDEF: u32 = 0;
-/// The literal 0, the guard of what isn't reached.
+/// The literal 0, the guard of a point that is never executed.
 pub const ZERO: u32 = 1;
-/// The literal 1, the guard of what is always reached.
+/// The literal 1, the guard of a point that is always executed.
 pub const ONE: u32 = 2;
 
-/// The program so far: the types of the inputs, the nodes, the checks, what the labels tell, and for each note its node and the
-/// number of its label.
+/// The program so far: the types of the inputs, the nodes, the checks, the labels, and for each
+/// note its node and the number of its label.
 #[derive(Drop)]
 pub struct Builder {
     pub inputs: Seq<InputType>,
@@ -28,7 +28,7 @@ pub struct Builder {
 }
 
 impl Builder {
-    /// One more node, and its number.
+    /// Appends a node, and returns its number.
     pub fn push(&mut self, node: Node) -> Result<u32, AllocError>
         requires { load self.old < 2 ^ 32 }
         ensures { IfOk result (λ k. Pushed self.old self.new node k) }
@@ -38,7 +38,7 @@ impl Builder {
         Ok(number)
     }
 
-    /// A check of the rules, whose label is there.
+    /// Appends a check of the rules, whose label exists.
     pub fn check_rule(
         &mut self,
         guard: u32,
@@ -57,7 +57,8 @@ impl Builder {
         Ok(())
     }
 
-    /// A note of the label with this number, told where the node is a number other than 0.
+    /// Appends a note, which reports the label with this number if the node is a number other than
+    /// 0.
     pub fn note(&mut self, node: u32, label: u32) -> Result<(), AllocError>
         ensures { OnOk result (NotedAt self.old self.new node label) }
     {
@@ -65,7 +66,7 @@ impl Builder {
         Ok(())
     }
 
-    /// A check for over alone, with a label of its own for the line.
+    /// Appends a check that stops only on `Over`, with a new label for the driver line.
     pub fn check_line(&mut self, guard: u32, condition: u32, line: u32) -> Result<(), AllocError>
         requires { load self.old < 2 ^ 32 }
         ensures { OnOk result (CheckedLine self.old self.new guard condition line) }

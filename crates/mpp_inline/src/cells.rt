@@ -1,4 +1,5 @@
-//! Entries of an environment, which has the number of the node with the value of each cell.
+//! Reads and writes of an environment, which has for each cell the number of the node with its
+//! value.
 
 ghost use Rattle.std.specs.Prelude.{◌≡◌, IfOk, slice_set, slice_index_or};
 ghost use Rattle.mpp_inline.specs.inner.Cells.{picked, written, blanked};
@@ -6,7 +7,7 @@ ghost use Rattle.mpp_inline.specs.inner.Cells.{picked, written, blanked};
 use crate::builder::UNDEF;
 use std::alloc::{AllocError, Global};
 
-/// The node of a cell. A cell that isn't there is undefined.
+/// The node of a cell; undefined if the cell doesn't exist.
 pub fn look(env: &[u32], cell: usize) -> u32
     ensures { result ≡ slice_index_or env.now cell 0 }
 {
@@ -16,7 +17,7 @@ pub fn look(env: &[u32], cell: usize) -> u32
     }
 }
 
-/// Another node for a cell. One that isn't there is left out.
+/// Sets the node of a cell; nothing if the cell doesn't exist.
 pub fn put(env: &mut [u32], cell: u32, number: u32)
     ensures { env.new ≡ slice_set env.old cell number }
 {

@@ -7,7 +7,7 @@ use driver_core::{CNode, CStep, CTerm};
 use m_places::{Name, Seq};
 use std::alloc::{AllocError, Global};
 
-/// Equal names in the same order.
+/// A copy of a list of names.
 pub fn copied_names(alloc: Global, names: &[Name]) -> Result<Seq<Name>, AllocError>
     ensures { IfOk result (λ copies. copies ≡ names.now) }
 {
@@ -19,7 +19,7 @@ pub fn copied_names(alloc: Global, names: &[Name]) -> Result<Seq<Name>, AllocErr
     Ok(Seq::from_vec(copies))
 }
 
-/// The same cells in the same order.
+/// A copy of a list of cells.
 pub fn copied_cells(alloc: Global, cells: &[u32]) -> Result<Seq<u32>, AllocError>
     ensures { IfOk result (λ copies. copies ≡ cells.now) }
 {
@@ -37,7 +37,7 @@ fn boxed(alloc: Global, node: CNode) -> Result<Box<CTerm>, AllocError>
     Ok(Box::new(alloc, CTerm::new(node))?)
 }
 
-/// An equal term.
+/// A copy of a term.
 #[cycle(copied)]
 pub fn copied(alloc: Global, term: &CTerm) -> Result<Box<CTerm>, AllocError>
     ensures { IfOk result (λ t. t.value ≡ term.now) }

@@ -8,9 +8,10 @@ use std::alloc::{AllocError, AllocFailed};
 /// Why a driver has no flat program.
 #[derive(Debug, Drop)]
 pub enum InlineFault {
-    /// Its weight, which is above 4,000,000. One that 64 bits don't hold is told as 18,446,744,073,709,551,615.
+    /// The weight of the driver, which is above 4,000,000. A weight of 2^64 or more is reported as
+    /// 18,446,744,073,709,551,615.
     DriverTooLarge(u64),
-    /// There was no memory.
+    /// Out of memory.
     Memory,
 }
 

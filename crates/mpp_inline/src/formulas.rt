@@ -1,4 +1,4 @@
-//! Terms of the driver, as nodes.
+//! Terms of the driver: each becomes a node.
 
 ghost use Rattle.std.specs.Prelude.{◌<◌, ◌≤◌, ◌+◌, ◌*◌, ◌^◌, map, length, IfOk, OnOk, slice_index_or};
 ghost use Rattle.m_fixed.specs.declared.amount.Value.TheVariants.{Undef};
@@ -41,7 +41,7 @@ pub fn emit_formula(
     }
 }
 
-/// An operator on its arguments. One that is missing is undefined.
+/// An operator applied to its arguments. A missing argument is undefined.
 #[cycle(formulas)]
 fn emit_applied(
     alloc: Global,
@@ -61,7 +61,7 @@ fn emit_applied(
     b.push(Node::Do(op, first, second, third))
 }
 
-/// The argument at a place, and undefined where there is none.
+/// The argument at a place, undefined if it is missing.
 #[cycle(formulas)]
 fn emit_argument(
     alloc: Global,
@@ -81,7 +81,7 @@ fn emit_argument(
     }
 }
 
-/// A left fold, gone on with from a node so far.
+/// A left fold over the remaining terms, starting from this node.
 #[cycle(formulas)]
 fn emit_steps(
     alloc: Global,
@@ -104,7 +104,7 @@ fn emit_steps(
     Ok(number)
 }
 
-/// Whether one of the cells of a kind is defined, and 0 where there are none.
+/// Whether some cell of a kind is defined; 0 if the kind has no cells.
 fn emit_exists(
     alloc: Global,
     b: &mut Builder,
@@ -120,7 +120,7 @@ fn emit_exists(
     emit_any(b, env, &cells)
 }
 
-/// Whether one of these cells is defined, and 0 where there are none.
+/// Whether one of these cells is defined; 0 if there are none.
 fn emit_any(b: &mut Builder, env: &[u32], cells: &[u32]) -> Result<u32, AllocError>
     requires { load b.old + 2 * length cells.now + 1 < 2 ^ 32 }
     ensures step { IfOk result (λ k. Sane b.old → Known b.old env.now
@@ -146,7 +146,7 @@ fn emit_present(b: &mut Builder, env: &[u32], cell: u32) -> Result<u32, AllocErr
     b.push(Node::Do(Op::Present, look(env, cell as usize), UNDEF, UNDEF))
 }
 
-/// So far, or one of these cells is defined.
+/// The disjunction of `so_far` and whether one of these cells is defined.
 fn emit_further(b: &mut Builder, env: &[u32], so_far: u32, cells: &[u32]) -> Result<u32, AllocError>
     requires { load b.old + 2 * length cells.now < 2 ^ 32 }
     ensures size { OnOk result (load b.new ≤ load b.old + 2 * length cells.now) }

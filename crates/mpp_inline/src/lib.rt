@@ -1,12 +1,16 @@
-//! A driver and the rules of a base as one flat program: no calls, no branches, no copies. A check stops only where its guard
-//! is 1, and what a branch changes is a choice between the new value and the old one.
+//! Inlines a driver and the rules of a base into one flat program, without calls, branches or
+//! copies of environments.
 //!
-//! This crate stands on drivers over cells, on ordered bases and on flat programs. It knows nothing of source text, files or
-//! printed lines.
+//! Uses `driver_core` for drivers over cells, `rule_order` for ordered bases, and `flat_code`.
+//! Knows nothing of source text, files or printed lines.
 //!
-//! Nothing recurses over commands or calls: there is a list of what is left. A write under a guard is a choice. A table read at an index is a
-//! choice for each cell, from the last, after a test whether the index is below 0, which separates 0 from undefined. A call to which no rule
-//! leads is left out (`core_left`). Inputs that are truths are read as 0 or 1.
+//! A branch becomes a guard, a node that is 1 if the branch is taken and otherwise 0. A check stops
+//! the run only if its guard is 1, and a write under a guard is a choice between the new and the
+//! old value. A table read at an index is a chain of choices, one for each cell, from the last;
+//! before them a test whether the index is at most -1 separates the result 0 from undefined.
+//! Nothing recurses over commands or calls: they are processed from a work list. If the base has no
+//! rules, the calls of the rules are removed first (`core_left`). An input of type `Truth` is read
+//! only through its `And` with itself, which is undefined, 0 or 1.
 #![tactic(auto)]
 
 mod begin;

@@ -29,14 +29,16 @@ use observables::FaceLabel;
 use rule_order::Ordered;
 use std::alloc::{AllocError, Global};
 
-/// The flat program of a driver over the rules of an ordered base, what its labels tell, and the numbers of the labels of its notes:
-/// for every list of values that the inputs may have it answers what the driver does. The inputs are those of the symbols in order.
-/// An input of the type `Truth` is read by an `And` of it with itself alone, which stands for it everywhere else.
-/// There is an output for each note, in order, and then one for each requested cell.
+/// The flat program of a driver over the rules of an ordered base, its labels, and the label number
+/// of each note. For all values that the inputs may have, the observation of its run is the
+/// driver's answer. The inputs are those of the symbols, in order. An input of type `Truth` is read
+/// only by an `And` of it with itself, which replaces it everywhere else. There is an output for
+/// each note, in order, then one for each requested cell.
 ///
-/// The base has the cells of the symbols and is ordered, as `order` answers it. Where the driver costs more than 4,000,000, it is
-/// refused before any node is made; else the program has at most 6 nodes, checks, labels and notes for each unit of the weight, two
-/// nodes for each cell, and 3 nodes and the labels of the base besides. No call is as deep as a chain of functions.
+/// The base has the cells of the symbols, and is ordered by `order`. A driver whose weight is above
+/// 4,000,000 is rejected before any node is made. Otherwise the program has at most 6 nodes,
+/// checks, labels and notes for each unit of the weight, two nodes for each cell, 3 literals and
+/// the labels of the base. No depth of calls overflows a stack, since nothing recurses over calls.
 pub fn inline(
     alloc: Global,
     core: &Core,
@@ -63,10 +65,10 @@ pub fn inline(
     Ok(made)
 }
 
-/// The same, for a driver that isn't too heavy.
+/// The same, for a driver within the limit of weight.
 ///
-/// A call of the rules over a base that has none costs nothing, so there may be any number of such calls. They are left out of
-/// the driver at first.
+/// Calls of the rules have no weight if the base has none, so a driver may have any number of such
+/// calls. They are removed first.
 fn flat_program(
     alloc: Global,
     core: &Core,
@@ -90,7 +92,7 @@ fn flat_program(
     whole_program(alloc, core, ordered, symbols, requests)
 }
 
-/// The same, command by command.
+/// The same, for a driver from which nothing is removed.
 fn whole_program(
     alloc: Global,
     core: &Core,
@@ -114,7 +116,7 @@ fn whole_program(
     Ok(finished(b, symbols.inputs(), outputs, notes))
 }
 
-/// What the driver does, from its inputs to the nodes of the requested cells.
+/// Emits the driver. Returns the nodes of the outputs.
 fn emit_driver(
     alloc: Global,
     b: &mut Builder,
@@ -138,7 +140,7 @@ fn emit_driver(
     outputs_of(alloc, &b.notes, &env, requests)
 }
 
-/// The program with its outputs, and the numbers of the labels of its notes.
+/// The finished program, its labels, and the label numbers of its notes.
 fn finished(
     b: Builder,
     inputs: u32,

@@ -1,4 +1,5 @@
-//! A driver without its calls of the rules, for a base of which such a call changes nothing.
+//! Removes the calls of the rules from a driver. If the base has no rules, such a call changes
+//! nothing.
 
 ghost use Rattle.std.specs.Prelude.{◌≡◌, ◌↔◌, ◌++◌, [], IsTrue, IfOk, OnOk};
 ghost use Rattle.driver_core.specs.Actions.{branch};
@@ -11,7 +12,7 @@ use m_places::Seq;
 use micro_m::Base;
 use std::alloc::{AllocError, Global};
 
-/// Whether a base has neither definitions nor checks.
+/// Whether a base has no definitions and no checks.
 pub fn is_ruleless(base: &Base) -> bool
     ensures { IsTrue result ↔ IsRuleless base.now }
 {
@@ -32,7 +33,7 @@ pub fn without_rules(alloc: Global, core: &Core) -> Result<Core, AllocError>
     })
 }
 
-/// The bodies of functions without the calls of the rules in them.
+/// The bodies of functions without their calls of the rules.
 fn bodies_left(alloc: Global, bodies: &[Seq<CCommand>]) -> Result<Seq<Seq<CCommand>>, AllocError>
     ensures { IfOk result (λ made. made ≡ left_in bodies.now) }
 {
@@ -44,7 +45,7 @@ fn bodies_left(alloc: Global, bodies: &[Seq<CCommand>]) -> Result<Seq<Seq<CComma
     Ok(Seq::from_vec(made))
 }
 
-/// The commands of a block without the calls of the rules in it.
+/// The commands of a block without its calls of the rules.
 #[cycle(ruleless)]
 fn block_left(alloc: Global, block: &[CCommand]) -> Result<Vec<CCommand>, AllocError>
     ensures { IfOk result (λ made. made.items ≡ left_behind [] (block_of block.now)) }
@@ -56,7 +57,7 @@ fn block_left(alloc: Global, block: &[CCommand]) -> Result<Vec<CCommand>, AllocE
     Ok(made)
 }
 
-/// Adds a command without the calls of the rules in it, unless it is one.
+/// Appends a command without the calls of the rules in it, unless it is such a call.
 #[cycle(ruleless)]
 fn add_left(alloc: Global, command: &CCommand, made: &mut Vec<CCommand>) -> Result<(), AllocError>
     ensures { OnOk result (made.new.items ≡ made.old.items ++ left command.now) }
@@ -91,7 +92,7 @@ fn add_left(alloc: Global, command: &CCommand, made: &mut Vec<CCommand>) -> Resu
     }
 }
 
-/// A choice whose blocks have no calls of the rules.
+/// An `if` whose blocks have no calls of the rules.
 #[cycle(ruleless)]
 fn branch_left(
     alloc: Global,

@@ -1,4 +1,4 @@
-//! The rules, written out.
+//! Calls of the rules: definitions in order, then checks.
 
 ghost use Rattle.std.specs.Prelude.{◌≡◌, ℕ, List, [], ◌<◌, ◌≤◌, ◌+◌, ◌*◌, ◌^◌, length, OnOk, IfOk};
 ghost use Rattle.std.specs.List.{sum_by};
@@ -25,7 +25,7 @@ use micro_m::{Base, is_stopping, kind_at};
 use rule_order::Ordered;
 use std::alloc::{AllocError, Global};
 
-/// The cells that are defined with their nodes, in the order of the definitions.
+/// The defined cells with their nodes, in the order of the definitions.
 fn pick_defined(
     alloc: Global,
     env: &[u32],
@@ -44,7 +44,7 @@ fn pick_defined(
     Ok(entries)
 }
 
-/// Each definition in turn.
+/// Emits the definitions in order.
 fn emit_definitions(b: &mut Builder, env: &mut [u32], ordered: &Ordered) -> Result<(), AllocError>
     requires order { IsOrder ordered.now.base ordered.now.sequence }
     requires room { load b.old + 2 * positions_weight ordered.now.base ordered.now.sequence < 2 ^ 32 }
@@ -63,8 +63,9 @@ fn emit_definitions(b: &mut Builder, env: &mut [u32], ordered: &Ordered) -> Resu
     Ok(())
 }
 
-/// A check under this guard: it stops a run, or, where its error's kind doesn't, it stops over alone and is noted. The note's node is
-/// 1 where the guard is 1 and the condition is a number other than 0, and else 0.
+/// Emits a check under a guard. If the kind of its error stops the run, it is a check of the
+/// condition. Otherwise it stops only on `Over`, and is noted: the note's node is 1 if the guard is
+/// 1 and the condition is a number other than 0, otherwise 0.
 fn emit_check(
     b: &mut Builder,
     guard: u32,
@@ -89,7 +90,7 @@ fn emit_check(
     b.note(node, label)
 }
 
-/// Each check in turn, under this guard.
+/// Emits the checks in order, under a guard.
 fn emit_checks(b: &mut Builder, env: &[u32], guard: u32, base: &Base) -> Result<(), AllocError>
     requires valid { IsValidBase base.now }
     requires room { load b.old + 4 * sum_by check_weight base.now.checks < 2 ^ 32 }
@@ -104,9 +105,10 @@ fn emit_checks(b: &mut Builder, env: &[u32], guard: u32, base: &Base) -> Result<
     Ok(())
 }
 
-/// The rules on a copy of the environment, of which these cells come back. Only the cells that are defined are put aside. Where more
-/// come back than are defined, as where one comes back often, the defined cells are chosen instead: so the definitions pay for
-/// all choices.
+/// Emits the rules on a copy of the environment, from which these cells are copied back. Only the
+/// defined cells are saved, not the whole environment. If there are more cells to copy back than
+/// defined cells (cells may repeat), the choices under the guard are made for the defined cells
+/// instead. So the weight of the definitions covers all choices.
 pub fn emit_rules(
     alloc: Global,
     b: &mut Builder,

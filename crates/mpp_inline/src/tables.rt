@@ -1,4 +1,4 @@
-//! Tables read at an index, as nodes.
+//! Tables read at an index: each read becomes a node.
 
 ghost use Rattle.std.specs.Prelude.{◌≡◌, ℕ, ◌<◌, ◌≤◌, ◌+◌, ◌*◌, ◌^◌, pos, negsuc, IfOk, OnOk, IfSome, None};
 ghost use Rattle.m_fixed.specs.declared.amount.Value.TheVariants.{Num, Undef};
@@ -20,7 +20,7 @@ use std::alloc::AllocError;
 /// One unit, in millionths.
 const UNIT: i128 = 1_000_000;
 
-/// The value of an index that is a literal.
+/// The value of an index that is a literal; none for other terms.
 pub fn literal_of(index: &MTerm) -> Option<Value>
     ensures is { IfSome result (λ value. index.now ≡ lit value) }
     ensures weight { result ≡ None → (size weight : ℕ) → read_weight size index.now weight ≡ weight + 2 * size + 2 }
@@ -34,7 +34,7 @@ pub fn literal_of(index: &MTerm) -> Option<Value>
     }
 }
 
-/// What a table comes to at a literal index.
+/// The node of a table read at a literal index.
 pub fn emit_picked(b: &mut Builder, env: &[u32], place: Picked) -> Result<u32, AllocError>
     requires { load b.old < 2 ^ 32 }
     ensures step { IfOk result (λ k. Sane b.old → Known b.old env.now
@@ -47,8 +47,8 @@ pub fn emit_picked(b: &mut Builder, env: &[u32], place: Picked) -> Result<u32, A
     }
 }
 
-/// What a table comes to at an index that is a node: each cell is chosen where the index means it, a negative index gives 0,
-/// and one past the table undefined.
+/// The node of a table read at a computed index: a choice for each cell. An index of at
+/// most -1 gives 0, and an index past the last cell gives undefined.
 pub fn emit_table(
     b: &mut Builder,
     env: &[u32],
@@ -72,7 +72,7 @@ pub fn emit_table(
     Ok(number)
 }
 
-/// What a table comes to at an index that means none of its cells.
+/// The node of a table read at an index that selects no cell.
 fn emit_outside(b: &mut Builder, index: u32) -> Result<u32, AllocError>
     requires { load b.old + 3 < 2 ^ 32 }
     ensures step { IfOk result (λ k. Sane b.old → IsUsable b.old index
@@ -84,7 +84,7 @@ fn emit_outside(b: &mut Builder, index: u32) -> Result<u32, AllocError>
     b.push(Node::Do(Op::Choose, below, ZERO, UNDEF))
 }
 
-/// The cell of a table at a place where the index means it, and else the other node.
+/// The cell at a place if the index selects it, otherwise the other node.
 fn emit_cell(
     b: &mut Builder,
     index: u32,
@@ -104,7 +104,7 @@ fn emit_cell(
     b.push(Node::Do(Op::Choose, test, cell, other))
 }
 
-/// The number of a place in units.
+/// The number of a place as an amount: place 2 is 2 units.
 fn units(place: u32) -> Value
     ensures { result ≡ Num (pos (place * 1000000)) }
 {
@@ -114,7 +114,7 @@ fn units(place: u32) -> Value
     }
 }
 
-/// One unit below 0.
+/// The number -1.
 fn unit_below() -> Value
     ensures { result ≡ Num (negsuc 999999) }
 {

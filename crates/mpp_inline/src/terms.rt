@@ -1,4 +1,4 @@
-//! Terms of the rules, as nodes.
+//! Terms of the rules: each becomes a node.
 
 ghost use Rattle.std.specs.Prelude.{◌<◌, ◌≤◌, ◌+◌, ◌*◌, ◌^◌, map, IfOk, OnOk, slice_index_or};
 ghost use Rattle.m_fixed.specs.declared.amount.Value.TheVariants.{Undef};
@@ -59,7 +59,7 @@ fn emit_read(
     }
 }
 
-/// An operator on its arguments. One that is missing is undefined.
+/// An operator applied to its arguments. A missing argument is undefined.
 #[cycle(terms)]
 fn emit_applied(
     b: &mut Builder,
@@ -78,7 +78,7 @@ fn emit_applied(
     b.push(Node::Do(op, first, second, third))
 }
 
-/// The argument at a place, and undefined where there is none.
+/// The argument at a place, undefined if it is missing.
 #[cycle(terms)]
 fn emit_argument(
     b: &mut Builder,
@@ -97,7 +97,7 @@ fn emit_argument(
     }
 }
 
-/// A left fold, gone on with from a node so far.
+/// A left fold over the remaining terms, starting from this node.
 #[cycle(terms)]
 fn emit_steps(b: &mut Builder, env: &[u32], so_far: u32, steps: &[Step]) -> Result<u32, AllocError>
     requires { load b.old + 2 * tree_steps_weight (steps_of steps.now) < 2 ^ 32 }

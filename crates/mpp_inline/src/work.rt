@@ -1,23 +1,24 @@
-//! What is left to do.
+//! The work list.
 
 use driver_core::{CCommand, CTerm, Core};
 use rule_order::Ordered;
 
-/// A driver with the rules that its calls of the rules compute.
+/// A driver, and the ordered rules that it calls.
 #[derive(Drop)]
 pub struct Driver<'a> {
     pub core: &'a Core,
     pub ordered: &'a Ordered,
 }
 
-/// Where a command stands: calls may be nested so deep, and it counts where this guard is 1.
+/// The context of a command: the remaining depth of calls, and the guard under which it takes
+/// effect.
 #[derive(Clone, Copy)]
 pub struct Frame {
     pub depth: usize,
     pub guard: u32,
 }
 
-/// A choice on a line: a condition, and the block where it holds and the one where it doesn't.
+/// An `if` on a line of the driver: its condition, and the blocks for true and false.
 #[derive(Drop)]
 pub struct Choice<'a> {
     pub line: u32,
@@ -26,15 +27,16 @@ pub struct Choice<'a> {
     pub second: &'a [CCommand],
 }
 
-/// An item of the list of what is left, whose last item is done first.
+/// An item of the work list. The last item is processed first.
 #[derive(Drop)]
 pub enum Work<'a> {
-    /// A block, with calls nested so deep at most.
+    /// Run a block, with this remaining depth of calls.
     Run(usize, &'a [CCommand]),
-    /// From here on, this guard.
+    /// Switch to this guard.
     Under(u32),
-    /// These cells get their former nodes back.
+    /// Restore the nodes of these cells.
     Restore(Vec<(u32, u32)>),
-    /// These cells go to this environment, which goes on.
+    /// Return from a function: copy these cells to the caller's environment, which becomes the
+    /// current one.
     Return(&'a [u32], Vec<u32>),
 }

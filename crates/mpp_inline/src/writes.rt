@@ -1,4 +1,4 @@
-//! Writes that count where a guard is 1.
+//! Writes under a guard: they take effect only if the guard is 1.
 
 ghost use Rattle.std.specs.Prelude.{◌<◌, ◌≤◌, ◌+◌, ◌^◌, [], ◌∷◌, length, OnOk};
 ghost use Rattle.mpp_inline.specs.inner.Growth.{IsUsable, Placed, Held, Merged, SameBut, cells_of};
@@ -10,7 +10,7 @@ use flat_code::Node;
 use m_fixed::Op;
 use std::alloc::AllocError;
 
-/// The given nodes at their cells where the guard is 1, and no change where it is 0.
+/// Writes the given nodes to their cells under a guard. Each write whose node differs is a choice.
 pub fn merge(
     b: &mut Builder,
     env: &mut [u32],
@@ -33,7 +33,7 @@ pub fn merge(
     Ok(())
 }
 
-/// The same, with no node where the guard is the literal 1.
+/// The same, but without choices if the guard is the literal 1.
 pub fn write_under(
     b: &mut Builder,
     env: &mut [u32],
@@ -53,7 +53,7 @@ pub fn write_under(
     merge(b, env, guard, given)
 }
 
-/// One node at its cell.
+/// Writes one node to its cell under a guard.
 pub fn assign_under(
     b: &mut Builder,
     env: &mut [u32],

@@ -49,7 +49,7 @@ use Rattle.reg_machine.proofs.LawLemmas.{reading-none}
 
 -- ---- what is wrong
 
--- nothing is wrong with an instruction: its numbers can stand there, and something is known after it
+-- an instruction is valid: its numbers are, and there is a state after it
 pub right-parts : (code : Listing) (i : Instr) (s : State) → reading code ≡ Some s → wrong_behind code i ≡ None → (has_numbers code.counts s i ≡ true)
     × (t : State) × (moved i s ≡ Some t)
 right-parts code i s e f = from (has_numbers code.counts s i) refl (moved i s) refl (sym (ap (option_and_then (λ s. wrong_at code.counts s i)) e) ∙ f)
@@ -69,7 +69,7 @@ reads-on code i s t e has is =
     ∙ ap (λ b. if b then moved i s else None) has
     ∙ is
 
--- what is wrong after code of which this is known
+-- the error of an instruction after code with this state
 pub wrong-is : (code : Listing) (i : Instr) (s : State) → reading code ≡ Some s → wrong_behind code i ≡ wrong_at code.counts s i
 wrong-is code i s e = ap (option_and_then (λ s. wrong_at code.counts s i)) e
 
@@ -90,7 +90,7 @@ fault-wrong n s k i rest w e = from (has_numbers n s i) refl (moved i s) refl e
     from true is None is' g = ap (λ w. Some (placed k w)) (some-is Order w g)
     from true is (Some t) is' g = absurd (none≢some w g)
 
--- code of which all instructions are read has no fault but that outputs may be missing
+-- if no instruction of the code is wrong, its only error can be that an output is missing
 pub fault-read : (n : Counts) (code : List Instr) (k : ℕ) (s t : State) → fold (λ s i. option_and_then (step n i) s) (Some s) code ≡ Some t
     → fault_from n s k code ≡ (if is_none (all_given t.outputs) then Some NoOutput else None)
 fault-read n [] k s t e = ap (λ (u : State). if is_none (all_given u.outputs) then Some NoOutput else None) (some-is s t e)
@@ -251,7 +251,7 @@ Fits d p = IsPacked d.inputs d.outs (length d.pool) (length d.used) p
 pushed : (d : Parts) (p : Packed) → listing (record d { packed = d.packed ++ p ∷ [] }) ≡ with_instr (listing d) (unpacked d.pool d.used p)
 pushed d p = ap (λ (is : List Instr). record { counts = (listing d).counts; instrs = is }) (map-append (unpacked d.pool d.used) d.packed (p ∷ []))
 
--- and what is known after it
+-- and the state after it
 read-push : (d : Parts) (p : Packed) (s t : State) → reading (listing d) ≡ Some s → has_numbers (listing d).counts s (unpacked d.pool d.used p) ≡ true
     → moved (unpacked d.pool d.used p) s ≡ Some t → reading (listing (record d { packed = d.packed ++ p ∷ [] })) ≡ Some t
 read-push d p s t e has is = ap reading (pushed d p) ∙ reads-on (listing d) (unpacked d.pool d.used p) s t e has is
@@ -451,7 +451,7 @@ draft-store d used' k r j h right g below at =
     there x y (inr ne) f = let a = h.known y (ap is_some (sym (put-other h.state.slots k (Some x) y ne)) ∙ f) in
         (a.0, omega (arith, g.longer, a.1), g.same a.0 a.1 ∙ a.2)
 
--- nothing so far
+-- no instruction yet
 pub draft-empty : (inputs slots labels outs : ℕ) (given : BTreeSet ℕ) → given.keys ≡ []
     → Draft (record {
       inputs = inputs;
@@ -494,7 +494,7 @@ draft-empty inputs slots labels outs given none = record {
 
 -- ---- slots that are used
 
--- a map that is as it was
+-- a map that is unchanged
 pub numbered-same : (m n : BTreeMap ℕ ℕ) (used used' : List ℕ) → n.entries ≡ m.entries → used' ≡ used → IsNumbered m used → IsNumbered n used'
 numbered-same m n used used' same e h =
     subst (λ (u : List ℕ). IsNumbered n u) (sym e) (record {
@@ -538,7 +538,7 @@ numbered-push m n used k d h updates is away =
 pub numbered-distinct : (m : BTreeMap ℕ ℕ) (used : List ℕ) → IsNumbered m used → AreDistinct used
 numbered-distinct m used h = λ i j a b e. some-is i j (sym (h.all i a) ∙ ap (get nat_cmp m) e ∙ h.all j b)
 
--- ---- whether all outputs were given
+-- ---- whether all outputs were set
 
 pub whole-not : (d : Parts) (k : ℕ) → Draft d → k < d.outs → contains nat_cmp d.given k ≡ false → (s : State) → reading (listing d) ≡ Some s
     → false ≡ is_some (all_given s.outputs)
@@ -553,7 +553,7 @@ whole-all d h each s e =
     subst (λ (t : State). true ≡ is_some (all_given t.outputs)) same
     (sym (given-each h.state.outputs (λ k lt. sym (h.given k) ∙ each k (omega (arith, h.count)))))
 
--- what is wrong with the end of code, by whether all outputs were given
+-- the error of the end of code, by whether all outputs were set
 pub end-whole : (code : Listing) (s : State) → reading code ≡ Some s → true ≡ is_some (all_given s.outputs) → code_fault code ≡ None
 end-whole code s e whole = code-fault code s e ∙ from (all_given s.outputs) whole
   where
@@ -570,7 +570,7 @@ end-missing code s e whole = code-fault code s e ∙ from (all_given s.outputs) 
 
 -- ---- a list of instructions
 
--- how far a list of instructions is read
+-- the loop over a list of instructions
 pub record Rest (code whole : Listing) (k : ℕ) (left : List Instr) : Type 0 where
   pub state : State
   pub counts : code.counts ≡ whole.counts

@@ -68,7 +68,7 @@ mirrors-register used m rs ss os r v w h lt is = record {
   going = h.going;
 }
 
--- what a check says of these two values
+-- the stop of a check with these two values
 abbrev stop_by : Bool → ℕ → Value → Value → Option Stop
 stop_by over_only label guard condition = if is_one guard then stop_of over_only label condition else None
 
@@ -189,7 +189,7 @@ length-slots rs ss (Load r k) = refl
 length-slots rs ss (Check g r over_only label) = refl
 length-slots rs ss (Output k r) = refl
 
--- what stands for a place past the end doesn't matter within
+-- within a list the default for places past its end doesn't matter
 pub at-any : (xs : List Packed) (i : ℕ) (d e : Packed) → i < length xs → get_or xs i d ≡ get_or xs i e
 at-any [] i d e lt = absurd (omega arith)
 at-any (x ∷ xs) zero d e lt = refl

@@ -1,4 +1,4 @@
--- Register code does what the flat program that it spells does.
+-- Register code has the same answer as the flat program that it denotes.
 use Rattle.std.proofs.Common.{◌≡◌, ℕ, zero, suc, ◌+◌, ◌<◌, Bool, true, false, ◌⊎◌, List, [], ◌∷◌, ◌++◌, length, get_or, set, map, replicate, Option, None, Some}
 use Rattle.std.proofs.Common.{refl, ap, sym, ◌∙◌, subst, inl, inr, ⊎_elim, arith}
 use Rattle.std.specs.Prelude.{if◌then◌else◌, fold}
@@ -89,7 +89,7 @@ holds-more : (values : List Value) (v : Value) (table : ℕ → Option ℕ) (cel
     → Holds (values ++ v ∷ []) table cells
 holds-more values v table cells below h k x e = h k x e ∙ sym (get_or_append_left values (v ∷ []) Undef x (below k x e))
 
--- the values of outputs, undefined where one isn't given yet
+-- the values of outputs, undefined until they are set
 abbrev output_value : List Value → Option ℕ → Value
 output_value values None = Undef
 output_value values (Some x) = value_at values x
@@ -102,7 +102,7 @@ outputs-extend values v (Some x ∷ outputs) h =
     ap (λ y. y ∷ map (output_value values) outputs) (sym (get_or_append_left values (v ∷ []) Undef x h.0))
     ∙ ap (λ xs. value_at (values ++ v ∷ []) x ∷ xs) (outputs-extend values v outputs h.1)
 
--- what a check says of these two values
+-- the stop of a check with these two values
 abbrev stop_by : Check → Value → Value → Option Stop
 stop_by check guard condition = if is_one guard then stop_of check.over_only check.label condition else None
 
@@ -142,14 +142,14 @@ length-values inputs values (node ∷ nodes) =
 
 -- ---- one instruction
 
--- what is known of code so far, without a machine
+-- the nodes in a state of the symbolic run exist
 record Known (s : State) : Type 0 where
   registers : Below s.registers (length s.nodes)
   slots : Below s.slots (length s.nodes)
   checks : ChecksBelow (length s.nodes) s.checks
   outputs : OutputsBelow (length s.nodes) s.outputs
 
--- a machine that hasn't ended has the values of what is known
+-- a machine whose run hasn't ended has the values of the nodes in the symbolic run
 record Runs (inputs : List Value) (s : State) (m : Machine) : Type 0 where
   registers : Holds (node_values inputs s.nodes) s.registers m.registers
   slots : Holds (node_values inputs s.nodes) s.slots m.slots
@@ -160,7 +160,7 @@ record Goes (inputs : List Value) (s : State) (m : Machine) : Type 0 where
   ended : m.ended ≡ first_stop (node_values inputs s.nodes) s.checks
   running : m.ended ≡ None → Runs inputs s m
 
--- what an instruction leaves: all is known, a run that has ended stays so, and another goes on
+-- the effect of an instruction: the invariants hold, and a run that has ended is unchanged
 record Acts (inputs : List Value) (i : Instr) (s s' : State) : Type 0 where
   known : Known s'
   stays : (stop : Stop) → first_stop (node_values inputs s.nodes) s.checks ≡ Some stop → first_stop (node_values inputs s'.nodes) s'.checks ≡ Some stop
@@ -344,7 +344,7 @@ goes-on n inputs i s s' m h e =
     cases None = inl refl
     cases (Some stop) = inr (stop, refl)
 
--- no reading goes on from nothing
+-- once an instruction is wrong, there is no state
 pub reading-none : (n : Counts) (code : List Instr) → fold (λ s i. option_and_then (step n i) s) None code ≡ None
 reading-none n [] = refl
 reading-none n (i ∷ code) = reading-none n code

@@ -1,4 +1,5 @@
--- Code, what is wrong with it, and the flat program that it spells.
+-- Register code: its errors, and the flat program that it denotes. One symbolic run over the code
+-- (`reading`) defines both.
 use Rattle.std.specs.Prelude.{ℕ, suc, ◌==◌, nat_lt, nat_le, ◌&&◌, ◌||◌, Bool, is_none, slice_index_or, List, [], ◌∷◌, ◌++◌, length, replicate, fold, slice_set}
 use Rattle.std.specs.Prelude.{Option, Some, None, if◌then◌else◌}
 use Rattle.std.specs.Option.{option_and_then, option_map, option_map_or}
@@ -18,7 +19,7 @@ use Rattle.reg_machine.specs.declared.wrong.CodeWrong.TheVariants.{BadNumber, Ba
 
 -- ---- code
 
--- how many inputs, slots, labels and outputs there are
+-- the numbers of inputs, slots, labels and outputs
 pub record Counts : Type 0 where
   pub inputs : ℕ
   pub slots : ℕ
@@ -45,14 +46,15 @@ with_slots code slots = record {
   instrs = code.instrs;
 }
 
--- ---- what is known of code so far
+-- ---- the symbolic run
 
--- a table in which place k has another entry
+-- a table, with the entry at place k replaced
 abbrev pub put : {A : Type 0} → (ℕ → A) → ℕ → A → ℕ → A
 put table k entry = λ j. if j == k then entry else table j
 
--- Which nodes the registers and slots hold, the nodes, checks and outputs that the code spells, and how often each node
--- was stored and loaded. A register or slot that no instruction wrote holds none.
+-- The state of the symbolic run: the node that each register and slot holds, the nodes, checks and
+-- outputs so far, and how often each node was stored and loaded. A register or slot that was never
+-- written holds none.
 pub record State : Type 0 where
   pub registers : ℕ → Option ℕ
   pub slots : ℕ → Option ℕ
@@ -62,7 +64,7 @@ pub record State : Type 0 where
   pub stored : ℕ → ℕ
   pub loaded : ℕ → ℕ
 
--- before the first instruction, where there are n outputs
+-- the state before the first instruction, for n outputs
 abbrev pub start : ℕ → State
 start n = record {
   registers = λ _. None;
@@ -74,20 +76,20 @@ start n = record {
   loaded = λ _. 0;
 }
 
--- the next node, which register r holds from then on
+-- the state after the next node is made in register r
 abbrev pub with_node : ℕ → Node → State → State
 with_node r node s = record s { registers = put s.registers r (Some (length s.nodes)); nodes = s.nodes ++ node ∷ [] }
 
--- a register's number
+-- whether a number is that of a register
 abbrev pub is_register : ℕ → Bool
 is_register r = nat_lt r REGISTERS
 
--- arguments past the operator's arity are the first
+-- whether arguments past the operator's arity equal the first
 abbrev pub repeats_first : Op → ℕ → ℕ → ℕ → Bool
 repeats_first op a b c = (nat_le 2 (arity_of op) || (b == a)) && (nat_le 3 (arity_of op) || (c == a))
 
--- Whether all numbers of an instruction can stand there: each is below its count, arguments past the arity are the first,
--- and an output wasn't given before.
+-- Whether all numbers of an instruction are valid: each is below its count, arguments past the
+-- arity equal the first, and an output isn't set twice.
 abbrev pub has_numbers : Counts → State → Instr → Bool
 has_numbers n s (Take r k) = is_register r && nat_lt k n.inputs
 has_numbers n s (Lit r v) = is_register r
@@ -97,7 +99,7 @@ has_numbers n s (Load r k) = is_register r && nat_lt k n.slots
 has_numbers n s (Test g r over_only label) = is_register g && (is_register r && nat_lt label n.labels)
 has_numbers n s (Output k r) = nat_lt k n.outputs && (is_register r && is_none (slice_index_or s.outputs k None))
 
--- What is known after an instruction. There is nothing where it reads a register or a slot that holds no node.
+-- The state after an instruction; none if it reads a register or a slot that holds no node.
 abbrev pub moved : Instr → State → Option State
 moved (Take r n) s = Some (with_node r (Input n) s)
 moved (Lit r v) s = Some (with_node r (LitNode v) s)
@@ -112,36 +114,36 @@ moved (Test g r over_only label) s =
     (s.registers r)) (s.registers g)
 moved (Output k r) s = option_map (λ x. record s { outputs = slice_set s.outputs k (Some x) }) (s.registers r)
 
--- what is known after an instruction of which nothing is wrong
+-- the state after an instruction; none if it is wrong
 abbrev pub step : Counts → Instr → State → Option State
 step n instr s = if has_numbers n s instr then moved instr s else None
 
--- what is known after all instructions, where nothing is wrong with one
+-- the state after all instructions; none if one is wrong
 abbrev pub reading : Listing → Option State
 reading code = fold (λ s instr. option_and_then (step code.counts instr) s) (Some (start code.counts.outputs)) code.instrs
 
--- ---- what is wrong
+-- ---- errors
 
--- what is wrong with an instruction, where this is known before it
+-- the error of an instruction in this state, if any
 abbrev pub wrong_at : Counts → State → Instr → Option Wrong
 wrong_at n s instr = if has_numbers n s instr then (if is_none (moved instr s) then Some Order else None) else Some Number
 
--- what is wrong with one more instruction after code with which nothing is
+-- the error of an instruction appended to valid code, if any
 abbrev pub wrong_behind : Listing → Instr → Option Wrong
 wrong_behind code instr = option_and_then (λ s. wrong_at code.counts s instr) (reading code)
 
--- a fault with its place
+-- an error with its place
 abbrev pub placed : ℕ → Wrong → CodeWrong
 placed k Number = BadNumber k
 placed k Order = BadOrder k
 
--- the outputs, where each was given
+-- the nodes of the outputs; none if an output was never set
 abbrev pub all_given : List (Option ℕ) → Option (List ℕ)
 all_given [] = Some []
 all_given (None ∷ outputs) = None
 all_given (Some x ∷ outputs) = option_map (λ xs. x ∷ xs) (all_given outputs)
 
--- what is wrong with an end of code from place k on, where this is known before it
+-- the error of the instructions from place k on, in this state
 abbrev pub fault_from : Counts → State → ℕ → List Instr → Option CodeWrong
 fault_from n s k [] = if is_none (all_given s.outputs) then Some NoOutput else None
 fault_from n s k (instr ∷ instrs) =
@@ -149,20 +151,21 @@ fault_from n s k (instr ∷ instrs) =
     then option_map_or (λ t. fault_from n t (suc k) instrs) (moved instr s) (Some (BadOrder k))
     else Some (BadNumber k)
 
--- What is wrong with code: its first instruction with which something is, or else that an output is never given. Of the
--- one instruction `Do(Sub, 0, 0, 1, 0)` it is `BadOrder(0)`.
+-- The error of code: that of its first wrong instruction, otherwise `NoOutput` if an output is
+-- never set. At one instruction `BadNumber` takes precedence over `BadOrder`. The code of the
+-- single instruction `Do(Sub, 0, 0, 1, 0)` has the error `BadOrder(0)`.
 abbrev pub code_fault : Listing → Option CodeWrong
 code_fault code = fault_from code.counts (start code.counts.outputs) 0 code.instrs
 
 -- ---- the program
 
--- the flat program of what is known, where all outputs were given
+-- the flat program of a state; none if an output was never set
 abbrev pub spelled : ℕ → State → Option Flat
 spelled inputs s = option_map (λ outputs. record { inputs = inputs; nodes = s.nodes; checks = s.checks; outputs = outputs }) (all_given s.outputs)
 
--- The flat program that code spells: each `Take`, `Lit` and `Do` is the next node, whose arguments are the nodes that its
--- registers hold, `Store` and `Load` move nodes, checks and outputs are in their order and places. There is none where
--- something is wrong.
+-- The flat program that code denotes; none if the code has an error. Each `Take`, `Lit` and `Do` is
+-- the next node, whose arguments are the nodes in its registers. `Store` and `Load` move nodes.
+-- Checks keep their order, and outputs have their numbers.
 abbrev pub flow_of : Listing → Option Flat
 flow_of code = option_and_then (spelled code.counts.inputs) (reading code)
 

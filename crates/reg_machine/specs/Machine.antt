@@ -1,4 +1,4 @@
--- What a machine does with code.
+-- The semantics of register code.
 use Rattle.std.specs.Prelude.{ℕ, List, replicate, fold, slice_set, slice_index_or, Option, Some, None, if◌then◌else◌}
 use Rattle.m_fixed.specs.declared.amount.Value.{Value}
 use Rattle.m_fixed.specs.declared.amount.Value.TheVariants.{Undef}
@@ -11,18 +11,18 @@ use Rattle.reg_machine.specs.declared.instr.Instr.{Instr}
 use Rattle.reg_machine.specs.declared.instr.Instr.TheVariants.{Take, Lit, Do, Store, Load, Check, Output}
 use Rattle.reg_machine.specs.Flow.{Listing, put}
 
--- the values of registers, slots and outputs, and what ended the run
+-- the values of registers, slots and outputs, and the stop that ended the run, if any
 pub record Machine : Type 0 where
   pub registers : ℕ → Value
   pub slots : ℕ → Value
   pub outputs : List Value
   pub ended : Option Stop
 
--- before the first instruction, where there are n outputs
+-- the machine before the first instruction, with n outputs
 abbrev pub fresh : ℕ → Machine
 fresh n = record { registers = λ _. Undef; slots = λ _. Undef; outputs = replicate n Undef; ended = None }
 
--- one instruction of a run that hasn't ended
+-- the effect of an instruction in a run that hasn't ended
 abbrev pub act : List Value → Instr → Machine → Machine
 act inputs (Take r n) m = record m { registers = put m.registers r (slice_index_or inputs n Undef) }
 act inputs (Lit r v) m = record m { registers = put m.registers r v }
@@ -32,26 +32,26 @@ act inputs (Load r k) m = record m { registers = put m.registers r (m.slots k) }
 act inputs (Check g r over_only label) m = record m { ended = if is_one (m.registers g) then stop_of over_only label (m.registers r) else None }
 act inputs (Output k r) m = record m { outputs = slice_set m.outputs k (m.registers r) }
 
--- one instruction, which does nothing once the run has ended
+-- the effect of an instruction, none once the run has ended
 abbrev pub act_at : List Value → Option Stop → Instr → Machine → Machine
 act_at inputs (Some stop) instr m = m
 act_at inputs None instr m = act inputs instr m
 
--- instructions one after the other
+-- the effect of instructions in order
 abbrev pub acts : List Value → Machine → List Instr → Machine
 acts inputs m instrs = fold (λ m instr. act_at inputs m.ended instr m) m instrs
 
--- the answer of an end: the stop, or else the outputs
+-- the answer of a finished run: the stop, otherwise the outputs
 abbrev pub answer_of : Option Stop → List Value → Answer
 answer_of (Some stop) outputs = Stopped stop
 answer_of None outputs = Values outputs
 
--- the answer of instructions, where there are so many outputs
+-- the answer of instructions, for this number of outputs
 abbrev pub answer_behind : List Value → ℕ → List Instr → Answer
 answer_behind inputs outputs instrs = answer_of (acts inputs (fresh outputs) instrs).ended (acts inputs (fresh outputs) instrs).outputs
 
--- What code answers for these inputs: its instructions one after the other, up to the first check that stops, which is the
--- answer, or else the outputs.
+-- The answer of code for these inputs: the stop of the first check that causes one, otherwise the
+-- outputs.
 abbrev pub machine_run : Listing → List Value → Answer
 machine_run code inputs = answer_behind inputs code.counts.outputs code.instrs
 

@@ -1,3 +1,3 @@
--- What the contracts of inner functions speak of. Those of public calls need none of it.
+-- Definitions that only the contracts of private functions use.
 pub mod Cells
 pub mod Packed

@@ -1,4 +1,4 @@
-//! Code that is made one instruction after the other.
+//! Builds code one instruction at a time, and rejects a wrong instruction.
 ghost use Rattle.std.specs.Prelude.{◌≡◌, ◌<◌, length, IfOk, OnOk, OnErr, MatchOption, Some, None, is_some, true, []};
 ghost use Rattle.reg_machine.specs.Flow.{State, wrong_behind, with_instr, with_slots, reading, has_numbers, moved, all_given, code_fault, repeats_first};
 ghost use Rattle.reg_machine.specs.declared.instr.Instr.TheVariants.{Take, Lit, Do, Store, Load, Check, Output};
@@ -14,7 +14,7 @@ use std::alloc::{AllocError, Global};
 use std::collections::BTreeSet;
 use std::marker::Model;
 
-/// Code so far, with which nothing is wrong but that outputs may still be missing. Contracts see its counts and its list of
+/// Valid code so far; outputs may still be missing. Contracts see its counts and its list of
 /// instructions.
 #[derive(Drop)]
 pub struct CodeBuilder {
@@ -41,7 +41,7 @@ impl Model for CodeBuilder {
         b.packed.items b.pool.items b.used b.written b.given };
 }
 
-// Whether arguments past the operator's arity are the first.
+// Whether arguments past the operator's arity equal the first.
 fn repeats_first(op: Op, a: u8, b: u8, c: u8) -> bool
     ensures { result ≡ repeats_first op a b c }
 {
@@ -49,7 +49,7 @@ fn repeats_first(op: Op, a: u8, b: u8, c: u8) -> bool
 }
 
 impl CodeBuilder {
-    /// No instruction, where there are so many inputs, slots, labels and outputs. Takes no memory.
+    /// Code without instructions, with these counts. Takes no memory.
     pub fn new(alloc: Global, inputs: u32, slots: u32, labels: u32, outputs: u32) -> CodeBuilder
         ensures { result ≡ record { counts = record { inputs = inputs; slots = slots; labels = labels; outputs = outputs }; instrs = [] } }
     {
@@ -66,7 +66,7 @@ impl CodeBuilder {
         }
     }
 
-    // Whether all numbers of an instruction can stand after those so far.
+    // Whether all numbers of an instruction are valid after the code so far.
     fn has_numbers(&self, instr: &Instr) -> bool
         ensures { (s : State) → reading self.now ≡ Some s → result ≡ has_numbers self.now.counts s instr.now }
     {
@@ -104,7 +104,7 @@ impl CodeBuilder {
         self.used.find(slot).is_some()
     }
 
-    // Whether all that an instruction reads was written.
+    // Whether everything that an instruction reads was written.
     fn has_read(&self, instr: &Instr) -> bool
         ensures { (s : State) → reading self.now ≡ Some s → result ≡ is_some (moved instr.now s) }
     {
@@ -117,7 +117,7 @@ impl CodeBuilder {
         }
     }
 
-    // What is wrong with one more instruction.
+    // The error of an instruction after the code so far, if any.
     fn wrong(&self, instr: &Instr) -> Option<Wrong>
         ensures { result ≡ wrong_behind self.now instr.now }
     {
@@ -131,8 +131,8 @@ impl CodeBuilder {
         None
     }
 
-    /// Puts one more instruction after the others, and says what is wrong with it instead, where something is. Its only error
-    /// is running out of memory. Where it isn't put, the code is as it was.
+    /// Appends an instruction, or returns what is wrong with it. The only error is running out of
+    /// memory. If the instruction isn't appended, the code is unchanged.
     pub fn push(&mut self, instr: Instr) -> Result<Option<Wrong>, AllocError>
         requires few { length self.old.instrs < 4294967295 }
         ensures wrong { IfOk result (λ wrong. wrong ≡ wrong_behind self.old instr) }
@@ -148,7 +148,7 @@ impl CodeBuilder {
         }
     }
 
-    /// Puts one more instruction with which nothing is wrong.
+    /// Appends a valid instruction.
     pub fn add(&mut self, instr: Instr) -> Result<(), AllocError>
         requires few { length self.old.instrs < 4294967295 }
         requires right { wrong_behind self.old instr ≡ None }
@@ -158,7 +158,7 @@ impl CodeBuilder {
         self.put(instr)
     }
 
-    // Puts one more instruction after the others.
+    // Appends a valid instruction.
     fn put(&mut self, instr: Instr) -> Result<(), AllocError>
         requires few { length self.old.instrs < 4294967295 }
         requires right { IsRight self.old instr }
@@ -263,7 +263,7 @@ impl CodeBuilder {
         Ok(())
     }
 
-    // The first output that was never given, if there is one.
+    // Whether every output was set.
     fn is_whole(&self) -> bool
         ensures { (s : State) → reading self.now ≡ Some s → result ≡ is_some (all_given s.outputs) }
     {
@@ -275,7 +275,7 @@ impl CodeBuilder {
         true
     }
 
-    /// The code, or none where an output was never given.
+    /// The code; none if an output was never set.
     pub fn finish(self) -> Option<Code>
         ensures { MatchOption result (code_fault self ≡ Some NoOutput) (λ code. (code ≡ self) × (code_fault self ≡ None)) }
     {
@@ -287,7 +287,8 @@ impl CodeBuilder {
         }
     }
 
-    /// The code, where all outputs were given, with so many slots, of which no greater one is stored to.
+    /// The code, with this number of slots. Every output must be set, and every slot that is used
+    /// must be below the number.
     pub fn seal(self, slots: u32) -> Code
         requires { code_fault (with_slots self slots) ≡ None }
         ensures { result ≡ with_slots self slots }

@@ -13,7 +13,7 @@ use m_fixed::{Value, apply};
 use observables::Stop;
 use std::alloc::{AllocError, Global};
 
-/// The values of the registers, of the slots that are used, and of the outputs.
+/// The values of the registers, the used slots and the outputs.
 #[derive(Drop)]
 pub struct Cells {
     pub registers: [Value; REGISTERS as usize],
@@ -31,7 +31,7 @@ fn clear(values: &mut [Value])
 }
 
 impl Cells {
-    // One instruction, and the stop if it ends the run.
+    // Executes one instruction. Returns the stop if it ends the run.
     fn act(&mut self, packed: Packed, pool: &[Value], inputs: &[Value]) -> Option<Stop>
         requires { IsPacked (length inputs.now) (length self.old.outputs.items) (length pool.now) (length self.old.slots.items) packed }
         ensures stop { result ≡ stop_behind self.old.registers packed }
@@ -65,7 +65,7 @@ impl Cells {
         None
     }
 
-    /// Cells for so many slots and outputs. Its only error is running out of memory.
+    /// Cells for this number of used slots and outputs. The only error is running out of memory.
     pub fn new(alloc: Global, slots: usize, outputs: usize) -> Result<Cells, AllocError>
         ensures slots { IfOk result (λ cells. length cells.slots.items ≡ slots) }
         ensures outputs { IfOk result (λ cells. length cells.outputs.items ≡ outputs) }
@@ -88,7 +88,8 @@ impl Cells {
         clear(&mut self.outputs);
     }
 
-    /// Instructions one after the other from undefined values on, and the stop if one ends the run. It takes no memory.
+    /// Executes instructions in order, from undefined values. Returns the stop if one ends the run.
+    /// Takes no memory.
     pub fn run(
         &mut self,
         packed: &[Packed],

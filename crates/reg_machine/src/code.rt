@@ -1,4 +1,6 @@
-//! Code, as it is kept: 12 bytes an instruction.
+//! Register code as it is stored: 12 bytes for each instruction. Literals are in a pool, and the
+//! used slots are numbered among themselves, so an instruction needs neither a value nor a large
+//! slot number.
 ghost use Rattle.std.specs.Prelude.{◌≡◌, ◌<◌, length, slice_index_or};
 ghost use Rattle.reg_machine.specs.inner.Packed.{unpacked, IsUnder, AreParts};
 
@@ -6,7 +8,8 @@ use crate::instr::Instr;
 use m_fixed::{Op, Value};
 use std::marker::Model;
 
-/// An instruction as code keeps it: a literal is a place in the pool, and a slot its number among those that are used.
+/// A stored instruction: a literal is a place in the pool, and a slot is a place in the list of
+/// used slots.
 #[derive(Clone, Copy)]
 pub enum Packed {
     Take(u8, u32),
@@ -18,7 +21,7 @@ pub enum Packed {
     Output(u32, u8),
 }
 
-/// Code as it is kept: its instructions, the literals' pool, and the slots that are used.
+/// The stored parts of code: the instructions, the pool of literals, and the used slots.
 #[derive(Clone, Copy)]
 pub struct Parts<'a> {
     pub packed: &'a [Packed],
@@ -26,8 +29,9 @@ pub struct Parts<'a> {
     pub used: &'a [u32],
 }
 
-/// Instructions with which nothing is wrong: each number is below its count, each register and slot that is read was
-/// written, and each output is given once. `make_code` makes it. Contracts see its counts and its list of instructions.
+/// Valid code: each number is below its count, each register and slot is written before it is read,
+/// and each output is set once. `make_code` makes it. Contracts see its counts and its list of
+/// instructions.
 #[derive(Drop)]
 pub struct Code {
     pub(crate) inputs: u32,
@@ -54,7 +58,7 @@ impl Model for Code {
         × AreDistinct c.used.items };
 }
 
-/// An instruction, by the pool and the slots that are used.
+/// The instruction, given the pool and the used slots.
 fn unpacked(pool: &[Value], used: &[u32], packed: Packed) -> Instr
     requires { IsUnder (length pool.now) (length used.now) packed }
     ensures { result ≡ unpacked pool.now used.now packed }
@@ -71,7 +75,7 @@ fn unpacked(pool: &[Value], used: &[u32], packed: Packed) -> Instr
 }
 
 impl Code {
-    /// How many instructions there are. Takes no memory.
+    /// The number of instructions. Takes no memory.
     pub fn len(&self) -> usize
         ensures { result ≡ length self.now.instrs }
     {
@@ -86,7 +90,7 @@ impl Code {
         unpacked(&self.pool, &self.used, self.packed[place])
     }
 
-    /// The code as it is kept, for another machine. Takes no memory.
+    /// The stored parts, for another machine. Takes no memory.
     pub fn parts(&self) -> Parts<'_>
         ensures { AreParts self.now result }
     {
@@ -97,28 +101,28 @@ impl Code {
         }
     }
 
-    /// How many inputs there are.
+    /// The number of inputs.
     pub fn inputs(&self) -> u32
         ensures { result ≡ self.now.counts.inputs }
     {
         self.inputs
     }
 
-    /// How many slots there are. Only those that are used take room.
+    /// The number of slots. Only used slots take memory.
     pub fn slots(&self) -> u32
         ensures { result ≡ self.now.counts.slots }
     {
         self.slots
     }
 
-    /// How many labels there are.
+    /// The number of labels.
     pub fn labels(&self) -> u32
         ensures { result ≡ self.now.counts.labels }
     {
         self.labels
     }
 
-    /// How many outputs there are.
+    /// The number of outputs.
     pub fn outputs(&self) -> u32
         ensures { result ≡ self.now.counts.outputs }
     {

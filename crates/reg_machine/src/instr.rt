@@ -1,25 +1,26 @@
 use m_fixed::{Op, Value};
 
-/// How many registers there are. Their numbers are 0 to 15.
+/// The number of registers, which are numbered 0 to 15.
 pub const REGISTERS: u8 = 16;
 
-/// One instruction. The register that is written stands first, and in `Store` the slot.
+/// An instruction. Its first operand is the register, slot or output that it writes. `Check` writes
+/// none.
 #[derive(Clone, Copy, Debug, PartialEq, Eq)]
 pub enum Instr {
-    /// `Take(r, n)`: register r gets input n.
+    /// `Take(r, n)`: sets register r to input n.
     Take(u8, u32),
-    /// `Lit(r, v)`: register r gets v.
+    /// `Lit(r, v)`: sets register r to v.
     Lit(u8, Value),
-    /// `Do(op, r, a, b, c)`: register r gets the operator's value on those of a, b and c. Of these, the ones past
-    /// its arity are a.
+    /// `Do(op, r, a, b, c)`: sets register r to the operator applied to registers a, b and c.
+    /// Arguments past its arity must be a.
     Do(Op, u8, u8, u8, u8),
-    /// `Store(k, r)`: slot k gets what register r has.
+    /// `Store(k, r)`: sets slot k to register r.
     Store(u32, u8),
-    /// `Load(r, k)`: register r gets what slot k has.
+    /// `Load(r, k)`: sets register r to slot k.
     Load(u8, u32),
-    /// `Check(g, c, over_only, label)`: where register g has the number 1, and register c is over or, unless it
-    /// looks for that only, a number other than 0, the run stops.
+    /// `Check(g, c, over_only, label)`: stops the run if register g is the number 1, and register c
+    /// is `Over` or, unless `over_only`, a number other than 0.
     Check(u8, u8, bool, u32),
-    /// `Output(k, r)`: output k is what register r has.
+    /// `Output(k, r)`: sets output k to register r.
     Output(u32, u8),
 }

@@ -6,7 +6,7 @@ ghost use Rattle.flat_code.specs.Runs.{flat_run};
 ghost use Rattle.reg_machine.specs.Flow.{Listing, flow_of};
 ghost use Rattle.reg_machine.specs.Machine.{machine_run};
 
-/// Code does what the flat program that it spells does, for all inputs.
+/// Code has the same answer as the flat program that it denotes, for all inputs.
 pub fn code_runs_its_program()
     ensures { (code : Listing) (flat : Flat) (inputs : List Value) → flow_of code ≡ Some flat → machine_run code inputs ≡ flat_run flat inputs }
 {}

@@ -1,6 +1,11 @@
-//! Register code: instructions on sixteen registers and slots, which spell a flat program, and the machine that runs them.
+//! Register code, and the machine that runs it: instructions on sixteen registers and on spill
+//! slots, which denote a flat program.
 //!
-//! This crate knows nothing of rules, files or printed lines, nor how code is made of a program.
+//! Uses `flat_code` for programs. Knows nothing of rules, files or printed lines, nor how code is
+//! made from a program.
+//!
+//! One definition (`specs/Flow.antt`) gives both the errors of code and the flat program that it
+//! denotes.
 #![tactic(auto)]
 
 mod builder;

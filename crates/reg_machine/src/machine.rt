@@ -10,8 +10,8 @@ use observables::Stop;
 use std::alloc::{AllocError, Global};
 use std::marker::Model;
 
-/// A machine for code that is lent, with room for the slots that it uses and for its outputs. Contracts see the code and the
-/// outputs of the last run.
+/// A machine for borrowed code, with memory for the slots that it uses and for its outputs.
+/// Contracts see the code and the outputs of the last run.
 #[derive(Drop)]
 pub struct Machine<'a> {
     inputs: u32,
@@ -42,8 +42,8 @@ impl<'a> Model for Machine<'a> {
 }
 
 impl<'a> Machine<'a> {
-    /// A machine for this code. It takes room for the slots that are stored to, not for the count of slots. Its only error is
-    /// running out of memory.
+    /// A machine for this code. Takes memory for the slots that are stored to, not for the number
+    /// of slots. The only error is running out of memory.
     pub fn new(alloc: Global, code: &'a Code) -> Result<Machine<'a>, AllocError>
         ensures { IfOk result (λ machine. machine.code ≡ code.now) }
     {
@@ -60,8 +60,9 @@ impl<'a> Machine<'a> {
         })
     }
 
-    /// Runs the code for these inputs, and gives the stop where a check ends the run. It takes no memory, and one step for
-    /// each instruction, slot and output.
+    /// Runs the code for these inputs, and returns the stop if a check ends the run. Every run
+    /// starts from undefined values. Takes no memory, and one step for each instruction, slot and
+    /// output.
     pub fn run(&mut self, inputs: &[Value]) -> Option<Stop>
         requires { length inputs.now ≡ self.old.code.counts.inputs }
         ensures answer { answer_of result self.new.outputs ≡ machine_run self.old.code inputs.now }
@@ -71,7 +72,7 @@ impl<'a> Machine<'a> {
         self.cells.run(self.packed, self.pool, self.used, inputs)
     }
 
-    /// The output with this number of the last run, where it wasn't stopped.
+    /// The output with this number of the last run, which must not have stopped.
     pub fn output(&self, k: u32) -> Value
         requires { k < self.now.code.counts.outputs }
         ensures { result ≡ slice_index_or self.now.outputs k Undef }

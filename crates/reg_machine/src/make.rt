@@ -1,4 +1,4 @@
-//! Code of a list of instructions.
+//! Makes code from a list of instructions.
 ghost use Rattle.std.specs.Prelude.{◌≡◌, ◌<◌, length, Some, None};
 ghost use Rattle.m_places.specs.Refusals.{Outcome};
 ghost use Rattle.reg_machine.specs.Flow.{code_fault, code_of, placed};
@@ -9,7 +9,7 @@ use crate::instr::Instr;
 use crate::wrong::{CodeWrong, Wrong};
 use std::alloc::Global;
 
-// A fault with its place.
+// An error with its place.
 fn placed(place: u32, wrong: Wrong) -> CodeWrong
     ensures { result ≡ placed place wrong }
 {
@@ -19,10 +19,10 @@ fn placed(place: u32, wrong: Wrong) -> CodeWrong
     }
 }
 
-/// Code of these instructions, where there are so many inputs, slots, labels and outputs, or what is wrong with it. It takes
-/// room for what the instructions use, and none for a count. `make_code(alloc, 1, 0, 0, 1, instrs)` of `Take(0, 0)` and
-/// `Output(0, 0)` is the code that answers its input; without the first it is `BadOrder(0)`, and without the second
-/// `NoOutput`.
+/// The code of these instructions, with these counts, or the error of the first wrong one. Takes
+/// memory for what the instructions use, not for the counts. `make_code(alloc, 1, 0, 0, 1, instrs)`
+/// of `Take(0, 0)` and `Output(0, 0)` is the code whose output is its input; without the first
+/// instruction the error is `BadOrder(0)`, without the second `NoOutput`.
 pub fn make_code(
     alloc: Global,
     inputs: u32,

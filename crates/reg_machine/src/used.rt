@@ -6,8 +6,8 @@ use std::alloc::{AllocError, Global};
 use std::collections::BTreeMap;
 use std::marker::Model;
 
-/// The slots that are used, each with a number of its own: its place among them. So room for slots goes with their uses,
-/// and not with the greatest number. Contracts see them as the list of the slots.
+/// The used slots, each numbered by its place in the list. So memory for slots grows with their
+/// number, not with the greatest slot number. Contracts see them as the list of the slots.
 #[derive(Drop)]
 pub struct UsedSlots {
     numbers: BTreeMap<u32, u32>,
@@ -35,7 +35,7 @@ impl UsedSlots {
         }
     }
 
-    /// The number of a slot, if it is used.
+    /// The place of a slot, if it is used.
     pub fn find(&self, slot: u32) -> Option<u32>
         ensures found { IfSome result (λ d. (d < length self.now) × (slice_index self.now d ≡ slot)) }
         ensures absent { IfNone result (IsAmong slot self.now → ⊥) }
@@ -43,7 +43,8 @@ impl UsedSlots {
         self.numbers.get(&slot).copied()
     }
 
-    /// The number of a slot, which is used from then on. Its only error is running out of memory, and then all is as it was.
+    /// The place of a slot, which is appended if it wasn't used. The only error is running out of
+    /// memory, and then nothing changes.
     pub fn number(&mut self, slot: u32) -> Result<u32, AllocError>
         requires few { length self.old < 4294967295 }
         ensures place { IfOk result (λ d. (d < length self.new) × (slice_index self.new d ≡ slot)) }
@@ -56,7 +57,7 @@ impl UsedSlots {
         }
     }
 
-    // Puts a slot after the others.
+    // Appends a slot.
     fn add(&mut self, slot: u32) -> Result<u32, AllocError>
         requires few { length self.old < 4294967295 }
         requires away { IsAmong slot self.old → ⊥ }

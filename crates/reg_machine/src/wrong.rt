@@ -1,30 +1,31 @@
-//! What is wrong with instructions.
+//! Errors of code.
 ghost use Rattle.std.specs.Prelude.{◌≡◌};
 ghost use Rattle.reg_machine.specs.declared.wrong.CodeWrong.TheVariants.{Memory};
 
 use std::alloc::{AllocError, AllocFailed};
 
-/// What is wrong with an instruction after others.
+/// The error of an instruction appended to valid code.
 #[derive(Clone, Copy, Debug, PartialEq, Eq)]
 pub enum Wrong {
-    /// It has a number that can't stand there.
+    /// A number of the instruction is invalid.
     Number,
-    /// Its numbers can stand there, and it reads a register or a slot that no earlier one wrote.
+    /// The numbers are valid, but the instruction reads a register or a slot that wasn't written.
     Order,
 }
 
-/// Why instructions are no code. Places are counted from 0.
+/// Why a list of instructions isn't code. Places are counted from 0.
 #[derive(Clone, Copy, Debug, PartialEq, Eq)]
 pub enum CodeWrong {
-    /// The instruction at this place has a register above 15, or an input, slot, label or output that isn't below
-    /// its count, or an argument past the operator's arity that isn't the first, or gives an output again.
+    /// The instruction at this place has a register above 15; an input, slot, label or output that
+    /// isn't below its count; an argument past the operator's arity that isn't the first; or an
+    /// output that was set before.
     BadNumber(u32),
-    /// The instruction at this place reads a register or a slot that no earlier one wrote. The earlier of both
-    /// faults decides, and at one instruction its numbers.
+    /// The instruction at this place reads a register or a slot that no earlier one wrote. The
+    /// first wrong instruction is reported, and at one instruction `BadNumber` takes precedence.
     BadOrder(u32),
-    /// No instruction is wrong, and an output is never given.
+    /// All instructions are valid, but an output is never set.
     NoOutput,
-    /// There was no memory.
+    /// Out of memory.
     Memory,
 }
 

@@ -71,7 +71,7 @@ get-default [] k c d lt = absurd (omega arith)
 get-default (x ∷ xs) zero c d lt = refl
 get-default (x ∷ xs) (suc k) c d lt = get-default xs k c d (omega arith)
 
--- a program in the tidy form is what the allocator needs
+-- a program in the tidy form satisfies the allocator's requirements
 pub valid-from : (flat : Flat) (labels : ℕ) → IsFlat flat → IsTidy flat → IsSmall flat labels → IsValid flat
 valid-from flat labels valid tidy small = record {
   nodes = λ p x node lt e. reads-below flat.inputs p x (get_or flat.nodes p node) (node-at flat.inputs flat.nodes p node lt valid.nodes) e;
@@ -98,7 +98,7 @@ given-none (x ∷ outputs) =
     ap (λ (b : Bool). (if b then Some x else None) ∷ replicate (length outputs) None) (sym (le-ltb x 0 (omega arith)))
     ∙ ap (λ os. (if ltb x 0 then Some x else None) ∷ os) (given-none outputs)
 
--- nothing is made, and nothing stands anywhere
+-- no node is made, and the tables are empty
 pub sound-start : (flat : Flat) (labels : ℕ) (counts : Counts) → IsValid flat → IsSmall flat labels
     → counts ≡ record { inputs = flat.inputs; slots = 4294967295; labels = labels; outputs = length flat.outputs }
     → Sound flat 0 0 0 (given_before 0 flat.outputs) (record { counts = counts; instrs = [] }) (look (replicate REGISTERS None)) (look []) 0
@@ -192,7 +192,7 @@ checks-done flat checked valid within settled =
 
 -- ---- the end
 
--- What the code so far spells once all nodes are made, with the slots that there are.
+-- What the code so far denotes once all nodes are made, with the slots that exist.
 pub record Whole (flat : Flat) (code : Listing) : Type 0 where
   pub state : State
   pub read : reading code ≡ Some state
@@ -220,7 +220,7 @@ whole-from {flat} {made} {read} {checked} {code} {r} {s} {n} valid h all settled
           ∙ (λ i. Some (record { inputs = inputs i; nodes = nodes i; checks = checks i; outputs = flat.outputs }));
     }
 
--- nothing is wrong with the code once all nodes are made
+-- the code is valid once all nodes are made
 pub sealed-from : {flat : Flat} {made read checked : ℕ} {code : Listing} {r s : ℕ → Option ℕ} {n : ℕ} → IsValid flat
     → Sound flat made read checked (given_before made flat.outputs) code r s n → length flat.nodes ≤ made
     → (checked < length flat.checks → made ≤ moment_from 0 flat.checks checked) → code_fault (with_slots code n) ≡ None

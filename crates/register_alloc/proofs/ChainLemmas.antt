@@ -1,4 +1,4 @@
--- The outputs of a node, one after the other.
+-- The outputs of each node as linked lists.
 use Rattle.std.proofs.Common.{◌≡◌, ◌≢◌, ℕ, zero, suc, ◌+◌, ◌-◌, ◌<◌, ◌≤◌, List, length, get_or, Option, ap, ◌∙◌, subst, arith}
 use Rattle.flat_code.specs.declared.program.Flat.{Flat}
 use Rattle.reg_machine.specs.Flow.{Listing}
@@ -6,7 +6,7 @@ use Rattle.register_alloc.specs.inner.Sound.{Sound, given_part}
 use Rattle.register_alloc.specs.inner.OutputChain.{IsNext}
 use Rattle.register_alloc.proofs.OutputLemmas.{part-other}
 
--- outputs of other nodes are passed over
+-- outputs of other nodes are skipped
 part-skip : (p d k j : ℕ) (outputs : List ℕ) → k + d ≡ j → j ≤ length outputs → ((i : ℕ) → k ≤ i → i < j → get_or outputs i 0 ≢ p)
     → given_part p k outputs ≡ given_part p j outputs
 part-skip p zero k j outputs e le others = ap (λ m. given_part p m outputs) (let z : k ≡ j = omega arith in z)

@@ -48,7 +48,7 @@ without-one p y (suc n) passes lt =
 abbrev pub Fills : (ℕ → Option ℕ) → (ℕ → Bool) → ℕ → ℕ → Type 0
 Fills f p m n = (k : ℕ) → k < m → (x : ℕ) × (f k ≡ Some x) × (p x ≡ true) × (x < n)
 
--- no number stands twice in a table
+-- no number occurs twice in a table
 abbrev pub AreApart : (ℕ → Option ℕ) → Type 0
 AreApart f = (i j x : ℕ) → f i ≡ Some x → f j ≡ Some x → i ≡ j
 

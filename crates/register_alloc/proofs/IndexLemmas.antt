@@ -28,13 +28,13 @@ put-none f k j y e =
     let ne : j ≢ k = λ is. none≢some y (sym (put-same f k None) ∙ subst (λ i. put f k None i ≡ Some y) is e) in
     (ne, sym (put-other f k None j ne) ∙ e)
 
--- what an entry that was put says, where it was free
+-- the entries after an entry is set that was free
 put-free : (f : ℕ → Option ℕ) (k x j : ℕ) → put f k (Some x) j ≡ None → (j ≢ k) × (f j ≡ None)
 put-free f k x j e =
     let ne : j ≢ k = λ is. none≢some x (sym (subst (λ i. put f k (Some x) i ≡ None) is e) ∙ put-same f k (Some x)) in
     (ne, sym (put-other f k (Some x) j ne) ∙ e)
 
--- a node that is nowhere gets a slot without an owner
+-- a node that is in no slot gets a slot without an owner
 placed-put : (owners places : ℕ → Option ℕ) (k x : ℕ) → ((j y : ℕ) → owners j ≡ Some y → places y ≡ Some j) → ((j : ℕ) → owners j ≡ Some x → ⊥) → (j y : ℕ)
     → put owners k (Some x) j ≡ Some y → put places x (Some k) y ≡ Some j
 placed-put owners places k x placed away j y e =
@@ -144,7 +144,7 @@ indexed-cleared owners places free k x h at =
     (subst (λ f. IsIndexed (put (look owners) k None) f (length owners) (free ++ k ∷ [])) (look-set places x None lt')
     (indexed-clear k x h at lt)))
 
--- what a cleared list says
+-- the entries of a cleared list
 pub cleared-only : (owners : List (Option ℕ)) (k x : ℕ) → ((i j y : ℕ) → look owners i ≡ Some y → look owners j ≡ Some y → i ≡ j) → look owners k ≡ Some x
     → (j y : ℕ) → look (set owners k None) j ≡ Some y → (look owners j ≡ Some y) × (y ≢ x)
 cleared-only owners k x apart at j y e =
@@ -155,7 +155,7 @@ pub indexed-apart : (owners places : ℕ → Option ℕ) (n : ℕ) (free : List 
     → owners j ≡ Some y → i ≡ j
 indexed-apart owners places n free h i j y a b = same-number i j (sym (h.placed i y a) ∙ h.placed j y b)
 
--- `indexed-reuse` and `indexed-new` of lists, where the table of places was made longer
+-- `indexed-reuse` and `indexed-new` of lists, if the index was extended
 pub indexed-reused : (owners places places' : List (Option ℕ)) (free : List ℕ) (k x : ℕ)
     → IsIndexed (look owners) (look places) (length owners) (free ++ k ∷ []) → ((j : ℕ) → look places' j ≡ look places j) → x < length places'
     → ((j : ℕ) → look owners j ≡ Some x → ⊥) → IsIndexed (look (set owners k (Some x))) (look (set places' x (Some k))) (length (set owners k (Some x))) free
@@ -179,7 +179,7 @@ indexed-grown owners places places' x h same lt away =
     (subst (λ f. IsIndexed (put (look owners) n (Some x)) f (suc n) []) (look-set places' x (Some n) lt)
     (indexed-new x h' (get_or_past owners n None (omega arith)) away)))
 
--- all slots have owners where none is free
+-- if no slot is free, all slots have owners
 pub none-free : (owners places : ℕ → Option ℕ) (n : ℕ) → IsIndexed owners places n [] → (k : ℕ) → k < n → is_some (owners k) ≡ true
 none-free owners places n h k lt = cases (owners k) (h.listed k lt)
   where

@@ -1,4 +1,4 @@
--- Where each node is read for the last time.
+-- The last read of each node.
 use Rattle.std.proofs.Common.{◌≡◌, ℕ, zero, suc, ◌+◌, ◌<◌, ◌≤◌, Bool, true, false, eqb, ltb, ◌⊎◌, List, [], ◌∷◌, ◌++◌, length, get_or, take, drop, refl, ap}
 use Rattle.std.proofs.Common.{sym, ◌∙◌, subst, inl, inr, arith}
 use mathlib.Core.Bool.{◌&&◌, ◌||◌}
@@ -42,7 +42,7 @@ any-append f (x ∷ xs) y = ap (λ b. f x || b) (any-append f xs y) ∙ or-assoc
     or-assoc true b c = refl
     or-assoc false b c = refl
 
--- one more item is noted
+-- one more item is recorded
 last-push : {X : Type 0} (read : ℕ → X → Bool) (items : List X) (item : X) (n : ℕ) (last last' : List ℕ) (place : ℕ) → place ≡ suc (length items)
     → IsLast read items n last → length last' ≡ length last → ((x : ℕ) → x < length last → get_or last' x 0 ≡ (if read x item then place else get_or last x 0))
     → IsLast read (items ++ item ∷ []) n last'
@@ -97,7 +97,7 @@ last-more read items i item n last last' lt is h same noted =
     ∙ ap (λ m. take m items) (sym e) in
     subst (λ xs. IsLast read xs n last') whole (last-push read (take i items) item n last last' (i + 1) at h same noted)
 
--- the same with another default
+-- the same, for another default
 pub last-more-at : {X : Type 0} (read : ℕ → X → Bool) (items : List X) (i : ℕ) (d item : X) (n : ℕ) (last last' : List ℕ) → i < length items
     → item ≡ get_or items i d → IsLast read (take i items) n last → length last' ≡ length last
     → ((x : ℕ) → x < length last → get_or last' x 0 ≡ (if read x item then i + 1 else get_or last x 0)) → IsLast read (take (i + 1) items) n last'

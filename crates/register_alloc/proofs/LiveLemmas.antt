@@ -1,4 +1,4 @@
--- Which nodes are live from one moment to the next.
+-- Live nodes, from one moment to the next.
 use Rattle.std.proofs.Common.{◌≡◌, ◌≢◌, ℕ, zero, suc, ◌-◌, ◌<◌, ◌≤◌, Bool, true, eqb, ltb, leb, max, ◌⊎◌, List, [], ◌∷◌, length, drop, get_or, ap, sym, ◌∙◌}
 use Rattle.std.proofs.Common.{subst, inl, inr, ⊎_elim, arith, drop-cons}
 use mathlib.Core.Bool.{◌&&◌, ◌||◌}
@@ -11,7 +11,7 @@ use Rattle.register_alloc.specs.Width.{reads, check_reads, later, moment_from, r
 use Rattle.register_alloc.specs.inner.Tables.{is_live}
 use Rattle.register_alloc.specs.inner.Sound.{Order}
 
--- whether something is read from place p on: there, or after it
+-- whether an item from place p on reads x
 any-drop : {X : Type 0} (f : X → Bool) (xs : List X) (p : ℕ) (d : X) → p < length xs
     → list_any f (drop p xs) ≡ (f (get_or xs p d) || list_any f (drop (suc p) xs))
 any-drop f xs p d lt = ap (list_any f) (drop-cons xs p d lt)
@@ -47,7 +47,7 @@ live-guard flat made read checked x check lt within e =
     live-by_check flat made read checked x lt (any-drop (check_reads x) flat.checks checked check within
     ∙ or_left (check_reads x (get_or flat.checks checked check)) (list_any (check_reads x) (drop (suc checked) flat.checks)) e)
 
--- what is live once a node has read its arguments was live before
+-- a node that is live after a node has read its arguments was live before
 pub live-read : (flat : Flat) (made read checked x : ℕ) (node : Node) → read < length flat.nodes → is_live flat made (suc read) checked x ≡ true
     → is_live flat made read checked x ≡ true
 live-read flat made read checked x node within live =
@@ -58,7 +58,7 @@ live-read flat made read checked x node within live =
     (λ e. live-by_check flat made read checked x h.0 e)
     h.1
 
--- what isn't live any more is what the node read
+-- a node that is no longer live was read by that node
 pub dies-read : (flat : Flat) (made read checked x : ℕ) (node : Node) → read < length flat.nodes → is_live flat made read checked x ≡ true
     → (reads x (get_or flat.nodes read node) ≡ true) ⊎ (is_live flat made (suc read) checked x ≡ true)
 dies-read flat made read checked x node within live =
@@ -72,7 +72,7 @@ dies-read flat made read checked x node within live =
     (λ e. inr (live-by_check flat made (suc read) checked x h.0 e))
     h.1
 
--- the same of a check
+-- the same for a check
 pub live-checked : (flat : Flat) (made read checked x : ℕ) (check : Check) → checked < length flat.checks → is_live flat made read (suc checked) x ≡ true
     → is_live flat made read checked x ≡ true
 live-checked flat made read checked x check within live =
@@ -96,7 +96,7 @@ dies-checked flat made read checked x check within live =
     (sym (any-drop (check_reads x) flat.checks checked check within) ∙ e)))
     h.1
 
--- one more node is made: it may be live, and of the others those that were
+-- one more node is made: it may be live, and the other live nodes are those before
 pub live-made : (flat : Flat) (made read checked x : ℕ) → is_live flat (suc made) read checked x ≡ true → (x ≡ made) ⊎ (is_live flat made read checked x ≡ true)
 live-made flat made read checked x live =
     let h = live-parts flat (suc made) read checked x live in
@@ -112,7 +112,7 @@ live-still flat made read checked x live =
     let lt : x < suc made = omega arith in
     ⊎_elim (λ e. live-by_node flat (suc made) read checked x lt e) (λ e. live-by_check flat (suc made) read checked x lt e) h.1
 
--- moments never fall
+-- moments never decrease
 moment-least : (m : ℕ) (checks : List Check) (j : ℕ) → m ≤ moment_from m checks j
 moment-least m [] j = omega arith
 moment-least m (check ∷ checks) zero = omega arith
@@ -123,7 +123,7 @@ moment-rises m [] j = omega arith
 moment-rises m (check ∷ checks) zero = moment-least (later m check) checks zero
 moment-rises m (check ∷ checks) (suc j) = moment-rises (later m check) checks j
 
--- the moment of a check is at least what it reads
+-- the moment of a check is at least the nodes that it reads
 pub moment-reads : (m : ℕ) (checks : List Check) (j : ℕ) (check : Check) → j < length checks
     → max (get_or checks j check).guard (get_or checks j check).condition ≤ moment_from m checks j
 moment-reads m [] j check lt = absurd (omega arith)
@@ -140,7 +140,7 @@ late-all p x m (check ∷ checks) le e =
     (λ there. or_right (leb p (later m check) && check_reads x check) (read_late p x (later m check) checks) (late-all p x (later m check) checks le' there))
     (or_cases (check_reads x check) (list_any (check_reads x) checks) e)
 
--- what is read by a check from j on is read late, if the moment of check j is late
+-- a node that a check from j on reads is read late if the moment of check j is late
 late-drop : (p x m : ℕ) (checks : List Check) (j : ℕ) → (j < length checks → p ≤ moment_from m checks j) → list_any (check_reads x) (drop j checks) ≡ true
     → read_late p x m checks ≡ true
 late-drop p x m [] zero late e = e
@@ -168,7 +168,7 @@ held-from flat q x le h =
     (λ e. or_right (list_any (reads x) (drop (suc q) flat.nodes)) (read_late q x 0 flat.checks) e) h)))
     (cases_eq x q)
 
--- What is live is held at the last node that has read its arguments.
+-- A live node is held at the last node that has read its arguments.
 pub live-held : (flat : Flat) (made read checked x : ℕ) → Order flat made read checked → is_live flat made read checked x ≡ true
     → is_held flat (read - 1) x ≡ true
 live-held flat made zero checked x order live =

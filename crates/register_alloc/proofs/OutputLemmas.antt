@@ -34,7 +34,7 @@ use Rattle.register_alloc.specs.inner.Sound.{Once, Few, Sound, Counted, Spells, 
 use Rattle.register_alloc.specs.inner.Sound.{given_part, count_some, count_given}
 use Rattle.register_alloc.proofs.TableLemmas.{none≢some, put-same, put-other, put-cases, in-other, look-set, tables-store, tables-write, tables-pass}
 
--- the outputs at place k of those that were looked at
+-- the output at place k, among those compared so far
 pub part-at : (p k : ℕ) (outputs : List ℕ) → k < length outputs → given_part p k outputs ≡ given_before (suc p) (take k outputs)
     ++ (given_before p (get_or outputs k 0 ∷ []) ++ given_before p (drop (suc k) outputs))
 part-at p k outputs lt = ap (λ xs. given_before (suc p) (take k outputs) ++ given_before p xs) (drop-cons outputs k 0 lt)
@@ -71,7 +71,7 @@ part-this p k outputs lt is =
     ∙ ap (λ (b : Bool). given_before (suc p) (take k outputs) ++ (((if b then Some y else None) ∷ []) ++ given_before p (drop (suc k) outputs))) (sym here)
     ∙ sym (part-next p k outputs lt)
 
--- it wasn't given before
+-- it wasn't set before
 pub part-free : (p k : ℕ) (outputs : List ℕ) → k < length outputs → get_or outputs k 0 ≡ p → get_or (given_part p k outputs) k None ≡ None
 part-free p k outputs lt is =
     let y = get_or outputs k 0 in
@@ -92,7 +92,7 @@ length-part p k outputs =
     length-append (given_before (suc p) (take k outputs)) (given_before p (drop k outputs))
     ∙ (let whole : length (given_before (suc p) (take k outputs)) + length (given_before p (drop k outputs)) ≡ length outputs = omega arith in whole)
 
--- before the first output is looked at, and after the last
+-- before the first output is compared, and after the last
 pub part-none : (p : ℕ) (outputs : List ℕ) → given_before p outputs ≡ given_part p 0 outputs
 part-none p outputs = refl
 
@@ -102,7 +102,7 @@ part-all p k outputs le =
     ∙ ap (λ xs. given_before (suc p) outputs ++ given_before p xs) (drop_all k outputs le)
     ∙ append-nil (given_before (suc p) outputs)
 
--- one more output is given
+-- one more output is set
 pub count-set : (xs : List (Option ℕ)) (j x : ℕ) → j < length xs → get_or xs j None ≡ None → count_some (set xs j (Some x)) ≡ suc (count_some xs)
 count-set [] j x lt free = absurd (omega arith)
 count-set (None ∷ xs) zero x lt free = refl
@@ -117,7 +117,7 @@ count-gave p j j' outputs e lt is =
     ∙ ap (count_some) (sym (part-this p j outputs lt is))
     ∙ count-set (given_part p j outputs) j p (omega (arith, length-part p j outputs)) (part-free p j outputs lt is)
 
--- no more outputs are given than there are
+-- at most all outputs are set
 pub count-least : (xs : List (Option ℕ)) → count_some xs ≤ length xs
 count-least [] = omega arith
 count-least (None ∷ xs) = omega (arith, count-least xs)

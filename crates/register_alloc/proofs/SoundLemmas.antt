@@ -41,7 +41,7 @@ use Rattle.register_alloc.proofs.StepLemmas.{next-node, next-test, next-give, pu
 use Rattle.register_alloc.proofs.OutputLemmas.{part-at, part-next, part-other, part-this, part-free, length-part, part-none, part-all, count-set, count-gave}
 use Rattle.register_alloc.proofs.OutputLemmas.{count-least, given-least, part-least}
 
--- any number of slots that the allocator comes to may stand in the code
+-- the code has room for every number of slots that the allocator reaches
 pub slots-fit : {flat : Flat} {made read checked : ℕ} {given : List (Option ℕ)} {code : Listing} {r s : ℕ → Option ℕ} {n : ℕ}
     → Sound flat made read checked given code r s n → (m : ℕ) → m ≤ width_of flat → m ≤ code.counts.slots
 slots-fit {flat} {made} {read} {checked} {given} {code} {r} {s} {n} h m le =
@@ -50,7 +50,7 @@ slots-fit {flat} {made} {read} {checked} {given} {code} {r} {s} {n} h m le =
     let slots : code.counts.slots ≡ 4294967295 = h.spelled.counted.slots in
     omega arith
 
--- all slots stand for live nodes, and one more node is live: they are fewer than the width
+-- if all slots hold live nodes, and one more node is live, the slots are fewer than the width
 pub slots-below : {flat : Flat} {made read checked : ℕ} {given : List (Option ℕ)} {code : Listing} {r s : ℕ → Option ℕ} {n : ℕ}
     → Sound flat made read checked given code r s n → (x : ℕ) → is_live flat made read checked x ≡ true → (In s x → ⊥)
     → ((k : ℕ) → k < n → is_some (s k) ≡ true) → n < width_of flat
@@ -77,7 +77,8 @@ busy-from : (live : ℕ → Bool) (o : Option ℕ) → is_busy live o ≡ true �
 busy-from live None e = absurd (true≢false (sym e))
 busy-from live (Some x) e = (x, refl, e)
 
--- all registers stand for live nodes, and one more node is held: there are fewer than the width
+-- if all registers hold live nodes, and one more node is held, the registers are fewer than the
+-- width
 pub registers-below : {flat : Flat} {made read checked : ℕ} {given : List (Option ℕ)} {code : Listing} {r s : ℕ → Option ℕ} {n : ℕ}
     → Sound flat made read checked given code r s n → (x : ℕ) → 0 < read → x < length flat.nodes → is_held flat (read - 1) x ≡ true → (In r x → ⊥)
     → ((k : ℕ) → k < REGISTERS → is_busy (is_live flat made read checked) (r k) ≡ true) → REGISTERS < width_of flat
@@ -117,7 +118,7 @@ held-by : {flat : Flat} {made read checked : ℕ} {given : List (Option ℕ)} {c
     → (h : Sound flat made read checked given code r s n) → (i x : ℕ) → r i ≡ Some x → h.spelled.state.registers i ≡ Some x
 held-by h i x at = ap (λ (f : ℕ → Option ℕ). f i) h.spelled.registers ∙ at
 
--- nothing is wrong with an instruction that may stand after the code so far
+-- an instruction that may follow the code so far is valid
 right-next : {flat : Flat} {made read checked : ℕ} {given : List (Option ℕ)} {code : Listing} {r s : ℕ → Option ℕ} {n : ℕ}
     → (h : Sound flat made read checked given code r s n) → (m : ℕ) (i : Instr) (after : State) → n ≤ m → m ≤ width_of flat
     → Next code m h.spelled.state i after → wrong_behind code i ≡ None
@@ -288,7 +289,7 @@ sound-make {flat} {made} {read} {checked} {given} {code} {r} {s} {n} h k node q 
       few = few-push flat code n (instr_of node k q) h.few (spill-node node k q);
     }
 
--- the arguments of a node are read, and slots lose those that are dead
+-- the arguments of a node are read, and the slots of those that are dead are freed
 pub sound-pass : {flat : Flat} {made read checked : ℕ} {given : List (Option ℕ)} {code : Listing} {r s : ℕ → Option ℕ} {n : ℕ}
     → Sound flat made read checked given code r s n → (node : Node) (s' : ℕ → Option ℕ) → read < length flat.nodes → node ≡ node_at flat.nodes read
     → (checked < length flat.checks → read ≤ moment_from 0 flat.checks checked) → Cleared (λ x. reads x node) (is_live flat made (suc read) checked) s s'
@@ -363,7 +364,7 @@ loads-test {flat} {made} {read} {checked} {given} {code} {r} {s} {n} h check g k
     loads-next h n (Test g k check.over_only check.label) _ (omega arith) h.few.within (next-tested h check g k below is lt lt' guard condition) y
     ∙ sym (loads-now h y)
 
--- a check is done, and slots lose what is dead of what it read
+-- a check is done, and the slots of its dead nodes are freed
 pub sound-test : {flat : Flat} {made read checked : ℕ} {given : List (Option ℕ)} {code : Listing} {r s : ℕ → Option ℕ} {n : ℕ}
     → Sound flat made read checked given code r s n → (check : Check) (g k : ℕ) (s' : ℕ → Option ℕ) → checked < length flat.checks
     → check ≡ get_or flat.checks checked check → g < REGISTERS → k < REGISTERS → r g ≡ Some check.guard → r k ≡ Some check.condition
@@ -417,7 +418,7 @@ sound-test {flat} {made} {read} {checked} {given} {code} {r} {s} {n} h check g k
       few = few-push flat code n (Test g k check.over_only check.label) h.few refl;
     }
 
--- an output may be given
+-- an output may be set
 next-given : {flat : Flat} {made read checked : ℕ} {given : List (Option ℕ)} {code : Listing} {r s : ℕ → Option ℕ} {n : ℕ}
     → (h : Sound flat made read checked given code r s n) → (j k x : ℕ) → j < length flat.outputs → k < REGISTERS → get_or given j None ≡ None → r k ≡ Some x
     → Next code n h.spelled.state (Output j k) (record h.spelled.state { outputs = set h.spelled.state.outputs j (Some x) })
@@ -488,7 +489,7 @@ slots-grown old size k free lt grows j below =
     (cases_lt k (length old)))
     grows
 
--- `sound-store` by what `occupy` of the slots says
+-- `sound-store` by the contract of `occupy`
 pub sound-stored : {flat : Flat} {made read checked : ℕ} {given : List (Option ℕ)} {code : Listing} {r : ℕ → Option ℕ} (old new : List (Option ℕ))
     → Sound flat made read checked given code r (look old) (length old) → (k i x : ℕ) → k < length new → look old k ≡ None
     → ((j : ℕ) → look new j ≡ put (look old) k (Some x) j)
@@ -516,7 +517,7 @@ loads-stored {flat} {made} {read} {checked} {given} {code} {r} old size h k i x 
     let fits = slots-more old size h x grows live away in
     loads-next h size (Store k i) _ fits.0 fits.1 (next-store code size k i x h.spelled.state lt below (held-by h i x at)) y ∙ sym (loads-now h y)
 
--- a slot's number is one of 32 bits
+-- a slot's number fits in 32 bits
 pub slot-small : {flat : Flat} {made read checked : ℕ} {given : List (Option ℕ)} {code : Listing} {r : ℕ → Option ℕ} (old : List (Option ℕ)) (size : ℕ)
     → Sound flat made read checked given code r (look old) (length old) → (x : ℕ)
     → (size ≡ length old) ⊎ ((size ≡ suc (length old)) × ((j : ℕ) → j < length old → is_some (look old j) ≡ true)) → is_live flat made read checked x ≡ true
@@ -576,7 +577,7 @@ sound-made-at {flat} {made} {read} {checked} {given} {code} {s} {n} table h made
     subst (λ m. Sound flat m read checked given (with_instr code (instr_of node k q)) (look (set table k (Some made))) s n) e
     (sound-made table h k node q some is lt within has spare)
 
--- where all registers stand for live nodes at the next node, there are fewer than the width
+-- if all registers hold live nodes at the next node, the registers are fewer than the width
 pub turn-crowded : {flat : Flat} {made read checked : ℕ} {given : List (Option ℕ)} {code : Listing} {r s : ℕ → Option ℕ} {n : ℕ}
     → Sound flat made read checked given code r s n → read ≡ suc made → made < length flat.nodes
     → ((k : ℕ) → k < REGISTERS → is_busy (is_live flat made read checked) (r k) ≡ true) → REGISTERS < width_of flat
@@ -607,7 +608,7 @@ settled-from flat made checked check is le lt =
     let condition : check.condition ≡ (get_or flat.checks checked check).condition = ap (λ (c : Check). c.condition) is in
     omega (arith, moment-reads 0 flat.checks checked check lt)
 
--- one of the outputs is given, or isn't of this node
+-- an output is set, or isn't of this node
 pub sound-gave : {flat : Flat} {made read checked : ℕ} {code : Listing} {r s : ℕ → Option ℕ} {n : ℕ} (p j : ℕ)
     → Sound flat made read checked (given_part p j flat.outputs) code r s n → (j' k : ℕ) → suc j ≡ j' → j < length flat.outputs → k < REGISTERS → r k ≡ Some p
     → get_or flat.outputs j 0 ≡ p → Sound flat made read checked (given_part p j' flat.outputs) (with_instr code (Output j k)) r s n
@@ -626,7 +627,7 @@ pub loads-gave : {flat : Flat} {made read checked : ℕ} {code : Listing} {r s :
     → get_or flat.outputs j 0 ≡ p → (y : ℕ) → loads_of y (with_instr code (Output j k)) ≡ loads_of y code
 loads-gave {flat} p j h k lt lt' at is y = loads-give h j k p lt lt' (part-free p j flat.outputs lt is) at y
 
--- slots are fewer than numbers of 32 bits
+-- the number of slots fits in 32 bits
 pub slots-small : {flat : Flat} {made read checked : ℕ} {given : List (Option ℕ)} {code : Listing} {r s : ℕ → Option ℕ} {n : ℕ}
     → Sound flat made read checked given code r s n → n ≤ 200000000
 slots-small {flat} {made} {read} {checked} {given} {code} {r} {s} {n} h =

@@ -1,4 +1,4 @@
--- Instructions that may stand after code, and what is known after them.
+-- Instructions that may follow code, and the state after them.
 use Rattle.std.proofs.Common.{◌≡◌, ◌≢◌, ℕ, zero, suc, ◌+◌, ◌-◌, ◌*◌, ◌<◌, ◌≤◌, Bool, true, false, cond, eqb, ltb, max, ◌⊎◌, List, [], ◌∷◌, ◌++◌, length, get_or}
 use Rattle.std.proofs.Common.{set, take, drop, map, Option, None, Some, is_some, refl, ap, sym, ◌∙◌, subst, inl, inr, ⊎_elim, arith}
 use mathlib.Core.Bool.{◌&&◌}
@@ -35,20 +35,20 @@ use Rattle.register_alloc.specs.inner.Sound.{Once, Few, Sound, Counted, Spells, 
 use Rattle.register_alloc.specs.inner.Sound.{given_part, count_some, count_given}
 use Rattle.register_alloc.proofs.TableLemmas.{none≢some, put-same, put-other, put-cases, in-other, look-set, tables-store, tables-write, tables-pass}
 
--- An instruction that may stand after code of which `before` is known, where it has `count` slots or more; `after` is known
--- after it.
+-- An instruction that may follow code with `count` slots or more; `before` and `after` are the
+-- states around it.
 pub record Next (code : Listing) (count : ℕ) (before : State) (i : Instr) (after : State) : Type 0 where
   pub has : (n : ℕ) → count ≤ n → has_numbers (with_slots code n).counts before i ≡ true
   pub moves : moved i before ≡ Some after
 
--- one more instruction is read
+-- the state after one more instruction
 pub reading-push : (code : Listing) (i : Instr) (count more : ℕ) (s t : State) → ((n : ℕ) → count ≤ n → reading (with_slots code n) ≡ Some s) → count ≤ more
     → Next code more s i t → (n : ℕ) → more ≤ n → reading (with_slots (with_instr code i) n) ≡ Some t
 reading-push code i count more s t read le next n le' =
     let all : count ≤ n = omega arith in
     reads-on (with_slots code n) i s t (read n all) (next.has n le') next.moves
 
--- nothing is wrong with it
+-- the instruction is valid
 pub right-push : (code : Listing) (i : Instr) (count more : ℕ) (s t : State) → ((n : ℕ) → count ≤ n → reading (with_slots code n) ≡ Some s) → count ≤ more
     → more ≤ code.counts.slots → Next code more s i t → wrong_behind code i ≡ None
 right-push code i count more s t read le fits next =
@@ -57,7 +57,7 @@ right-push code i count more s t read le fits next =
     ∙ ap (λ b. if b then (if is_none (moved i s) then Some OrderWrong else None) else Some NumberWrong) (next.has code.counts.slots fits)
     ∙ ap (λ o. if is_none o then Some OrderWrong else None) next.moves
 
--- how often nodes are loaded, by what is known
+-- how often nodes are loaded, by the state
 pub loads-read : (code : Listing) (count : ℕ) (s : State) → ((n : ℕ) → count ≤ n → reading (with_slots code n) ≡ Some s) → count ≤ code.counts.slots → (y : ℕ)
     → loads_of y code ≡ s.loaded y
 loads-read code count s read fits y = ap (λ (o : Option State). option_map_or (λ (s : State). s.loaded y) o 0) (read code.counts.slots fits)
@@ -70,7 +70,7 @@ spills-push code i e =
 pub few-push : (flat : Flat) (code : Listing) (n : ℕ) (i : Instr) → Few flat code n → is_spill i ≡ false → Few flat (with_instr code i) n
 few-push flat code n i few e = record { within = few.within; direct = λ h. ((few.direct h).0, spills-push code i e ∙ (few.direct h).1) }
 
--- a slot that is stored to stays so
+-- a slot that is stored to remains stored to
 pub used-push : (code : Listing) (i : Instr) (k : ℕ) → IsStoredTo k code → IsStoredTo k (with_instr code i)
 used-push code i k e = list_any-append (stores_to k) code.instrs (i ∷ []) ∙ or_left (list_any (stores_to k) code.instrs) _ e
 

@@ -40,7 +40,7 @@ look-set table k entry lt =
 pub none≢some : (x : ℕ) → None ≡ Some x → ⊥
 none≢some x e = cc
 
--- an entry stands within its table
+-- an entry is within its table
 pub look-within : (table : List (Option ℕ)) (k x : ℕ) → look table k ≡ Some x → k < length table
 look-within [] k x e = absurd (none≢some x e)
 look-within (entry ∷ table) zero x e = omega arith
@@ -66,7 +66,7 @@ tables-store live made r s k x t free lives away = record {
   placed = λ y l. ⊎_elim (λ p. inl p) (λ p. inr (in-other s k x y free p)) (t.placed y l);
 }
 
--- a node that stands in no register is written into one whose node is dead or stored
+-- a node that is in no register is written into one whose node is dead or stored
 pub tables-write : (live live' : ℕ → Bool) (made made' : ℕ) (r s : ℕ → Option ℕ) (k x : ℕ) → Tables live made r s → made ≤ made' → x < made' → (In r x → ⊥)
     → ((y : ℕ) → r k ≡ Some y → live y ≡ true → In s y) → ((y : ℕ) → live y ≡ true → live' y ≡ true) → ((y : ℕ) → live' y ≡ true → (y ≡ x) ⊎ (live y ≡ true))
     → Tables live' made' (put r k (Some x)) s
@@ -91,7 +91,7 @@ tables-write live live' made made' r s k x t le lt away spare still now = record
       (now y l);
 }
 
--- some nodes die, and slots lose dead nodes alone
+-- some nodes die, and only slots of dead nodes are freed
 pub tables-pass : (live live' : ℕ → Bool) (made : ℕ) (r s s' : ℕ → Option ℕ) → Tables live made r s → ((y : ℕ) → live' y ≡ true → live y ≡ true)
     → ((k y : ℕ) → s' k ≡ Some y → (s k ≡ Some y) × (live' y ≡ true)) → ((k y : ℕ) → s k ≡ Some y → live' y ≡ true → s' k ≡ Some y) → Tables live' made r s'
 tables-pass live live' made r s s' t fewer only stays = record {
@@ -102,7 +102,7 @@ tables-pass live live' made r s s' t fewer only stays = record {
   placed = λ y l. ⊎_elim (λ p. inl p) (λ p. inr (record { place = p.place; is = stays p.place y p.is l })) (t.placed y (fewer y l));
 }
 
--- one node is taken out of slots where it isn't live
+-- the slot of one node is freed unless the node is live
 pub record Clears (live : ℕ → Bool) (x : ℕ) (old new : ℕ → Option ℕ) : Type 0 where
   pub stays : (k y : ℕ) → old k ≡ Some y → live y ≡ true → new k ≡ Some y
   pub only : (k y : ℕ) → new k ≡ Some y → (old k ≡ Some y) × (y ≡ x → live y ≡ true)
@@ -118,7 +118,7 @@ pub apart-cleared : (live : ℕ → Bool) (x : ℕ) (old new : ℕ → Option �
     → (i j y : ℕ) → new i ≡ Some y → new j ≡ Some y → i ≡ j
 apart-cleared live x old new h apart i j y a b = apart i j y (h.only i y a).0 (h.only j y b).0
 
--- a check's guard and condition are taken out
+-- the slots of a check's guard and condition are freed
 pub cleared-tested : (live : ℕ → Bool) (check : Check) (s0 s1 s2 : ℕ → Option ℕ) → Clears live check.guard s0 s1 → Clears live check.condition s1 s2
     → Cleared (λ x. check_reads x check) live s0 s2
 cleared-tested live check s0 s1 s2 a b = record {
@@ -130,7 +130,7 @@ cleared-tested live check s0 s1 s2 a b = record {
   );
 }
 
--- a node's arguments are taken out
+-- the slots of a node's arguments are freed
 pub cleared-arguments : (live : ℕ → Bool) (op : Op) (a b c : ℕ) (s0 s1 s2 s3 : ℕ → Option ℕ) → Clears live a s0 s1 → Clears live b s1 s2 → Clears live c s2 s3
     → Cleared (λ x. reads x (Work op a b c)) live s0 s3
 cleared-arguments live op a b c s0 s1 s2 s3 h i j = record {

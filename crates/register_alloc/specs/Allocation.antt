@@ -1,4 +1,4 @@
--- What is said of an allocation.
+-- What an allocation guarantees.
 use Rattle.std.specs.Prelude.{◌≡◌, ℕ, ◌≤◌, ◌<◌, ◌==◌, Bool, true, false, length, count_by, All, Some}
 use Rattle.std.specs.List.{list_any}
 use Rattle.flat_code.specs.declared.program.Flat.{Flat}
@@ -9,17 +9,17 @@ use Rattle.reg_machine.specs.Flow.{Listing, flow_of, stores_of, loads_of}
 use Rattle.register_alloc.specs.declared.moment.TheConstants.{MOST}
 use Rattle.register_alloc.specs.Width.{width_of, reads_of}
 
--- an instruction on a slot
+-- whether an instruction is `Store` or `Load`
 abbrev pub is_spill : Instr → Bool
 is_spill (Store k r) = true
 is_spill (Load r k) = true
 is_spill _ = false
 
--- how many instructions are on slots
+-- the number of such instructions
 abbrev pub spills_of : Listing → ℕ
 spills_of code = count_by is_spill code.instrs
 
--- an instruction that stores to slot k
+-- whether an instruction stores to slot k
 abbrev pub stores_to : ℕ → Instr → Bool
 stores_to k (Store j r) = j == k
 stores_to k _ = false
@@ -28,16 +28,17 @@ stores_to k _ = false
 abbrev pub IsStoredTo : ℕ → Listing → Type 0
 IsStoredTo k code = list_any (stores_to k) code.instrs ≡ true
 
--- a program of which the code has at most 2^32 - 1 instructions, and whose labels are below a count
+-- a program whose code has at most 2^32 - 1 instructions, and whose labels are below the count
 pub record IsSmall (flat : Flat) (labels : ℕ) : Type 0 where
   pub nodes : length flat.nodes ≤ MOST
   pub checks : length flat.checks ≤ MOST
   pub outputs : length flat.outputs ≤ MOST
   pub labelled : All (λ check. check.label < labels) flat.checks
 
--- The code spells the program, with so many labels, and with at most as many slots as the width, each of which is stored to; without Store and Load
--- where the width is at most the number of registers; with at most one Store of a node, and at most one Load of it for each
--- time that an argument within the arity, a guard or a condition reads it.
+-- The code denotes the program, with this number of labels. It has at most as many slots as the
+-- program's width, and stores to each. It has neither `Store` nor `Load` if the width is at most
+-- the number of registers. A node is stored at most once, and loaded at most once for each read by
+-- an argument within the arity, a guard or a condition.
 pub record IsAllocation (flat : Flat) (labels : ℕ) (code : Listing) : Type 0 where
   pub flow : flow_of code ≡ Some flat
   pub labelled : code.counts.labels ≡ labels

@@ -1,4 +1,4 @@
--- Which nodes of a flat program are held at a node, and how many at most.
+-- The width of a flat program: the greatest number of nodes that must be held at once.
 use Rattle.std.specs.Prelude.{◌≡◌, ◌<◌, ◌≤◌, ℕ, zero, suc, ◌+◌, ◌==◌, nat_lt, nat_le, max, Bool, true, false, slice_index_or, ◌&&◌, ◌||◌, List, [], ◌∷◌, length}
 use Rattle.std.specs.Prelude.{drop}
 use Rattle.std.specs.List.{list_any, sum_by}
@@ -18,22 +18,25 @@ reads x (Do op a b c) = (a == x) || ((b == x) || (c == x))
 abbrev pub check_reads : ℕ → Check → Bool
 check_reads x check = (check.guard == x) || (check.condition == x)
 
--- the greater of m and the numbers that a check reads
+-- the greatest of m, the guard and the condition of a check
 abbrev pub later : ℕ → Check → ℕ
 later m check = max m (max check.guard check.condition)
 
--- The moment of check j: the greatest of m and the guards and conditions of checks 0 to j.
+-- The moment of check j, the node after which it can be done: the greatest of m and the guards and
+-- conditions of checks 0 to j.
 abbrev pub moment_from : ℕ → List Check → ℕ → ℕ
 moment_from m [] j = m
 moment_from m (check ∷ checks) zero = later m check
 moment_from m (check ∷ checks) (suc j) = moment_from (later m check) checks j
 
--- whether node x is read by a check whose moment is at least p, where m is the moment before
+-- whether node x is read by a check whose moment is at least p; m is the moment of the check before
+-- the first
 abbrev pub read_late : ℕ → ℕ → ℕ → List Check → Bool
 read_late p x m [] = false
 read_late p x m (check ∷ checks) = (nat_le p (later m check) && check_reads x check) || read_late p x (later m check) checks
 
--- Node x is held at p: it is p, or it is below p and read by a node above p or by a check whose moment is at least p.
+-- Whether node x is held at node p: it is p, or it is below p and is read by a node above p or by a
+-- check whose moment is at least p.
 abbrev pub is_held : Flat → ℕ → ℕ → Bool
 is_held flat p x = (x == p) || (nat_lt x p && (list_any (reads x) (drop (suc p) flat.nodes) || read_late p x 0 flat.checks))
 
@@ -51,8 +54,9 @@ abbrev pub width_below : Flat → ℕ → ℕ
 width_below flat zero = 0
 width_below flat (suc p) = max (count_below (is_held flat p) (length flat.nodes)) (width_below flat p)
 
--- The greatest number of nodes held at one node, 0 without nodes. Of two inputs and their sum it is 2: at the second
--- input both are held, at the sum it alone.
+-- The greatest number of nodes held at one node; 0 for a program without nodes. For two inputs and
+-- their sum, read by an output, it is 2: at the second input both inputs are held, at the sum only
+-- the sum.
 abbrev pub width_of : Flat → ℕ
 width_of flat = width_below flat (length flat.nodes)
 

@@ -1,18 +1,19 @@
-//! The outputs of each node, one after the other.
+//! The outputs of each node as linked lists.
 
 ghost use Rattle.std.specs.Prelude.{◌≡◌, ℕ, suc, ◌<◌, ◌≤◌, ◌+◌, IfOk, All, length, slice_index};
 ghost use Rattle.register_alloc.specs.inner.OutputChain.{IsChain, IsNext};
 
 use std::alloc::{AllocError, Global};
 
-/// Places in a list of outputs: of each node the first, and of each output the next one of its node.
+/// Places in the list of outputs: for each node its first output, and for each output the next one
+/// of the same node. The number of outputs marks the end.
 #[derive(Drop)]
 pub struct OutputChain {
     pub firsts: Vec<usize>,
     pub nexts: Vec<usize>,
 }
 
-/// Puts one more output, before the others, into the chain.
+/// Prepends an output to the list of its node.
 fn link(firsts: &mut Vec<usize>, nexts: &mut Vec<usize>, outputs: &[u32], place: usize)
     requires chain { IsChain outputs.now (length firsts.old.items) (place + 1) firsts.old.items nexts.old.items }
     requires place { place < length outputs.now }
@@ -24,8 +25,13 @@ fn link(firsts: &mut Vec<usize>, nexts: &mut Vec<usize>, outputs: &[u32], place:
     firsts[node] = place;
 }
 
+<<<<<<< HEAD
 /// The chain of outputs of n nodes.
 pub fn chain_of(alloc: Global, outputs: &[u32], nodes: usize) -> Result<OutputChain, AllocError>
+=======
+/// The lists of outputs of `nodes` nodes.
+pub fn chain_of(alloc: Global, outputs: &[u32], nodes: usize) -> Result<Chain, AllocError>
+>>>>>>> be747affa8fe19064c1c06b505095489e930c67f
     requires { All (λ x. x < nodes) outputs.now }
     ensures { IfOk result (λ chain. IsChain outputs.now nodes 0 chain.firsts.items chain.nexts.items) }
 {

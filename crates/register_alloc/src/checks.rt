@@ -1,4 +1,4 @@
-//! The checks, each as soon as its nodes are made.
+//! Checks: each is done as soon as its nodes are made.
 
 ghost use Rattle.std.specs.Prelude.{◌≡◌, ℕ, suc, ◌+◌, ◌<◌, ◌≤◌, length, IfOk, OnOk, slice_index_or};
 ghost use Rattle.reg_machine.specs.Flow.{loads_of};
@@ -14,7 +14,7 @@ use reg_machine::{Instr, REGISTERS};
 use std::alloc::AllocError;
 
 impl Room {
-    /// The next check, whose nodes are made.
+    /// Does the next check, whose nodes are made.
     fn test(&mut self, flat: &Task, at: Moment, check: Check) -> Result<Moment, AllocError>
         requires sound { IsSound flat.now at self.old }
         requires next { at.checked < length flat.now.checks }
@@ -40,7 +40,7 @@ impl Room {
         Ok(next)
     }
 
-    /// The checks of this moment.
+    /// Does all checks whose nodes are made, in order.
     pub fn settle(&mut self, flat: &Task, start: Moment) -> Result<Moment, AllocError>
         requires sound { IsSound flat.now start self.old }
         requires short { IsShort flat.now start self.old.code.instrs }

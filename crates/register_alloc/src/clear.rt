@@ -1,4 +1,4 @@
-//! Slots whose nodes are dead.
+//! Frees slots whose nodes are dead.
 
 ghost use Rattle.std.specs.Prelude.{◌≡◌, ℕ, ◌≤◌, length, OnOk};
 ghost use Rattle.register_alloc.specs.Width.{reads, check_reads};
@@ -11,7 +11,7 @@ use crate::task::Task;
 use flat_code::{Check, Node};
 use std::alloc::AllocError;
 
-/// Takes a node's arguments that are dead at this moment out of the slots.
+/// Frees the slots of a node's arguments that are dead at this moment.
 pub fn clear_arguments(
     slots: &mut Slots,
     flat: &Task,
@@ -33,7 +33,7 @@ pub fn clear_arguments(
     }
 }
 
-/// Takes what a check read and is dead at this moment out of the slots.
+/// Frees the slots of a check's guard and condition if these are dead at this moment.
 pub fn clear_tested(
     slots: &mut Slots,
     flat: &Task,

@@ -1,6 +1,10 @@
-//! The allocator of registers: from a flat program in the tidy form to register code with spill slots.
+//! The register allocator: turns a tidy flat program into register code with spill slots.
 //!
-//! This crate knows nothing of rules, drivers, files or printed lines, nor what operators and machines do.
+//! Uses `flat_code` for programs and `reg_machine` for code. Knows nothing of rules, drivers, files
+//! or printed lines, nor what operators compute.
+//!
+//! The code is made by the builder of `reg_machine`, which rejects every wrong instruction. If no
+//! register is free, the victim is the register whose node is read last.
 #![tactic(auto)]
 
 mod chain;

@@ -1,9 +1,10 @@
-//! How far the allocator has come, and how much it takes.
+//! The progress of the allocator, and its limits.
 
-/// The greatest number of nodes, of checks and of outputs.
+/// The limit on the number of nodes, of checks and of outputs.
 pub const MOST: usize = 200_000_000;
 
-/// How many nodes are made, of how many the arguments are read, and how many checks are done.
+/// The number of nodes that are made, of nodes whose arguments are read, and of checks that are
+/// done.
 #[derive(Clone, Copy)]
 pub struct Moment {
     pub made: usize,

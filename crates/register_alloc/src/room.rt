@@ -1,4 +1,4 @@
-//! Registers and slots, and the code that fills them.
+//! The state of the allocator: registers, slots and the code so far.
 
 ghost use Rattle.std.specs.Prelude.{◌≡◌, ℕ, suc, ◌+◌, ◌-◌, ◌<◌, ◌≤◌, ◌==◌, ◌&&◌, length, IfSome, IfNone, IfOk, OnOk, Some, None, true, false, List, Option};
 ghost use Rattle.flat_code.specs.Entries.{node_at};
@@ -21,7 +21,7 @@ use m_fixed::arity;
 use reg_machine::{CodeBuilder, Instr, REGISTERS};
 use std::alloc::AllocError;
 
-/// The code so far, and which node each register and each slot stands for.
+/// The code so far, and the node that each register and each slot holds.
 #[derive(Drop)]
 pub struct Room {
     pub code: CodeBuilder,
@@ -41,7 +41,7 @@ fn is_busy(flat: &Task, at: Moment, entry: Option<usize>) -> bool
 }
 
 impl Room {
-    /// A register without a live node.
+    /// A register that holds no live node, if there is one.
     fn idle(&self, flat: &Task, at: Moment) -> Option<u8>
         requires { at.made ≤ length flat.now.nodes }
         ensures within { IfSome result (λ k. k < REGISTERS) }
@@ -56,7 +56,7 @@ impl Room {
         None
     }
 
-    /// Where the node of a register is read by a node for the last time, or 0.
+    /// One more than the last node that reads the node of a register, or 0.
     fn last_read(&self, flat: &Task, register: u8) -> usize
         requires { register < REGISTERS }
     {
@@ -66,7 +66,8 @@ impl Room {
         }
     }
 
-    /// A register other than these two: the one whose node is read last, since the others are needed before it.
+    /// The register to spill, other than these two: the one whose node has the latest last read,
+    /// since the others are free earlier.
     fn victim(&self, flat: &Task, one: u8, two: u8) -> u8
         ensures within { result < REGISTERS }
         ensures one { result ≡ one → ⊥ }
@@ -81,7 +82,7 @@ impl Room {
         latest
     }
 
-    /// Stores the node of a register, unless it is in a slot.
+    /// Stores the node of a register to a slot, unless it is in one.
     fn spill(&mut self, flat: &Task, at: Moment, register: u8) -> Result<(), AllocError>
         requires sound { IsSound flat.now at self.old }
         requires within { register < REGISTERS }
@@ -108,7 +109,8 @@ impl Room {
         }
     }
 
-    /// A register that may be written, other than these two.
+    /// A register that may be overwritten, other than these two. Its node is spilled if no register
+    /// is free.
     fn vacate(&mut self, flat: &Task, at: Moment, one: u8, two: u8) -> Result<u8, AllocError>
         requires sound { IsSound flat.now at self.old }
         requires one { IsKept flat.now at self.old one }
@@ -135,7 +137,7 @@ impl Room {
         }
     }
 
-    /// Loads a live node that stands in no register into one other than these two.
+    /// Loads a live node that is in no register into a register other than these two.
     fn load(
         &mut self,
         flat: &Task,
@@ -170,7 +172,8 @@ impl Room {
         }
     }
 
-    /// The register of a live node, which is loaded into one other than these two, if need be.
+    /// The register of a live node. If the node is in none, it is loaded into a register other than
+    /// these two.
     pub(crate) fn fetch(
         &mut self,
         flat: &Task,
@@ -199,7 +202,7 @@ impl Room {
         }
     }
 
-    /// The register of a live node. Where it isn't wanted, that is the first of the two.
+    /// The same if `wanted`, otherwise `one`.
     fn fetch_if(
         &mut self,
         flat: &Task,
@@ -233,7 +236,7 @@ impl Room {
         }
     }
 
-    /// The registers of a node's arguments.
+    /// The registers of a node's arguments, which are loaded if necessary.
     fn sources(&mut self, flat: &Task, at: Moment, node: Node) -> Result<Sources, AllocError>
         requires sound { IsSound flat.now at self.old }
         requires live { (x : ℕ) → reads x node ≡ true → live_at flat.now at x ≡ true }
@@ -264,7 +267,8 @@ impl Room {
         }
     }
 
-    /// The arguments of the next node are read. Those that are dead then leave their slots.
+    /// Notes that the arguments of the next node are read, and frees the slots of those that are
+    /// now dead.
     fn pass(&mut self, flat: &Task, at: Moment, node: Node) -> Result<Moment, AllocError>
         requires sound { IsSound flat.now at self.old }
         requires next { at.read < length flat.now.nodes }
@@ -284,7 +288,7 @@ impl Room {
         Ok(next)
     }
 
-    /// Makes the next node in this register.
+    /// Emits the instruction of the next node, into this register.
     fn make(
         &mut self,
         flat: &Task,
@@ -310,7 +314,7 @@ impl Room {
         Ok(())
     }
 
-    /// Gives the outputs that are the node of this register.
+    /// Emits the outputs of the node in this register.
     fn give(&mut self, flat: &Task, at: Moment, node: usize, register: u8) -> Result<(), AllocError>
         requires sound { IsSoundWith flat.now at (given_before node flat.now.outputs) self.old }
         requires made { at.made ≡ suc node }
@@ -331,7 +335,7 @@ impl Room {
         Ok(())
     }
 
-    /// The next node: its arguments, its instruction and its outputs.
+    /// Processes the next node: its arguments, its instruction and its outputs.
     pub fn turn(&mut self, flat: &Task, at: Moment) -> Result<Moment, AllocError>
         requires valid { IsValid flat.now }
         requires sound { IsSound flat.now at self.old }

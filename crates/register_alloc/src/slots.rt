@@ -1,4 +1,5 @@
-//! Spill slots: which node each slot stands for. All calls take constant time.
+//! Spill slots: the node that each slot holds. All calls take constant time, apart from extending the
+//! index to the greatest node.
 
 ghost use Rattle.std.specs.Prelude.{◌≡◌, ℕ, ◌<◌, ◌⊎◌, suc, length, IfSome, IfNone, IfOk, OnOk, Some, None, is_some, true, []};
 ghost use Rattle.reg_machine.specs.Flow.{put};
@@ -7,7 +8,7 @@ ghost use Rattle.register_alloc.specs.inner.Tables.{look};
 use std::alloc::{AllocError, Global};
 use std::marker::Model;
 
-/// The node of each slot. A slot without one is free.
+/// The node of each slot, the slot of each node, and the free slots, which hold none.
 #[derive(Drop)]
 pub struct Slots {
     owners: Vec<Option<usize>>,
@@ -27,7 +28,7 @@ impl Model for Slots {
     ghost invariant = { λ s. IsIndexed (look s.owners.items) (look s.places.items) (length s.owners.items) s.free.items };
 }
 
-/// Makes a table so long that it has an entry for a node.
+/// Extends a table to have an entry for a node.
 fn reach(table: &mut Vec<Option<usize>>, x: usize) -> Result<(), AllocError>
     ensures same { (k : ℕ) → look table.new.items k ≡ look table.old.items k }
     ensures within { OnOk result (x < length table.new.items) }
@@ -49,7 +50,7 @@ impl Slots {
         }
     }
 
-    /// How many slots there are.
+    /// The number of slots.
     pub fn count(&self) -> usize
         ensures { result ≡ length self.now }
     {
@@ -67,7 +68,7 @@ impl Slots {
         }
     }
 
-    /// Gives a node a free slot, and a new one only where there is no other.
+    /// Puts a node into a free slot, or into a new one if none is free.
     pub fn occupy(&mut self, x: usize) -> Result<usize, AllocError>
         requires { (k : ℕ) → look self.old k ≡ Some x → ⊥ }
         ensures within { IfOk result (λ k. k < length self.new) }
@@ -93,7 +94,7 @@ impl Slots {
         }
     }
 
-    /// Takes a node out of its slot where it is dead.
+    /// Frees the slot of a node if the node is dead.
     pub fn clear_dead(&mut self, x: usize, live: bool) -> Result<(), AllocError>
         ensures stays { OnOk result ((k y : ℕ) → look self.old k ≡ Some y → (y ≡ x → live ≡ true)
             → look self.new k ≡ Some y) }

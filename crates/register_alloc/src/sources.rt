@@ -1,4 +1,4 @@
-//! The registers that an instruction reads and writes.
+//! The registers of a node's arguments, and its instruction.
 
 ghost use Rattle.std.specs.Prelude.{◌≡◌, ◌<◌};
 ghost use Rattle.reg_machine.specs.declared.instr.TheConstants.{REGISTERS};
@@ -15,7 +15,7 @@ pub struct Sources {
     pub third: u8,
 }
 
-/// The instruction that makes a node.
+/// The instruction of a node.
 pub fn instr_of(node: Node, register: u8, sources: Sources) -> Instr
     ensures { result ≡ instr_of node register sources }
 {

@@ -1,4 +1,4 @@
-//! Tables of nodes: which node stands in a register or in a slot.
+//! Tables of the nodes in registers.
 
 ghost use Rattle.std.specs.Prelude.{◌≡◌, ℕ, ◌<◌, ◌↔◌, length, IsTrue, IfSome, IfNone, Some};
 ghost use Rattle.reg_machine.specs.declared.instr.TheConstants.{REGISTERS};
@@ -16,7 +16,7 @@ fn is_node(entry: Option<usize>, x: usize) -> bool
     }
 }
 
-/// The register in which a node stands.
+/// The register that holds a node, if there is one.
 pub fn find(table: &[Option<usize>], x: usize) -> Option<u8>
     requires { length table.now ≡ REGISTERS }
     ensures within { IfSome result (λ k. k < REGISTERS) }

@@ -1,4 +1,4 @@
-//! A flat program with where each of its nodes is read for the last time.
+//! The program to allocate, with the last read of each node.
 
 ghost use Rattle.std.specs.Prelude.{◌≡◌, ℕ, suc, ◌<◌, ◌≤◌, ◌+◌, true, IfOk, OnOk, length, nat_lt, slice_index, slice_index_or, IfSome, IfNone, if◌then◌else◌};
 ghost use Rattle.flat_code.specs.Entries.{node_at};
@@ -14,7 +14,8 @@ use flat_code::{Check, Flat, Node};
 use std::alloc::{AllocError, Global};
 use std::marker::Model;
 
-/// A flat program, seen as such, whose nodes tell at once whether they are still to be read.
+/// A flat program with the last reads of its nodes, so that liveness is decided in constant time.
+/// Contracts see the program.
 #[derive(Drop)]
 pub struct Task<'a> {
     flat: &'a Flat,
@@ -37,7 +38,7 @@ impl<'a> Model for Task<'a> {
         × IsChain t.flat.now.outputs (length t.flat.now.nodes) 0 t.chain.firsts.items t.chain.nexts.items };
 }
 
-/// A node of a program.
+/// The node at a place.
 fn node_of(flat: &Flat, place: usize) -> Node
     requires { place < length flat.now.nodes }
     ensures { result ≡ node_at flat.now.nodes place }
@@ -45,7 +46,7 @@ fn node_of(flat: &Flat, place: usize) -> Node
     flat.nodes.as_slice()[place]
 }
 
-/// Notes a place as the last one at which a node's arguments are read.
+/// Records a place as the last that reads a node's arguments.
 fn note_node(last: &mut Vec<usize>, node: Node, place: usize)
     requires { (x : ℕ) → reads x node ≡ true → x < length last.old.items }
     ensures noted { (x : ℕ) → x < length last.old.items
@@ -59,7 +60,7 @@ fn note_node(last: &mut Vec<usize>, node: Node, place: usize)
     }
 }
 
-/// Notes a place as the last one at which a check's nodes are read.
+/// Records a place as the last that reads a check's nodes.
 fn note_check(last: &mut Vec<usize>, check: Check, place: usize)
     requires { (x : ℕ) → check_reads x check ≡ true → x < length last.old.items }
     ensures noted { (x : ℕ) → x < length last.old.items
@@ -70,7 +71,7 @@ fn note_check(last: &mut Vec<usize>, check: Check, place: usize)
     last[check.condition as usize] = place;
 }
 
-/// Where each node is read by a node for the last time.
+/// For each node, one more than the last node that reads it, or 0.
 fn last_by_node(alloc: Global, flat: &Flat) -> Result<Vec<usize>, AllocError>
     requires { IsValid flat.now }
     ensures { IfOk result (λ last. IsLast reads flat.now.nodes (length flat.now.nodes) last.items) }
@@ -82,7 +83,7 @@ fn last_by_node(alloc: Global, flat: &Flat) -> Result<Vec<usize>, AllocError>
     Ok(last)
 }
 
-/// Where each node is read by a check for the last time.
+/// For each node, one more than the last check that reads it, or 0.
 fn last_by_check(alloc: Global, flat: &Flat) -> Result<Vec<usize>, AllocError>
     requires { IsValid flat.now }
     ensures { IfOk result (λ last. IsLast check_reads flat.now.checks (length flat.now.nodes) last.items) }
@@ -95,7 +96,7 @@ fn last_by_check(alloc: Global, flat: &Flat) -> Result<Vec<usize>, AllocError>
     Ok(last)
 }
 
-/// The next check, where its nodes are made.
+/// The next check, if its nodes are made.
 fn ready(flat: &Flat, at: Moment) -> Option<Check>
     ensures next { IfSome result (λ _. at.checked < length flat.now.checks) }
     ensures check { IfSome result (λ check. check ≡ slice_index_or flat.now.checks at.checked check) }
@@ -117,7 +118,7 @@ fn ready(flat: &Flat, at: Moment) -> Option<Check>
     }
 }
 
-/// Whether a node is read at a place or after it.
+/// Whether a node is read at this place or later.
 fn is_read_from(last: &[usize], x: usize, place: usize) -> bool
     requires { x < length last.now }
     ensures { result ≡ nat_lt place (slice_index last.now x) }
@@ -141,7 +142,7 @@ impl<'a> Task<'a> {
         })
     }
 
-    /// A node of the program.
+    /// The node at a place.
     pub fn node_at(&self, place: usize) -> Node
         requires { place < length self.now.nodes }
         ensures { result ≡ node_at self.now.nodes place }
@@ -149,14 +150,14 @@ impl<'a> Task<'a> {
         node_of(self.flat, place)
     }
 
-    /// How many outputs there are.
+    /// The number of outputs.
     pub fn outputs(&self) -> usize
         ensures { result ≡ length self.now.outputs }
     {
         self.flat.outputs.as_slice().len()
     }
 
-    /// The first output of a node, or the number of outputs.
+    /// The first output of a node; the number of outputs, if it has none.
     pub fn first_output(&self, node: usize) -> usize
         requires { node < length self.now.nodes }
         ensures { IsNext self.now.outputs node 0 result }
@@ -164,7 +165,7 @@ impl<'a> Task<'a> {
         self.chain.firsts[node]
     }
 
-    /// The next output of the same node, or the number of outputs.
+    /// The next output of the same node; the number of outputs, if there is none.
     pub fn next_output(&self, place: usize) -> usize
         requires { place < length self.now.outputs }
         ensures { IsNext self.now.outputs (slice_index self.now.outputs place) (suc place) result }
@@ -172,7 +173,7 @@ impl<'a> Task<'a> {
         self.chain.nexts[place]
     }
 
-    /// The next check, where its nodes are made.
+    /// The next check, if its nodes are made.
     pub fn ready(&self, at: Moment) -> Option<Check>
         ensures next { IfSome result (λ _. at.checked < length self.now.checks) }
         ensures check { IfSome result (λ check. check ≡ slice_index_or self.now.checks at.checked check) }
@@ -183,7 +184,7 @@ impl<'a> Task<'a> {
         ready(self.flat, at)
     }
 
-    /// The place after the last one at which a node is read by a node, or 0. A hint: nothing is promised of it.
+    /// One more than the last node that reads a node, or 0. A heuristic: no contract depends on it.
     pub fn last_read(&self, x: usize) -> usize {
         match self.by_node.get(x) {
             Some(place) => *place,
@@ -191,7 +192,7 @@ impl<'a> Task<'a> {
         }
     }
 
-    /// Whether a node is still to be read.
+    /// Whether a node is live.
     pub fn is_live(&self, at: Moment, x: usize) -> bool
         requires { at.made ≤ length self.now.nodes }
         ensures { result ≡ live_at self.now at x }

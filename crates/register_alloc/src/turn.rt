@@ -12,9 +12,10 @@ use flat_code::{Flat, Tidy};
 use reg_machine::{Code, CodeBuilder, REGISTERS};
 use std::alloc::{AllocError, Global};
 
-/// Register code that spells the program, with so many labels, and with at most as many slots as the program's width. Its only
-/// error is running out of memory. Of two inputs and an output that is their sum it is `Take(0, 0)`, `Take(1, 1)`,
-/// `Do(Add, 0, 0, 1, 0)` and `Output(0, 0)`, with no slot.
+/// Register code that denotes the program, with this number of labels and at most as many slots as
+/// the program's width. The only error is running out of memory. For two inputs and an output that
+/// is their sum it is `Take(0, 0)`, `Take(1, 1)`, `Do(Add, 0, 0, 1, 0)` and `Output(0, 0)`, without
+/// slots.
 pub fn allocate(alloc: Global, tidy: &Tidy, labels: u32) -> Result<Code, AllocError>
     requires { IsSmall tidy.now labels }
     ensures { IfOk result (IsAllocation tidy.now labels) }

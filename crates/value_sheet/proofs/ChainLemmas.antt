@@ -1,4 +1,4 @@
--- The edges of a source, one after the other.
+-- The edges of each source as linked lists.
 use Rattle.std.proofs.Common.{◌≡◌, ◌≢◌, ℕ, zero, suc, ◌+◌, ◌-◌, ◌/◌, ◌<◌, ◌≤◌, List, [], ◌∷◌, ◌++◌, cond, length, get_or, drop, sym, ◌∙◌, ap, append_assoc}
 use Rattle.std.proofs.Common.{arith}
 use Rattle.std.proofs.lemmas.Bool.{eq-eqb, ne_eqb}
@@ -12,7 +12,7 @@ sourced_own per p e s sources is = ap (λ b. cond b (e / per ∷ sourced per p (
 sourced_other : (per p e s : ℕ) (sources : List ℕ) → s ≢ p → sourced per p e (s ∷ sources) ≡ sourced per p (e + 1) sources
 sourced_other per p e s sources ne = ap (λ b. cond b (e / per ∷ sourced per p (e + 1) sources) (sourced per p (e + 1) sources)) (ne_eqb s p ne)
 
--- edges of other sources are passed over
+-- edges of other sources are skipped
 skip : (per p d k j : ℕ) (sources : List ℕ) → k + d ≡ j → j ≤ length sources → ((i : ℕ) → k ≤ i → i < j → get_or sources i 0 ≢ p)
     → sourced per p k (drop k sources) ≡ sourced per p j (drop j sources)
 skip per p zero k j sources e le others = ap (λ m. sourced per p m (drop m sources)) (let z : k ≡ j = omega arith in z)

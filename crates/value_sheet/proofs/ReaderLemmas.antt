@@ -62,7 +62,7 @@ block per p j d (x ∷ xs) rest k some size =
     put_in false true y r = refl
     put_in false false y r = refl
 
--- Where each node has so many edges, the row of p has the nodes of which one has the source p.
+-- If each node has this number of edges, row p has the nodes that have an edge from p.
 rows_are : (per p : ℕ) (f : Node → List ℕ) (j : ℕ) (nodes : List Node) (i : ℕ) → 0 < per → ((node : Node) → length (f node) ≡ per)
     → has (f (Lit Undef)) p ≡ false
     → has (sourced per p (j * per) (flat_map f nodes)) (j + i) ≡ has (f (node_at nodes i)) p

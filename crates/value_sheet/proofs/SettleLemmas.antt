@@ -1,4 +1,4 @@
--- A settle, from one node to the next.
+-- The loop of a settle, from one node to the next.
 use Rattle.std.proofs.Common.{◌≡◌, ◌≢◌, ℕ, zero, suc, ◌+◌, ◌<◌, ◌≤◌, Bool, true, false, ◌||◌, ◌&&◌, eqb, List, [], length, get_or, set, take, replicate, refl}
 use Rattle.std.proofs.Common.{sym, ◌∙◌, ap, subst, ⊎_elim, arith}
 use Rattle.std.specs.Prelude.{count_by}
@@ -19,7 +19,8 @@ use Rattle.flat_code.proofs.TouchedLemmas.{entry_same, some_argument_below, some
 use Rattle.value_sheet.specs.inner.Readers.{node_at as at_place, has, is_of, IsInputRows}
 use Rattle.value_sheet.specs.inner.Sound.{IsSettling}
 
--- what a settle starts from: each node but those of inputs that were put has its value by the others' old values
+-- the precondition of a settle: each node has its value by the old values of its arguments, unless
+-- it is an input that was set
 abbrev pub IsRight : List Node → List Value → List Bool → List Value → Type 0
 IsRight nodes now put old = (k : ℕ) → k < length nodes → of_put put (at_place nodes k) ≡ false
     → value_at old k ≡ entry_of (values_for now) old (at_place nodes k)
@@ -74,7 +75,7 @@ settling_past m nodes now put old kept marks p begun steps all right lt none h =
       cost = h.cost ∙ ap (λ n. begun + n) (sym (count_by_more_no (is_touched put old new) nodes p (Lit Undef) lt uncounted));
     }
 
--- up to the next that is
+-- up to the next marked node
 pub settling_skip : (m : ℕ) (nodes : List Node) (now : List Value) (put : List Bool) (old kept : List Value) (marks : List Bool) (d p q begun steps : ℕ)
     → AreNodes m 0 nodes → IsRight nodes now put old → p + d ≡ q → q ≤ length nodes → ((k : ℕ) → p ≤ k → k < q → is_member marks k ≡ false)
     → IsSettling nodes put old (node_values now nodes) kept marks p begun steps → IsSettling nodes put old (node_values now nodes) kept marks q begun steps
@@ -143,7 +144,7 @@ settling_turn m nodes now put old kept after marks marks' p begun steps all lt s
 
 -- ---- the beginning and the end
 
--- the nodes of inputs that were put are marked, and no others
+-- the nodes of inputs that were set are marked, and no others
 pub settling_first : (nodes : List Node) (now : List Value) (put : List Bool) (old : List Value) (marks : List Bool) (begun : ℕ)
     → length old ≡ length nodes → length marks ≡ length nodes → ((k : ℕ) → is_member marks k ≡ of_put put (at_place nodes k))
     → IsSettling nodes put old (node_values now nodes) old marks 0 begun begun
@@ -174,7 +175,7 @@ pub settled_cost : (nodes : List Node) (now : List Value) (put : List Bool) (old
 settled_cost nodes now put old kept marks begun steps h =
     h.cost ∙ ap (λ ns. begun + count_by (is_touched put old (node_values now nodes)) ns) (take_all (length nodes) nodes (omega arith))
 
--- what the marks of the inputs that were put come to
+-- the marks after the inputs that were set are marked
 pub marked_first : (nodes : List Node) (put : List Bool) (rows : List (List ℕ)) (marks : List Bool) (inputs : ℕ) → IsInputRows rows nodes inputs
     → length put ≡ inputs
     → AreNodes inputs 0 nodes
@@ -209,7 +210,7 @@ marked_first nodes put rows marks inputs h so_many all sound complete k =
     within : (p : ℕ) → is_member put p ≡ true → p < inputs
     within p given = ⊎_elim (λ lt. lt) (λ ge. absurd (false≢true (sym (get_or_past put p false (omega (arith, so_many))) ∙ given))) (cases_lt p inputs)
 
--- where the old values are those for other inputs, which are those of now where nothing was put
+-- the old values are those for other inputs, which equal the current ones unless they were set
 pub right_from : (m : ℕ) (nodes : List Node) (before now : List Value) (put : List Bool) (old : List Value) → AreNodes m 0 nodes
     → old ≡ node_values before nodes
     → ((n : ℕ) → is_member put n ≡ false → value_at before n ≡ value_at now n) → IsRight nodes now put old

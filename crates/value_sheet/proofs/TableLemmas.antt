@@ -56,7 +56,7 @@ so_far_few per e (s ∷ sources) p = omega (arith, so_far_more per e s sources p
 
 -- ---- one row more
 
--- a part stays where more is appended
+-- a part of a list is unchanged if more is appended
 range_kept : (xs ys : List ℕ) (from to : ℕ) → from ≤ to → to ≤ length xs → slice_range (xs ++ ys) from to ≡ slice_range xs from to
 range_kept xs ys from to le within =
     ap (take (to - from)) (drop-append-le from xs ys (omega arith))

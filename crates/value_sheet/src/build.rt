@@ -1,4 +1,4 @@
-//! What a sheet is made from: which nodes read which.
+//! Builds the edges of a sheet: which nodes read which.
 ghost use Rattle.std.specs.Prelude.{◌≡◌, ◌*◌, ◌<◌, IfOk, length, map};
 ghost use Rattle.std.specs.List.{flat_map};
 ghost use Rattle.value_sheet.specs.inner.Readers.{argument_sources, input_source, IsReaders, IsInputRows};
@@ -8,7 +8,7 @@ use flat_code::Node;
 use m_fixed::arity;
 use std::alloc::{AllocError, Global};
 
-/// For each node the nodes that look at it.
+/// For each node the nodes that read it.
 pub(crate) fn readers_of(alloc: Global, nodes: &[Node]) -> Result<Rows, AllocError>
     requires { 3 * length nodes.now < 4_294_967_295 }
     ensures { IfOk result (λ rows. IsReaders rows nodes.now) }
@@ -26,7 +26,7 @@ pub(crate) fn input_rows_of(alloc: Global, nodes: &[Node], inputs: u32) -> Resul
     Rows::of_sources(alloc, &sources, 1, inputs as usize)
 }
 
-// Three sources for each node: the arguments that it looks at, and the given number for each that it lacks.
+// Three sources for each node: its arguments, and `none` for each that it lacks.
 fn sources_of(alloc: Global, nodes: &[Node], none: u32) -> Result<Vec<u32>, AllocError>
     requires { 3 * length nodes.now < 4_294_967_295 }
     ensures { IfOk result (λ sources. sources.items ≡ flat_map (argument_sources none) nodes.now) }
@@ -53,7 +53,7 @@ fn three_sources(node: Node, none: u32) -> [u32; 3]
     }
 }
 
-// One source for each node: its input, and the given number where it is of none.
+// One source for each node: its input, or `none` if the node isn't an input.
 fn input_sources_of(alloc: Global, nodes: &[Node], none: u32) -> Result<Vec<u32>, AllocError>
     ensures { IfOk result (λ sources. sources.items ≡ map (input_source none) nodes.now) }
 {

@@ -1,18 +1,19 @@
-//! The edges of each source, one after the other: what rows are made from.
+//! The edges of each source as linked lists, from which the rows are built.
 ghost use Rattle.std.specs.Prelude.{◌≡◌, ◌+◌, ◌<◌, ◌^◌, IfOk, OnOk, length, ◌++◌, slice_index};
 ghost use Rattle.value_sheet.specs.Edges.{sourced};
 ghost use Rattle.value_sheet.specs.inner.EdgeChain.{IsChain};
 
 use std::alloc::{AllocError, Global};
 
-/// Of each source its first edge, and of each edge the next one of its source; the number of edges where there is none.
+/// For each source its first edge, and for each edge the next one with the same source; the number
+/// of edges marks the end.
 #[derive(Drop)]
 pub(crate) struct EdgeChain {
     pub(crate) firsts: Vec<u32>,
     pub(crate) nexts: Vec<u32>,
 }
 
-// Puts one more edge, before the others, into the chain.
+// Prepends an edge to the list of its source.
 fn link(firsts: &mut Vec<u32>, nexts: &mut Vec<u32>, sources: &[u32], edge: usize)
     requires few { length sources.now < 2 ^ 32 }
     requires chain { IsChain sources.now (length firsts.old.items) (edge + 1) firsts.old.items nexts.old.items }
@@ -26,12 +27,17 @@ fn link(firsts: &mut Vec<u32>, nexts: &mut Vec<u32>, sources: &[u32], edge: usiz
     }
 }
 
+<<<<<<< HEAD
 /// The chain of edges with these sources; an edge whose source isn't below the count is in none.
 pub(crate) fn chain_of(
     alloc: Global,
     sources: &[u32],
     count: usize,
 ) -> Result<EdgeChain, AllocError>
+=======
+/// The lists of edges with these sources. An edge whose source isn't below the count is in no list.
+pub(crate) fn chain_of(alloc: Global, sources: &[u32], count: usize) -> Result<Chain, AllocError>
+>>>>>>> be747affa8fe19064c1c06b505095489e930c67f
     requires { length sources.now < 2 ^ 32 }
     ensures { IfOk result (λ chain. IsChain sources.now count 0 chain.firsts.items chain.nexts.items) }
 {
@@ -45,7 +51,7 @@ pub(crate) fn chain_of(
     Ok(EdgeChain { firsts, nexts })
 }
 
-/// Appends what the edges of a source lead to.
+/// Appends the targets of the edges of a source.
 pub(crate) fn append_row(
     firsts: &[u32],
     nexts: &[u32],

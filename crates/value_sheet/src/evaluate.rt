@@ -1,4 +1,4 @@
-//! The one place of this crate where a value is computed, which counts it.
+//! The only place of this crate that computes a value. It counts each as a step.
 ghost use Rattle.std.specs.Prelude.{◌≡◌, ◌+◌, length};
 ghost use Rattle.flat_code.specs.Runs.{IsNode, entry_of, values_for};
 
@@ -7,7 +7,7 @@ use flat_code::{Node, value_of};
 use m_fixed::Value;
 use std::sync::ledger::Ledger;
 
-/// The value of a node, where the nodes before it have these: one step. It takes no memory.
+/// The value of a node, given the values of the nodes before it. Takes one step and no memory.
 pub(crate) fn evaluate<L: Ledger>(
     node: Node,
     values: &[Value],

@@ -1,7 +1,9 @@
-//! Kept values: the values of all nodes of a tidy program, of which a change of inputs evaluates only those it touches, with the edges along
-//! which it goes and a counter of its steps.
+//! Incremental evaluation of a tidy program: a sheet keeps the values of all nodes, and after a
+//! change of inputs recomputes only the nodes that the change touches. The number of steps is part
+//! of the contract.
 //!
-//! This crate knows nothing of households, codes or printed lines. Nothing but the making of a sheet takes memory.
+//! Uses `flat_code` for programs and `dirty_set` for marks. Knows nothing of households, codes or
+//! printed lines. Only the creation of a sheet takes memory.
 #![tactic(auto)]
 
 mod build;

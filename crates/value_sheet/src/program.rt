@@ -4,14 +4,14 @@ ghost use Rattle.flat_code.specs.Runs.{IsFlat};
 
 use flat_code::{Check, Node, Tidy};
 
-/// How many inputs a program has.
+/// The number of inputs.
 pub(crate) fn inputs_of(tidy: &Tidy) -> u32
     ensures { result ≡ tidy.now.inputs }
 {
     tidy.flat().inputs
 }
 
-/// Its nodes.
+/// The nodes.
 pub(crate) fn nodes_of(tidy: &Tidy) -> &[Node]
     ensures nodes { result.now ≡ tidy.now.nodes }
     ensures valid { IsFlat tidy.now }
@@ -19,14 +19,14 @@ pub(crate) fn nodes_of(tidy: &Tidy) -> &[Node]
     tidy.flat().nodes.as_slice()
 }
 
-/// Its checks.
+/// The checks.
 pub(crate) fn checks_of(tidy: &Tidy) -> &[Check]
     ensures { result.now ≡ tidy.now.checks }
 {
     tidy.flat().checks.as_slice()
 }
 
-/// The numbers of the nodes of its outputs.
+/// The node of each output.
 pub(crate) fn outputs_of(tidy: &Tidy) -> &[u32]
     ensures { result.now ≡ tidy.now.outputs }
 {

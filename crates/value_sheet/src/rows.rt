@@ -1,4 +1,4 @@
-//! Rows of numbers.
+//! Rows of numbers, stored in one vector.
 ghost use Rattle.std.specs.Prelude.{◌≡◌, ◌+◌, ◌<◌, ◌≤◌, ◌^◌, [], IfOk, length, slice_index, slice_index_or};
 ghost use Rattle.value_sheet.specs.Edges.{rows_of};
 ghost use Rattle.value_sheet.specs.inner.Table.{row_in};
@@ -7,10 +7,10 @@ use crate::chain::{append_row, chain_of};
 use std::alloc::{AllocError, Global};
 use std::marker::Model;
 
-/// Rows of numbers. Contracts see a list of lists.
+/// Rows of numbers. Contracts see them as a list of lists.
 #[derive(Drop)]
 pub struct Rows {
-    // where each row begins, and where the last one ends
+    // the offset of each row, and the end of the last one
     offsets: Vec<u32>,
     targets: Vec<u32>,
 }
@@ -27,8 +27,9 @@ impl Model for Rows {
 }
 
 impl Rows {
-    /// For each source below the count the row of what its edges lead to, where edge e leads from `sources[e]` to `e / per`; edges
-    /// from other sources are in no row. Its only error is running out of memory.
+    /// For each source below the count the row of the targets of its edges: edge e leads from
+    /// `sources[e]` to `e / per`. Edges from other sources are in no row. The only error is running
+    /// out of memory.
     pub fn of_sources(
         alloc: Global,
         sources: &[u32],
@@ -58,7 +59,7 @@ impl Rows {
         Ok(Rows { offsets, targets })
     }
 
-    /// The row of a source. It takes no memory.
+    /// The row of a source. Takes no memory.
     pub fn row(&self, source: u32) -> &[u32]
         requires { source < length self.now }
         ensures { result.now ≡ slice_index_or self.now source [] }

@@ -1,4 +1,4 @@
-//! From the inputs that were put to the values of all nodes.
+//! Settling: recomputes the nodes that a change of inputs touches, in the order of their numbers.
 ghost use Rattle.std.specs.Prelude.{◌≡◌, ℕ, ◌+◌, ◌<◌, ◌^◌, ◌==◌, ◌&&◌, ◌||◌, true, false, [], length, replicate, count_by, slice_set, slice_index_or};
 ghost use Rattle.dirty_set.specs.Members.{is_member};
 ghost use Rattle.flat_code.specs.Runs.{IsNode, AreNodes, entry_of, values_for, node_values, value_at};
@@ -13,7 +13,7 @@ use flat_code::Node;
 use m_fixed::Value;
 use std::sync::ledger::Ledger;
 
-/// A program with its edges: of each node those that read it, and of each input its nodes.
+/// A program with its edges: for each node its readers, and for each input its nodes.
 #[derive(Drop)]
 pub(crate) struct Graph<'a> {
     pub(crate) nodes: &'a [Node],
@@ -21,8 +21,9 @@ pub(crate) struct Graph<'a> {
     pub(crate) input_rows: &'a Rows,
 }
 
-/// Makes the values of all nodes those for these inputs, of which some were put since the values were right, and takes one step for
-/// each node that is touched. The marks are empty before and after. It takes no memory.
+/// Makes the kept values those for these inputs, in one step for each touched node. Before, the
+/// kept values are right except at the nodes of inputs that were set. No node is marked before or
+/// after. Takes no memory.
 pub(crate) fn settle_all<L: Ledger>(
     graph: &Graph,
     inputs: &[Value],
@@ -53,7 +54,7 @@ pub(crate) fn settle_all<L: Ledger>(
     }
 }
 
-// Evaluates a node anew, and marks the nodes that read it where its value differs.
+// Recomputes a node, and marks its readers if its value has changed.
 fn turn<L: Ledger>(
     graph: &Graph,
     inputs: &[Value],
@@ -79,7 +80,7 @@ fn turn<L: Ledger>(
     mark_where(changed, graph.readers.row(k), marks);
 }
 
-// Evaluates a node over its old value, and tells whether they differ.
+// Recomputes the value of a node, and returns whether it has changed.
 fn renew<L: Ledger>(
     node: Node,
     inputs: &[Value],
@@ -105,7 +106,7 @@ fn differ(a: &Value, b: &Value) -> bool
     a != b
 }
 
-// Marks the nodes of a row, if they are to be marked.
+// Marks the nodes of a row if `marked`.
 fn mark_where(marked: bool, row: &[u32], marks: &mut Bits)
     requires { (k : ℕ) → has row.now k ≡ true → k < length marks.old }
     ensures marks { (k : ℕ) → is_member marks.new k ≡ (is_member marks.old k || (marked && has row.now k)) }
@@ -127,7 +128,7 @@ fn mark_all(row: &[u32], marks: &mut Bits)
     }
 }
 
-// Marks the nodes of the inputs that were put.
+// Marks the nodes of the inputs that were set.
 fn mark_put(puts: &Bits, input_rows: &Rows, marks: &mut Bits)
     requires rows { length input_rows.now ≡ length puts.now }
     requires within { (p k : ℕ) → p < length puts.now → has (slice_index_or input_rows.now p []) k ≡ true → k < length marks.old }

@@ -19,8 +19,9 @@ use std::marker::Model;
 use std::snapshot::Snapshot;
 use std::sync::ledger::Ledger;
 
-/// The kept values of a flat program. Contracts see the program, the inputs of the last settled state, those of now, and which
-/// were put since then; nothing of values, marks or edges.
+/// The values of a flat program's nodes, kept between changes of inputs. Contracts see the program,
+/// the inputs of the last settled state, the current inputs, and which inputs were set since;
+/// neither values, marks nor edges.
 #[derive(Drop)]
 pub struct Sheet {
     tidy: Tidy,
@@ -28,12 +29,12 @@ pub struct Sheet {
     puts: Bits,
     // the value of each node in the last settled state
     kept: Vec<Value>,
-    // empty between two calls
+    // empty between calls
     marks: Bits,
-    // of each node those that look at it, and of each input its nodes
+    // for each node its readers, and for each input its nodes
     readers: Rows,
     input_rows: Rows,
-    // the inputs of the last settled state, for clauses alone: it takes no bytes
+    // the inputs of the last settled state, for contracts only: a ghost copy of no size
     last: Snapshot<Vec<Value>>,
 }
 
@@ -51,8 +52,9 @@ impl Model for Sheet {
 }
 
 impl Sheet {
-    /// The sheet of a tidy program, of which all inputs are undefined. It is settled. The program's arguments are numbered in 32 bits.
-    /// Its only error is running out of memory; no later call takes memory.
+    /// The sheet of a tidy program whose inputs are all undefined. It is settled. The edges, three
+    /// for each node, are numbered in 32 bits. The only error is running out of memory; no other
+    /// call takes memory.
     pub fn new(alloc: Global, tidy: Tidy) -> Result<Sheet, AllocError>
         requires { 3 * length tidy.nodes < 4_294_967_295 }
         ensures { IfOk result (λ sheet. sheet ≡ fresh tidy) }
@@ -78,7 +80,7 @@ impl Sheet {
         })
     }
 
-    /// Sets an input, by its number. It evaluates nothing.
+    /// Sets an input, by number. Recomputes and marks nothing.
     pub fn put(&mut self, input: u32, value: Value)
         requires { input < self.old.flat.inputs }
         ensures { self.new ≡ record self.old { now = slice_set self.old.now input value; put = slice_set self.old.put input true } }
@@ -87,8 +89,8 @@ impl Sheet {
         self.puts.insert(input);
     }
 
-    /// Makes the value of each node that for the inputs as they are now. It takes one step for each node that is touched between the
-    /// inputs of the last settled state and those of now, and no other.
+    /// Brings the values of all nodes up to date with the current inputs. Takes one step for each
+    /// node that is touched between the inputs of the last settled state and the current ones.
     pub fn settle<L: Ledger>(&mut self, steps: &mut Steps<L>)
         ensures after { self.new ≡ record self.old { settled = self.old.now; put = replicate (length self.old.put) false } }
         ensures cost { steps.new ≡ steps.old + touched self.old.flat.nodes self.old.put self.old.settled self.old.now }
@@ -110,8 +112,8 @@ impl Sheet {
         self.last = Snapshot::of(&self.inputs);
     }
 
-    /// Whether nothing was put since the last settled state. Outputs and stops can be read then; they can also where all that was put
-    /// is as it was.
+    /// Whether no input was set since the last settled state. Then outputs and stops can be read.
+    /// They can also be read if all inputs that were set have their former values again.
     pub fn settled(&self) -> bool
         ensures unput { IsTrue result ↔ (self.now.put ≡ replicate (length self.now.put) false) }
         ensures settled { IsTrue result → self.now.settled ≡ self.now.now }
@@ -122,7 +124,7 @@ impl Sheet {
         }
     }
 
-    /// The value of an input as it is now: the last one that was put, or undefined.
+    /// The current value of an input: the last one that was set, or undefined.
     pub fn input_value(&self, input: u32) -> Value
         requires { input < self.now.flat.inputs }
         ensures { result ≡ value_at self.now.now input }
@@ -130,7 +132,8 @@ impl Sheet {
         self.inputs[input as usize]
     }
 
-    /// The value of an output, by its number, where the inputs are those of the last settled state.
+    /// The value of an output, by number. The current inputs must be those of the last settled
+    /// state.
     pub fn output(&self, k: u32) -> Value
         requires settled { self.now.settled ≡ self.now.now }
         requires output { k < length self.now.flat.outputs }
@@ -140,7 +143,8 @@ impl Sheet {
         self.kept[node as usize]
     }
 
-    /// What stops a run for the inputs as they are now, where they are those of the last settled state: the first check that stops.
+    /// The stop of the first check that causes one. The current inputs must be those of the last
+    /// settled state.
     pub fn stop(&self) -> Option<Stop>
         requires { self.now.settled ≡ self.now.now }
         ensures { result ≡ first_stop (node_values self.now.now self.now.flat.nodes) self.now.flat.checks }

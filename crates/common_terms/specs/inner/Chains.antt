@@ -1,4 +1,5 @@
--- Nodes in buckets: those of one bucket are a chain, from the last one to the first.
+-- The hash table of nodes. The nodes of a bucket form a linked list, its chain, from the newest to
+-- the oldest.
 use Rattle.std.specs.Prelude.{◌≡◌, ℕ, zero, suc, ◌%◌, ◌<◌, ◌≤◌, nat_eq, List, length, slice_index_or, fold, if◌then◌else◌}
 use Rattle.std.specs.Hash.DefaultHasher as sip
 use Rattle.flat_code.specs.declared.program.Node.{Node}
@@ -7,7 +8,7 @@ use Rattle.flat_code.specs.inner.Hashing.{node_fed}
 use Rattle.common_terms.specs.declared.key.Key.{Key}
 use Rattle.common_terms.specs.declared.chains.Link.{Link}
 
--- the hash of what was fed after a key
+-- the hash of the fed data under a key
 abbrev pub hash_after : Key → List (List ℕ) → ℕ
 hash_after key fed = sip.finish (fold sip.write key.start fed) % 4_294_967_296
 
@@ -15,25 +16,28 @@ hash_after key fed = sip.finish (fold sip.write key.start fed) % 4_294_967_296
 abbrev pub node_hash : Key → Node → ℕ
 node_hash key node = hash_after key (node_fed node)
 
--- what is kept of node i
+-- the link of node i
 abbrev pub link_at : List Link → ℕ → Link
 link_at links i = slice_index_or links i (record { hash = 0; next = 0 })
 
--- the bucket of node i, where there are m
+-- the bucket of node i, of m buckets
 abbrev pub bucket_of : List Link → ℕ → ℕ → ℕ
 bucket_of links m i = (link_at links i).hash % m
 
--- The number after that of the last one below n that is in bucket b, where f gives the bucket of each, or 0 where none is.
+-- One more than the greatest number below n in bucket b, or 0 if there is none; f gives the bucket
+-- of each number.
 abbrev pub last_in : (ℕ → ℕ) → ℕ → ℕ → ℕ
 last_in f b zero = 0
 last_in f b (suc n) = if nat_eq (f n) b then suc n else last_in f b n
 
--- The first n nodes are in chains: each has the last one before it of its bucket, and each bucket its last one.
+-- The chains of the first n nodes are right: each link names the previous node of its bucket, and
+-- each head the last one.
 pub record AreChained (links : List Link) (heads : List ℕ) (n : ℕ) : Type 0 where
   pub next : (i : ℕ) → i < n → (link_at links i).next ≡ last_in (bucket_of links (length heads)) (bucket_of links (length heads) i) i
   pub head : (b : ℕ) → b < length heads → slice_index_or heads b 0 ≡ last_in (bucket_of links (length heads)) b n
 
--- The nodes are in chains, by their hashes under the key. There are no fewer buckets than nodes.
+-- The invariant of the table: the nodes are chained by their hashes under the key, and there are at
+-- least as many buckets as nodes.
 pub record IsTable (key : Key) (nodes : List Node) (links : List Link) (heads : List ℕ) : Type 0 where
   pub linked : length nodes ≤ length links
   pub room : length nodes ≤ length heads

@@ -1,4 +1,4 @@
--- The steps to the tidy form, and what they keep.
+-- The steps to the tidy form, and their invariants.
 use Rattle.std.specs.Prelude.{◌≡◌, ℕ, zero, suc, ◌<◌, ◌≤◌, Bool, true, false, ◌⊎◌, List, length, map, slice_index_or, if◌then◌else◌}
 use Rattle.m_fixed.specs.declared.amount.Value.{Value}
 use Rattle.flat_code.specs.declared.program.Node.{Node}
@@ -17,15 +17,16 @@ ReadsBelow k (Input n) = Unit {0}
 ReadsBelow k (Lit v) = Unit {0}
 ReadsBelow k (Do op a b c) = (a < k) × (b < k) × (c < k)
 
--- the number of a node by a table
+-- the new number of a node, by a table
 abbrev pub look : List ℕ → ℕ → ℕ
 look numbers x = slice_index_or numbers x 0
 
--- the program of these nodes, with the checks and outputs of another under other numbers
+-- the program of these nodes, with the checks and outputs of another, renumbered
 abbrev pub with_nodes : Flat → List Node → (ℕ → ℕ) → Flat
 with_nodes flat nodes m = record { inputs = flat.inputs; nodes = nodes; checks = map (moved m) flat.checks; outputs = map m flat.outputs }
 
--- The first i nodes were pushed into a builder with these nodes, under these numbers.
+-- The first i nodes were pushed into a builder, whose nodes are `built`; `numbers` maps each to its
+-- number there.
 pub record IsCarried (nodes : List Node) (i : ℕ) (built : List Node) (numbers : List ℕ) : Type 0 where
   pub size : length numbers ≡ i
   pub few : length built ≤ i
@@ -36,7 +37,7 @@ pub record IsCarried (nodes : List Node) (i : ℕ) (built : List Node) (numbers 
 abbrev pub is_live : List Bool → ℕ → Bool
 is_live live x = slice_index_or live x false
 
--- what is read is marked, and nothing else is
+-- the nodes that are read become marked, and no others
 pub record Marks (read : ℕ → Type 0) (old new : List Bool) : Type 0 where
   pub size : length new ≡ length old
   pub keeps : (x : ℕ) → is_live old x ≡ true → is_live new x ≡ true
@@ -51,14 +52,14 @@ IsAnOutput outputs i x = (j : ℕ) × (j < i) × (x ≡ slice_index_or outputs j
 abbrev pub IsOfACheck : List Check → ℕ → ℕ → Type 0
 IsOfACheck checks i x = (j : ℕ) × (j < i) × ReadsCheck (check_at checks j) x
 
--- What marked nodes from p on read is marked; all that is marked is reached.
+-- Everything that a marked node from p on reads is marked; every marked node is reached.
 pub record IsClosedFrom (flat : Flat) (p : ℕ) (old new : List Bool) : Type 0 where
   pub size : length new ≡ length old
   pub keeps : (x : ℕ) → is_live old x ≡ true → is_live new x ≡ true
   pub closed : (q x : ℕ) → p ≤ q → q < length flat.nodes → is_live new q ≡ true → Reads (node_at flat.nodes q) x → is_live new x ≡ true
   pub reached : (x : ℕ) → is_live new x ≡ true → IsReached flat x
 
--- the marked nodes are those that are reached
+-- exactly the reached nodes are marked
 pub record IsLive (flat : Flat) (live : ℕ → Bool) : Type 0 where
   pub roots : (x : ℕ) → IsRoot flat x → live x ≡ true
   pub closed : (q x : ℕ) → q < length flat.nodes → live q ≡ true → Reads (node_at flat.nodes q) x → live x ≡ true
@@ -69,7 +70,7 @@ abbrev pub rank : (ℕ → Bool) → ℕ → ℕ
 rank kept zero = 0
 rank kept (suc p) = if kept p then suc (rank kept p) else rank kept p
 
--- of the first i nodes those that are kept, each numbered by how many are kept before it
+-- the kept nodes among the first i, each numbered by the number of kept nodes before it
 pub record Kept (nodes : List Node) (kept : ℕ → Bool) (i : ℕ) (new : List Node) (numbers : List ℕ) : Type 0 where
   pub size : length numbers ≡ i
   pub count : length new ≡ rank kept i

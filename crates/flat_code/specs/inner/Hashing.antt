@@ -1,4 +1,4 @@
--- What is fed to a hash of a node.
+-- What a node feeds to a hasher.
 use Rattle.std.specs.Prelude.{ℕ, List, ◌++◌}
 use Rattle.std.specs.Hash as fed
 use denote.Enum.Declared.{tag_of}
@@ -14,7 +14,7 @@ value_fed Undef = fed.u8 1
 value_fed Over = fed.u8 2
 value_fed (Num z) = fed.u8 3 ++ fed.i128 z
 
--- the place of an operator among all, from 0
+-- the discriminant of an operator, from 0
 abbrev pub place_of : Op → ℕ
 place_of op = tag_of the_type op
 

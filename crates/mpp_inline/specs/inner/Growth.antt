@@ -1,4 +1,4 @@
--- What a flat program so far is worth, and what a step adds to it.
+-- What the program under construction computes, and what each step adds to it.
 use Rattle.std.specs.Prelude.{◌≡◌, ℕ, zero, suc, ◌+◌, ◌*◌, ◌<◌, ◌≤◌, Bool, true, false, pos, negsuc, if◌then◌else◌, List, [], ◌∷◌, ◌++◌, Option, Some, None}
 use Rattle.std.specs.Prelude.{map, length, replicate, slice_index_or, slice_set, option_and_then}
 use Rattle.std.specs.List.{AllByRecursion, cons_option}
@@ -47,7 +47,7 @@ count b = length b.nodes.items
 abbrev pub at : Builder → List Value → ℕ → Value
 at b inputs k = slice_index_or (node_values inputs b.nodes.items) k Undef
 
--- a stop, read through labels
+-- the cause of a stop, whose label is looked up
 abbrev pub read_stop : List FaceLabel → Stop → Cause
 read_stop labels stop = cause_of stop (slice_index_or labels (label_number stop) (DriverLine 0))
 
@@ -55,20 +55,21 @@ abbrev pub stop_read : List FaceLabel → Option Stop → Option Cause
 stop_read labels None = None
 stop_read labels (Some stop) = Some (read_stop labels stop)
 
--- the first stop so far
+-- the cause of the program's first stop, if any
 abbrev pub stop_of : Builder → List Value → Option Cause
 stop_of b inputs = stop_read b.labels.items (first_stop (node_values inputs b.nodes.items) b.checks.items)
 
--- the verification that a note of this label tells by its node's value, if it tells one
+-- the verification that a note reports, given its label and its node's value; none unless the value
+-- is a number other than 0
 abbrev pub note_read : FaceLabel → Value → Option Label
 note_read label value = if is_reported value then verif_of label else None
 
--- the verifications that notes tell, in order: each is a node and the number of a label
+-- the verifications that notes report, in order; a note is a node and the number of a label
 abbrev pub notes_read : List FaceLabel → (ℕ → Value) → List (ℕ × ℕ) → List Label
 notes_read labels values [] = []
 notes_read labels values (n ∷ ns) = cons_option (note_read (slice_index_or labels n.1 (DriverLine 0)) (values n.0)) (notes_read labels values ns)
 
--- what is told so far: the first stop, and the notes
+-- what the program reports so far: the cause of its first stop, and the noted verifications
 pub record SoFar : Type 0 where
   pub stop : Option Cause
   pub notes : List Label
@@ -76,7 +77,7 @@ pub record SoFar : Type 0 where
 abbrev pub so_far : Builder → List Value → SoFar
 so_far b inputs = record { stop = stop_of b inputs; notes = notes_read b.labels.items (at b inputs) b.notes.items }
 
--- the same, and then a stop and notes
+-- the same, followed by a stop and notes
 abbrev pub observed_more : SoFar → Option Cause → List Label → SoFar
 observed_more s cause notes = record { stop = option_or s.stop cause; notes = s.notes ++ notes }
 
@@ -87,22 +88,22 @@ denoted b inputs env = map (at b inputs) env
 abbrev pub outcome_of : SoFar → Env → RunState
 outcome_of s env = unless_stopped s.stop (goes s.notes env)
 
--- the run so far: its first stop, and else its notes and the values of the cells
+-- the state of the run so far: its first stop, otherwise its notes and the values of the cells
 abbrev pub run : Builder → List Value → List ℕ → RunState
 run b inputs env = outcome_of (so_far b inputs) (denoted b inputs env)
 
--- a check's nodes and its label are there
+-- a check's nodes and its label exist
 pub record IsCheckWithin (nodes labels : ℕ) (c : Guarded) : Type 0 where
   pub guard : c.guard < nodes
   pub condition : c.condition < nodes
   pub label : c.label < labels
 
--- a label that stands for a verification
+-- a label that names a verification
 abbrev pub IsVerif : FaceLabel → Type 0
 IsVerif (Verif label) = Unit {0}
 IsVerif (DriverLine line) = ⊥
 
--- a note's node and its label are there, and the label is a verification's
+-- a note's node exists, and its label exists and names a verification
 pub record IsNoteWithin (nodes : ℕ) (labels : List FaceLabel) (n : ℕ × ℕ) : Type 0 where
   pub node : n.0 < nodes
   pub label : n.1 < length labels
@@ -112,24 +113,26 @@ pub record IsNoteWithin (nodes : ℕ) (labels : List FaceLabel) (n : ℕ × ℕ)
 abbrev pub node_of : Builder → ℕ → Node
 node_of b k = node_at b.nodes.items k
 
--- A node that any other may read: it is there, and isn't an input of the type `Truth`, whose And stands for it.
+-- A node that every other may read: it exists, and isn't an input of type `Truth`, whose `And` is
+-- read instead.
 pub record IsUsable (b : Builder) (k : ℕ) : Type 0 where
   pub there : k < count b
   pub own : IsTruthInput b.inputs (node_of b k) → ⊥
 
--- a node that may be pushed: its input is there, or its arguments are usable
+-- a node that may be appended: its input exists, or its arguments are usable
 abbrev pub MayStand : Builder → Node → Type 0
 MayStand b (Input n) = n < length b.inputs
 MayStand b (Lit v) = Unit {0}
 MayStand b (Do op i j k) = IsUsable b i × IsUsable b j × IsUsable b k
 
--- what checks and notes read is usable, and a node reads an input of the type `Truth` only as its And
+-- checks and notes read usable nodes, and an input of type `Truth` is read only by its `And`
 pub record Fenced (b : Builder) : Type 0 where
   pub nodes : (p x : ℕ) → p < count b → Reads (node_of b p) x → IsTruthInput b.inputs (node_of b x) → node_of b p ≡ Do And x x x
   pub checks : AllByRecursion (λ c. IsUsable b c.guard × IsUsable b c.condition) b.checks.items
   pub notes : AllByRecursion (λ n. IsUsable b n.0) b.notes.items
 
--- What nodes, checks and notes name is there, and the first three nodes are undefined, 0 and 1.
+-- The invariant of the program under construction: the nodes and labels that nodes, checks and
+-- notes use exist, and the first three nodes are the literals undefined, 0 and 1.
 pub record Sane (b : Builder) : Type 0 where
   pub nodes : AreNodes (length b.inputs) 0 b.nodes.items
   pub fenced : Fenced b
@@ -145,13 +148,13 @@ pub record Sane (b : Builder) : Type 0 where
 pub record Known (b : Builder) (env : List ℕ) : Type 0 where
   pub all : AllByRecursion (IsUsable b) env
 
--- what a place needs that is reached where a guard is 1
+-- the preconditions of a point of the driver that is executed if a guard is 1
 pub record Placed (b : Builder) (env : List ℕ) (g : ℕ) : Type 0 where
   pub sane : Sane b
   pub known : Known b env
   pub guard : IsUsable b g
 
--- one node more
+-- one more node
 pub record Pushed (b c : Builder) (node : Node) (k : ℕ) : Type 0 where
   pub inputs : c.inputs ≡ b.inputs
   pub number : k ≡ count b
@@ -160,19 +163,19 @@ pub record Pushed (b c : Builder) (node : Node) (k : ℕ) : Type 0 where
   pub labels : c.labels.items ≡ b.labels.items
   pub notes : c.notes.items ≡ b.notes.items
 
--- one check more, with this label
+-- one more check, with this label
 pub record Checked (b c : Builder) (guard condition : ℕ) (over_only : Bool) (label : ℕ) : Type 0 where
   pub inputs : c.inputs ≡ b.inputs
   pub nodes : c.nodes.items ≡ b.nodes.items
   pub checks : c.checks.items ≡ b.checks.items ++ record { guard = guard; condition = condition; over_only = over_only; label = label } ∷ []
   pub notes : c.notes.items ≡ b.notes.items
 
--- a check of the rules, whose label is there
+-- one more check of the rules, whose label exists
 pub record CheckedRule (b c : Builder) (guard condition : ℕ) (over_only : Bool) (label : ℕ) : Type 0 where
   pub base : Checked b c guard condition over_only label
   pub labels : c.labels.items ≡ b.labels.items
 
--- one note more
+-- one more note
 pub record NotedAt (b c : Builder) (node label : ℕ) : Type 0 where
   pub inputs : c.inputs ≡ b.inputs
   pub nodes : c.nodes.items ≡ b.nodes.items
@@ -180,19 +183,19 @@ pub record NotedAt (b c : Builder) (node label : ℕ) : Type 0 where
   pub labels : c.labels.items ≡ b.labels.items
   pub notes : c.notes.items ≡ b.notes.items ++ (node, label) ∷ []
 
--- a check of the driver's line, with a label of its own
+-- one more check of a driver line, with a new label for the line
 pub record CheckedLine (b c : Builder) (guard condition line : ℕ) : Type 0 where
   pub base : Checked b c guard condition true (length b.labels.items)
   pub labels : c.labels.items ≡ b.labels.items ++ DriverLine line ∷ []
 
--- what a label stands for
+-- the label with this number
 abbrev pub face : Builder → ℕ → FaceLabel
 face b l = slice_index_or b.labels.items l (DriverLine 0)
 
 abbrev pub faces : Builder → ℕ
 faces b = length b.labels.items
 
--- the first labels are those of the rules, in order, and all others are lines
+-- the first labels are those of the rules, in order, and the others are driver lines
 pub record HasFaces (labels : List Label) (b : Builder) : Type 0 where
   pub within : length labels ≤ faces b
   pub same : (i : ℕ) (d : Label) → i < length labels → face b i ≡ Verif (slice_index_or labels i d)
@@ -202,7 +205,8 @@ pub record Ready (labels : List Label) (b : Builder) (env : List ℕ) (g : ℕ) 
   pub placed : Placed b env g
   pub labelled : HasFaces labels b
 
--- more nodes, the older ones keep their values, and new labels are lines
+-- the program has grown: the old nodes keep their values, the old labels are unchanged, and the new
+-- labels are driver lines
 pub record Longer (b c : Builder) : Type 0 where
   pub sane : Sane c
   pub inputs : c.inputs ≡ b.inputs
@@ -213,12 +217,13 @@ pub record Longer (b c : Builder) : Type 0 where
   pub keeps_face : (l : ℕ) → l < faces b → face c l ≡ face b l
   pub new_faces : (l : ℕ) → faces b ≤ l → IsDriverLine (face c l)
 
--- more nodes, and neither a check nor a note
+-- the program has grown by nodes and labels, and reports the same
 pub record Grows (b c : Builder) : Type 0 where
   pub base : Longer b c
   pub reported : (inputs : List Value) → so_far c inputs ≡ so_far b inputs
 
--- a node whose value, once the rest is computed, is that of the whole
+-- the remaining computation, applied to node k of the new program, gives the value of the whole
+-- computation
 pub record Along (b c : Builder) (rest : List Value → Value → Value) (whole : List Value → Value) (k : ℕ) : Type 0 where
   pub grows : Grows b c
   pub within : IsUsable c k
@@ -228,42 +233,43 @@ pub record Along (b c : Builder) (rest : List Value → Value → Value) (whole 
 abbrev pub Gives : Builder → Builder → (List Value → Value) → ℕ → Type 0
 Gives b c value k = Along b c (λ inputs v. v) value k
 
--- a node with the value of a term, where the cells are these nodes
+-- node k has the value of a term, for the cells of this environment
 abbrev pub TermStep : Builder → Builder → List ℕ → (Environment → Value) → ℕ → Type 0
 TermStep b c env term k = Gives b c (λ inputs. term (environment (denoted b inputs env))) k
 
--- what an environment is worth, once the rest is computed, is what the whole computes
+-- the remaining computation, applied to the new environment, gives what the whole computation gives
+-- for the old one
 pub record Computed (b c : Builder) (env env' : List ℕ) (rest whole : Env → Env) : Type 0 where
   pub grows : Grows b c
   pub known : Known c env'
   pub value : (inputs : List Value) → rest (denoted c inputs env') ≡ whole (denoted b inputs env)
 
--- The run so far, and then the rest, is the run before and then the whole, where this place is
--- reached. Where it isn't, neither a stop nor a note is added.
+-- If the guard is 1, the new run followed by the remaining computation is the old run followed by
+-- the whole computation. If it is 0, neither a stop nor a note is added.
 pub record Stage (b c : Builder) (guard : ℕ) (env env' : List ℕ) (rest whole : Env → RunState) : Type 0 where
   pub base : Longer b c
   pub known : Known c env'
   pub taken : (inputs : List Value) → at b inputs guard ≡ Num (pos 1000000) → then_do (run c inputs env') rest ≡ then_do (run b inputs env) whole
   pub idle : (inputs : List Value) → at b inputs guard ≡ Num (pos 0) → so_far c inputs ≡ so_far b inputs
 
--- two environments that differ at these cells alone
+-- two environments that differ at most at these cells
 pub record SameBut (xs : List ℕ) (env env' : List ℕ) : Type 0 where
   pub size : length env' ≡ length env
   pub same : (x : ℕ) → is_among x xs ≡ false → slice_index_or env' x 0 ≡ slice_index_or env x 0
 
--- the same, with these cells still to come
+-- the same inside a loop, whose remaining cells are `rest`
 pub record SameButSome (rest whole : List ℕ) (env env' : List ℕ) : Type 0 where
   pub size : length env' ≡ length env
   pub among : (x : ℕ) → is_among x whole ≡ false → is_among x rest ≡ false
   pub same : (x : ℕ) → is_among x whole ≡ false → slice_index_or env' x 0 ≡ slice_index_or env x 0
 
--- a stop where the condition is Over
+-- a stop if the condition's value is Over
 abbrev pub over_judged : ℕ → Value → Env → RunState
 over_judged line Undef env = goes [] env
 over_judged line (Num x) env = goes [] env
 over_judged line OverValue env = stops (over_driver line)
 
--- the condition of a choice, with the guards of its blocks
+-- the condition of an `if` and the guards of its two blocks
 pub record Opened (b c : Builder) (env : List ℕ) (g line : ℕ) (term : Environment → Value) (r : Branches) : Type 0 where
   pub stage : Stage b c g env env (λ e. goes [] e) (λ e. over_judged line (term (environment e)) e)
   pub first_within : IsUsable c r.first
@@ -273,7 +279,7 @@ pub record Opened (b c : Builder) (env : List ℕ) (g line : ℕ) (term : Enviro
   pub first : (inputs : List Value) → at c inputs r.first ≡ chosen (at c inputs r.truth) (at b inputs g) (Num (pos 0))
   pub second : (inputs : List Value) → at c inputs r.second ≡ chosen (at c inputs r.truth) (Num (pos 0)) (at b inputs g)
 
--- the same cells with the values of their nodes
+-- the same cells, with the values of their nodes
 abbrev pub entries : Builder → List Value → List (ℕ × ℕ) → List (ℕ × Value)
 entries b inputs ps = map (λ p. (p.0, at b inputs p.1)) ps
 
@@ -283,8 +289,8 @@ cells_of ps = map (λ p. p.0) ps
 pub record Held (b : Builder) (ps : List (ℕ × ℕ)) : Type 0 where
   pub all : AllByRecursion (λ p. IsUsable b p.1) ps
 
--- The given nodes at their cells where the truth is 1, once the rest of them is written, and no
--- change where it is 0.
+-- If the guard is 1, the new environment with the remaining entries written has the values of the
+-- old one with all entries written. If it is 0, the values are unchanged.
 pub record Merged (b c : Builder) (truth : ℕ) (rest whole : List (ℕ × ℕ)) (env env' : List ℕ) : Type 0 where
   pub grows : Grows b c
   pub known : Known c env'
@@ -292,21 +298,21 @@ pub record Merged (b c : Builder) (truth : ℕ) (rest whole : List (ℕ × ℕ))
       → written (entries b inputs rest) (denoted c inputs env') ≡ written (entries b inputs whole) (denoted b inputs env)
   pub second : (inputs : List Value) → at b inputs truth ≡ Num (pos 0) → denoted c inputs env' ≡ denoted b inputs env
 
--- the three literals, and neither a check nor a note
+-- the three literals and the labels of the rules, without a check or a note
 pub record HasLiterals (labels : List Label) (b : Builder) : Type 0 where
   pub sane : Sane b
   pub labelled : HasFaces labels b
   pub one : (inputs : List Value) → at b inputs 2 ≡ Num (pos 1000000)
   pub reported : (inputs : List Value) → so_far b inputs ≡ record { stop = None; notes = [] }
 
--- a node for each cell, with the values that the cells begin with
+-- a node for each cell, with the cell's initial value
 pub record Begun (b c : Builder) (start : List Value → Env) (env : List ℕ) : Type 0 where
   pub grows : Grows b c
   pub known : Known c env
   pub value : (inputs : List Value) → denoted c inputs env ≡ start inputs
 
--- What the first node of a variable is worth: for an input of the type `Truth` it is the `And` of the input with itself, which is the
--- input where that is undefined, 0 or 1.
+-- The initial value of an input variable: for type `Truth` it is the `And` of the input with
+-- itself, which equals the input if that is undefined, 0 or 1.
 abbrev pub typed_value : InputType → Value → Value
 typed_value Any value = value
 typed_value Whole value = value
@@ -316,23 +322,23 @@ abbrev pub begun_value : List Value → ℕ → VariableItem → Value
 begun_value inputs n item =
     if is_input item.role then typed_value (type_declared item.value_word) (slice_index_or inputs n Undef) else first_value inputs n item.role
 
--- what the first nodes of the cells of variables are worth, where the first input among them has this number
+-- the initial values of the cells of variables, whose first input has this number
 abbrev pub begun_from : List Value → ℕ → List Variable → Env
 begun_from inputs n [] = []
 begun_from inputs n (v ∷ vs) = replicate v.cells (begun_value inputs n v.item) ++ begun_from inputs (next_input n v.item.role) vs
 
--- the input with this number is there, and has this type
+-- the input with this number exists and has this type
 pub record HasInput (kinds : List InputType) (next : ℕ) (kind : InputType) : Type 0 where
   pub there : next < length kinds
   pub is : slice_index_or kinds next Any ≡ kind
 
--- the input of a variable that is one is there, with its type
+-- if the variable is an input, the input with this number exists and has this type
 abbrev pub InputIsThere : List InputType → ℕ → InputType → Role → Type 0
 InputIsThere kinds next kind (InputRole code) = HasInput kinds next kind
 InputIsThere kinds next kind (ComputedRole size) = Unit {0}
 InputIsThere kinds next kind (Constant amount) = Unit {0}
 
--- an input of this number is there, where there are so many
+-- if the variable is an input, its number is below the number of inputs
 abbrev pub IsAnInput : ℕ → ℕ → Role → Type 0
 IsAnInput inputs next (InputRole code) = next < inputs
 IsAnInput inputs next (ComputedRole size) = Unit {0}
@@ -345,30 +351,32 @@ kinds_from (v ∷ vs) = if is_input v.item.role then type_declared v.item.value_
 
 -- ---- tables
 
--- one of the first cells of a table, at an index that means it, and else this value; the last cells come first
+-- the value of the cell that the index selects among the first cells of a table, otherwise the
+-- given value; the last cell is tested first
 abbrev pub among_cells : Environment → ℕ → Value → ℕ → Value → Value
 among_cells values first index zero other = other
 among_cells values first index (suc n) other =
     among_cells values first index n (chosen (op_value At index (Num (pos (n * 1000000))) Undef) (values (first + n)) other)
 
--- what a table comes to at an index that means none of its cells: 0 where it is negative, and undefined past the last cell
+-- the value of a table at an index that selects no cell: 0 for a negative index, undefined past the
+-- last cell
 abbrev pub outside : Value → Value
 outside index = chosen (op_value Le index (Num (negsuc 999999)) Undef) (Num (pos 0)) Undef
 
 -- ---- the rules in turn
 
--- what a check of the rules does, by its condition's value
+-- the effect of a check of the rules, given its condition's value
 abbrev pub judged : List Label → ℕ → Value → Env → RunState
 judged labels number value env =
     unless_stopped (option_and_then (failure_cause labels) (failure_of value (kind_at labels number) number))
     (goes (cons_option (note_of labels value number) []) env)
 
--- the first check that stops, and the notes
+-- the effect of all checks in turn: the first stop, otherwise the notes
 abbrev pub checked : List Label → List Check → Env → RunState
 checked labels [] env = goes [] env
 checked labels (c ∷ cs) env = then_do (judged labels c.1 (term_value (environment env) c.0) env) (checked labels cs)
 
--- the definitions at these positions, computed one after the other
+-- the environment after the definitions at these positions are computed in turn
 abbrev pub computed : Base → List ℕ → Env → Env
 computed base [] env = env
 computed base (p ∷ later) env = computed base later (slice_set env (target_at base p) (term_value (environment env) (term_at base p)))
@@ -377,7 +385,7 @@ abbrev pub rules_in_turn : Base → List ℕ → List ℕ → Env → RunState
 rules_in_turn base sequence received env =
     then_do (checked base.labels base.checks (computed base sequence env)) (λ values. goes [] (with_values received (environment values) env))
 
--- what calls and blocks do, where the definitions are computed one after the other
+-- the meaning of calls and blocks, if the definitions are computed in this sequence
 abbrev pub calls : Core → Base → List ℕ → ℕ → ℕ → Env → RunState
 calls core base sequence depth = called (rules_in_turn base sequence) core.bodies depth
 

@@ -1,4 +1,4 @@
--- What a program tells at its end.
+-- The observation of a finished program.
 use Rattle.std.specs.Prelude.{◌≡◌, ℕ, List, ◌++◌, Option, Some, None, map, length}
 use Rattle.std.specs.List.{AllByRecursion}
 use Rattle.m_fixed.specs.declared.amount.Value.{Value}
@@ -13,7 +13,7 @@ use Rattle.driver_core.specs.Inputs.{inputs_declared}
 use Rattle.mpp_inline.specs.declared.builder.Builder.{Builder}
 use Rattle.mpp_inline.specs.inner.Growth.{at, SoFar, so_far, Sane, HasFaces, IsUsable, kinds_from}
 
--- the stop if there is one, and else these notes and values
+-- the observation of a stop if there is one, otherwise of these notes and values
 abbrev pub ended : Option Cause → List Label → List Value → Observation
 ended None notes vs = values notes vs
 ended (Some cause) notes vs = stopped cause
@@ -28,7 +28,8 @@ nodes_of notes = map (λ n. n.0) notes
 abbrev pub numbers_of : List (ℕ × ℕ) → List ℕ
 numbers_of notes = map (λ n. n.1) notes
 
--- a whole program with these outputs, the notes and then what was asked for, which tells what the driver answers
+-- a finished program whose outputs are the notes, then the requested cells, and whose observation
+-- is the driver's answer
 pub record Answers (core : Core) (base : Base) (declared : Declared) (requests : List ℕ) (b : Builder) (outputs : List ℕ) : Type 0 where
   pub sane : Sane b
   pub labelled : HasFaces base.labels b

@@ -1,17 +1,18 @@
--- A driver without its calls of the rules, which change nothing where a base has neither definitions nor checks.
+-- A driver without its calls of the rules. If a base has neither definitions nor checks, such a
+-- call changes nothing.
 use Rattle.std.specs.Prelude.{◌≡◌, List, [], ◌∷◌, ◌++◌, map}
 use Rattle.micro_m.specs.declared.base.Base.{Base}
 use Rattle.driver_core.specs.declared.program.Core.{Core}
 use Rattle.driver_core.specs.Actions.{Action, assign, clear, branch, partition, call, solve, Block, no_actions, an_action}
 use Rattle.driver_core.specs.ActionView.{block_of}
 
--- a base with neither definitions nor checks
+-- a base without definitions and checks
 pub record IsRuleless (base : Base) : Type 0 where
   pub definitions : base.definitions ≡ []
   pub checks : base.checks ≡ []
 
 abbrev mutual
-  -- what is left of a command without the calls of the rules in it: nothing, where it is one
+  -- a command without the calls of the rules in it; nothing, if it is such a call
   pub left : Action → List Action
   left (assign line c term) = assign line c term ∷ []
   left (clear line c) = clear line c ∷ []
@@ -20,12 +21,12 @@ abbrev mutual
   left (call line names received function) = call line names received function ∷ []
   left (solve line names received) = []
 
-  -- what is left of a block, after these commands
+  -- these commands, followed by the block without its calls of the rules
   pub left_behind : List Action → Block → List Action
   left_behind before no_actions = before
   left_behind before (an_action action rest) = left_behind (before ++ left action) rest
 
--- what is left of the bodies of functions
+-- the bodies of functions without their calls of the rules
 abbrev pub body_left : List Action → List Action
 body_left body = left_behind [] (block_of body)
 

@@ -1,4 +1,5 @@
--- How large a program so far is, and how much is left: its weight, and the turns that the loop takes.
+-- Sizes: of the program under construction, of the work list (its weight), and of the number of
+-- iterations of the main loop (its turns).
 use Rattle.std.specs.Prelude.{ℕ, zero, suc, ◌+◌, List, [], ◌∷◌, length}
 use Rattle.micro_m.specs.declared.base.Base.{Base}
 use Rattle.micro_m.specs.Bases.{term_at}
@@ -11,18 +12,18 @@ use Rattle.mpp_inline.specs.declared.work.Work.{Work}
 use Rattle.mpp_inline.specs.declared.work.Work.TheVariants.{Run, Under, Restore, Return}
 use Rattle.mpp_inline.specs.inner.Work.{Whole}
 
--- the nodes, the checks, the labels and the notes
+-- the number of nodes, checks, labels and notes
 abbrev pub load : Builder → ℕ
 load b = length b.nodes.items + length b.checks.items + length b.labels.items + length b.notes.items
 
 -- ---- weights
 
--- what the definitions at these positions weigh
+-- the weight of the definitions at these positions
 abbrev pub positions_weight : Base → List ℕ → ℕ
 positions_weight base [] = 0
 positions_weight base (p ∷ ps) = tree_weight (term_at base p) + 1 + positions_weight base ps
 
--- what a function's body costs, and a command and a block, where calls may be nested so deep
+-- the weight of a function's body, of a command and of a block, at this depth of calls
 abbrev pub body_size : Whole → ℕ → ℕ → ℕ
 body_size whole depth = body_weight (base_weight whole.ordered.base) whole.ordered.base.cells whole.core.bodies depth
 
@@ -44,10 +45,10 @@ left_weight whole (w ∷ ws) = work_weight whole w + left_weight whole ws
 
 -- ---- turns
 
--- where bodies of functions take so many turns
+-- given the turns of the body of each function
 module _ (body : ℕ → ℕ) where
   abbrev mutual
-    -- the turns of what a command leaves
+    -- the turns of the items that a command pushes
     pub turns : Action → ℕ
     turns (assign line c term) = 0
     turns (clear line c) = 0
@@ -56,7 +57,8 @@ module _ (body : ℕ → ℕ) where
     turns (call line names received function) = body function + 1
     turns (solve line names received) = 0
 
-    -- the turns of a block: one for each command and one for its end, and those of what they leave
+    -- the turns of a block: one for each command, one for its end, and those of the items that its
+    -- commands push
     pub turns_all : Block → ℕ
     turns_all no_actions = 1
     turns_all (an_action action rest) = turns action + turns_all rest + 1

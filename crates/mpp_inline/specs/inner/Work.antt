@@ -1,4 +1,4 @@
--- What is left to do, as a change of a point of the run, and what a step keeps.
+-- The meaning of the work list, and the invariant of a step.
 use Rattle.std.specs.Prelude.{◌≡◌, ℕ, pos, List, [], ◌∷◌, ◌⊎◌, if◌then◌else◌}
 use Rattle.std.specs.List.{AllByRecursion}
 use Rattle.m_fixed.specs.declared.amount.Value.{Value}
@@ -17,11 +17,11 @@ use Rattle.mpp_inline.specs.declared.work.Work.{Work}
 use Rattle.mpp_inline.specs.declared.work.Work.TheVariants.{Run, Under, Restore, Return}
 use Rattle.mpp_inline.specs.inner.Growth.{at, denoted, run, entries, IsUsable, Known, Held, Ready, Longer, means, means_one}
 
--- what counts where a guard is 1
+-- the run, followed by `next` if the guard is 1
 abbrev pub under : Value → RunState → (Env → RunState) → RunState
 under guard outcome next = if is_one guard then then_do outcome next else outcome
 
--- the value of a guard, and the run so far
+-- a point of the run: the value of the current guard, and the state so far
 pub record Point : Type 0 where
   pub guard : Value
   pub far : RunState
@@ -29,7 +29,7 @@ pub record Point : Type 0 where
 abbrev pub point : Builder → List Value → List ℕ → ℕ → Point
 point b inputs env g = record { guard = at b inputs g; far = run b inputs env }
 
--- a driver with its rules
+-- a driver and its ordered rules
 pub record Whole : Type 0 where
   pub core : Core
   pub ordered : Ordered
@@ -40,14 +40,14 @@ whole_of core ordered = record { core = core; ordered = ordered }
 abbrev pub whole_by : Driver → Whole
 whole_by driver = whole_of driver.core.now driver.ordered.now
 
--- what commands do, where the definitions are computed one after the other
+-- the meaning of commands, if the definitions are computed in the order of the rules
 abbrev pub does : Whole → ℕ → List Action → Env → RunState
 does whole depth block = means whole.core whole.ordered.base whole.ordered.sequence depth (block_of block)
 
 abbrev pub does_one : Whole → ℕ → Action → Env → RunState
 does_one whole depth action = means_one whole.core whole.ordered.base whole.ordered.sequence depth action
 
--- an item that is done
+-- the point after an item is processed
 abbrev pub done : Whole → Builder → List Value → Work → Point → Point
 done whole b inputs (Run depth block) p = record { guard = p.guard; far = under p.guard p.far (does whole depth block.now) }
 done whole b inputs (Under k) p = record { guard = at b inputs k; far = p.far }
@@ -55,48 +55,48 @@ done whole b inputs (Restore before) p = record { guard = p.guard; far = then_do
 done whole b inputs (Return cells outer)
     p = record { guard = p.guard; far = then_do p.far (λ e. goes [] (with_values cells.now (environment e) (denoted b inputs outer.items))) }
 
--- all items, the last first
+-- the point after all items are processed, the head of the list last
 abbrev pub finish : Whole → Builder → List Value → List Work → Point → Point
 finish whole b inputs [] p = p
 finish whole b inputs (w ∷ ws) p = done whole b inputs w (finish whole b inputs ws p)
 
--- a point after one command
+-- the point after one command
 abbrev pub ahead : Whole → Builder → List Value → List ℕ → ℕ → ℕ → Action → Point
 ahead whole b inputs env g depth a = record { guard = at b inputs g; far = under (at b inputs g) (run b inputs env) (does_one whole depth a) }
 
--- a point after a block
+-- the point after a block
 abbrev pub block_ahead : Whole → Builder → List Value → List ℕ → ℕ → ℕ → List Action → Point
 block_ahead whole b inputs env g depth block = record { guard = at b inputs g; far = under (at b inputs g) (run b inputs env) (does whole depth block) }
 
 abbrev pub IsBit : Value → Type 0
 IsBit v = (v ≡ Num (pos 0)) ⊎ (v ≡ Num (pos 1000000))
 
--- a guard is usable, and is 0 or 1
+-- a guard: a usable node whose value is 0 or 1
 pub record Guarding (b : Builder) (k : ℕ) : Type 0 where
   pub within : IsUsable b k
   pub bit : (inputs : List Value) → IsBit (at b inputs k)
 
--- what an item names is usable
+-- the nodes in an item are usable
 abbrev pub Kept : Builder → Work → Type 0
 Kept b (Run depth block) = Unit {0}
 Kept b (Under k) = Guarding b k
 Kept b (Restore before) = Held b before.items
 Kept b (Return cells outer) = Known b outer.items
 
--- a place, with this left to do
+-- the invariant of the main loop: program, environment, guard and work list
 pub record Standing (whole : Whole) (b : Builder) (env : List ℕ) (g : ℕ) (ws : List Work) : Type 0 where
   pub ready : Ready whole.ordered.base.labels b env g
   pub bit : (inputs : List Value) → IsBit (at b inputs g)
   pub left : AllByRecursion (Kept b) ws
 
--- The program grows, and what is left comes to the same from its new place as the old list from the
--- target.
+-- A step keeps the final point: the new work list, run from the new point, reaches the same final
+-- point as the old work list, run from `target`.
 pub record Moves (whole : Whole) (b c : Builder) (env : List ℕ) (g : ℕ) (ws ws' : List Work) (target : List Value → Point) : Type 0 where
   pub base : Longer b c
   pub standing : Standing whole c env g ws'
   pub same : (inputs : List Value) → finish whole c inputs ws' (point c inputs env g) ≡ finish whole b inputs ws (target inputs)
 
--- a change that counts where a guard is 1
+-- a change of the environment that takes effect only if the guard is 1
 pub record Step (b c : Builder) (g : ℕ) (env env' : List ℕ) (next : Env → RunState) : Type 0 where
   pub base : Longer b c
   pub known : Known c env'

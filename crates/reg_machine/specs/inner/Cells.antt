@@ -1,4 +1,4 @@
--- What an instruction that is kept does with the registers, the slots that are used, and the outputs.
+-- The effect of a packed instruction on the registers, the used slots and the outputs.
 use Rattle.std.specs.Prelude.{◌≡◌, ℕ, ◌<◌, List, slice_index_or, slice_index, slice_set, map, length, drop, Option, None, if◌then◌else◌}
 use Rattle.m_fixed.specs.declared.amount.Value.{Value}
 use Rattle.m_fixed.specs.declared.amount.Value.TheVariants.{Undef}
@@ -45,7 +45,7 @@ outputs_behind registers outputs (Load r k) = outputs
 outputs_behind registers outputs (Check g r over_only label) = outputs
 outputs_behind registers outputs (Output k r) = slice_set outputs k (at registers r)
 
--- what ends the run at an instruction
+-- the stop of an instruction, if any
 abbrev pub stop_behind : List Value → Packed → Option Stop
 stop_behind registers (Take r n) = None
 stop_behind registers (Lit r k) = None
@@ -55,7 +55,7 @@ stop_behind registers (Load r k) = None
 stop_behind registers (Check g r over_only label) = if is_one (at registers g) then stop_of over_only label (at registers r) else None
 stop_behind registers (Output k r) = None
 
--- the cells have what a machine that hasn't ended has
+-- the cells have the values of a machine whose run hasn't ended
 pub record Mirrors (used : List ℕ) (m : Machine) (rs ss os : List Value) : Type 0 where
   pub width : length rs ≡ REGISTERS
   pub room : length ss ≡ length used
@@ -64,7 +64,8 @@ pub record Mirrors (used : List ℕ) (m : Machine) (rs ss os : List Value) : Typ
   pub outputs : os ≡ m.outputs
   pub going : m.ended ≡ None
 
--- what a machine does from place i on of instructions that are kept is what another does with all of them
+-- the loop invariant of a run: from the current machine, the instructions from place i on do what
+-- all instructions do from the first one
 pub record GoesOn (inputs pool : List Value) (used : List ℕ) (packed : List Packed) (first : Machine) (i : ℕ) (rs ss os : List Value) : Type 0 where
   pub now : Machine
   pub mirrors : Mirrors used now rs ss os

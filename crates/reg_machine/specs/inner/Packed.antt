@@ -1,4 +1,4 @@
--- Instructions as code keeps them: literals stand in a pool, and slots that are used have numbers of their own.
+-- Packed instructions: literals are in a pool, and the used slots are numbered among themselves.
 use Rattle.std.specs.Prelude.{◌≡◌, ℕ, ◌+◌, ◌<◌, ◌≤◌, ◌⊎◌, Bool, true, false, List, slice_index_or, slice_index, map, length, Some, None, is_some}
 use Rattle.std.specs.List.{AllByRecursion}
 use Rattle.std.specs.Ordering.{nat_cmp}
@@ -15,7 +15,7 @@ use Rattle.reg_machine.specs.declared.code.Parts.{Parts}
 use Rattle.reg_machine.specs.declared.code.Packed.TheVariants.{Take as Takes, Lit as Lits, Do as Does, Store as Stores, Load as Loads, Check as Checks}
 use Rattle.reg_machine.specs.declared.code.Packed.TheVariants.{Output as Outputs}
 
--- the instruction, by the pool and the slots that are used
+-- the instruction, given the pool and the used slots
 abbrev pub unpacked : List Value → List ℕ → Packed → Instr
 unpacked pool slots (Takes r n) = Take r n
 unpacked pool slots (Lits r at) = Lit r (slice_index_or pool at Undef)
@@ -25,7 +25,7 @@ unpacked pool slots (Loads r k) = Load r (slice_index slots k)
 unpacked pool slots (Checks g r over_only label) = Check g r over_only label
 unpacked pool slots (Outputs k r) = Output k r
 
--- its numbers are below these counts
+-- the numbers of a packed instruction are below these counts
 abbrev pub IsPacked : ℕ → ℕ → ℕ → ℕ → Packed → Type 0
 IsPacked inputs outputs pool slots (Takes r n) = (r < REGISTERS) × (n < inputs)
 IsPacked inputs outputs pool slots (Lits r at) = (r < REGISTERS) × (at < pool)
@@ -35,7 +35,7 @@ IsPacked inputs outputs pool slots (Loads r k) = (r < REGISTERS) × (k < slots)
 IsPacked inputs outputs pool slots (Checks g r over_only label) = (g < REGISTERS) × (r < REGISTERS)
 IsPacked inputs outputs pool slots (Outputs k r) = (k < outputs) × (r < REGISTERS)
 
--- its places in the pool and among the slots are below these counts
+-- its places in the pool and among the used slots are below these counts
 abbrev pub IsUnder : ℕ → ℕ → Packed → Type 0
 IsUnder pool slots (Takes r n) = Unit {0}
 IsUnder pool slots (Lits r at) = at < pool
@@ -45,38 +45,39 @@ IsUnder pool slots (Loads r k) = k < slots
 IsUnder pool slots (Checks g r over_only label) = Unit {0}
 IsUnder pool slots (Outputs k r) = Unit {0}
 
--- the code that is kept so
+-- the code that is packed
 abbrev pub listing_of : ℕ → ℕ → ℕ → ℕ → List Value → List ℕ → List Packed → Listing
 listing_of inputs slots labels outputs pool used packed = record {
   counts = record { inputs = inputs; slots = slots; labels = labels; outputs = outputs };
   instrs = map (unpacked pool used) packed;
 }
 
--- a number stands in a list
+-- a list contains a number
 abbrev pub IsAmong : ℕ → List ℕ → Type 0
 IsAmong k slots = (d : ℕ) × (d < length slots) × (slice_index slots d ≡ k)
 
--- no number stands twice in a list
+-- no number occurs twice in a list
 abbrev pub AreDistinct : List ℕ → Type 0
 AreDistinct slots = (i j : ℕ) → i < length slots → j < length slots → slice_index slots i ≡ slice_index slots j → i ≡ j
 
--- Code with which nothing is wrong, as it is kept.
+-- Packed code without an error.
 pub record AreParts (code : Listing) (parts : Parts) : Type 0 where
   pub listing : listing_of code.counts.inputs code.counts.slots code.counts.labels code.counts.outputs parts.pool.now parts.used.now parts.packed.now ≡ code
   pub right : code_fault code ≡ None
   pub packed : AllByRecursion (IsPacked code.counts.inputs code.counts.outputs (length parts.pool.now) (length parts.used.now)) parts.packed.now
   pub distinct : AreDistinct parts.used.now
 
--- each slot that is used has its place among them as its number
+-- each used slot is mapped to its place in the list
 pub record IsNumbered (numbers : BTreeMap ℕ ℕ) (used : List ℕ) : Type 0 where
   pub found : (k d : ℕ) → get nat_cmp numbers k ≡ Some d → (d < length used) × (slice_index used d ≡ k)
   pub all : (d : ℕ) → d < length used → get nat_cmp numbers (slice_index used d) ≡ Some d
 
--- nothing is wrong with an instruction after code with which nothing is
+-- an instruction that can be appended to valid code
 abbrev pub IsRight : Listing → Instr → Type 0
 IsRight code instr = wrong_behind code instr ≡ None
 
--- What a builder knows: what the code so far spells, which registers were written, and which outputs were given.
+-- The invariant of a builder: the code so far is valid, and the builder has which registers and
+-- slots were written and which outputs were set.
 pub record IsDraft (code : Listing) (kept : List Packed) (pool : List Value) (used : List ℕ) (written : List Bool) (outputs : BTreeSet ℕ) : Type 0 where
   pub state : State
   pub read : reading code ≡ Some state
@@ -90,7 +91,7 @@ pub record IsDraft (code : Listing) (kept : List Packed) (pool : List Value) (us
   pub count : length state.outputs ≡ code.counts.outputs
   pub given : (k : ℕ) → contains nat_cmp outputs k ≡ is_some (slice_index_or state.outputs k None)
 
--- one more slot may be among those that are used
+-- at most slot k was added to the used slots, at the end
 pub record Grown (used more : List ℕ) (k : ℕ) : Type 0 where
   pub same : (d : ℕ) → d < length used → slice_index more d ≡ slice_index used d
   pub longer : length used ≤ length more

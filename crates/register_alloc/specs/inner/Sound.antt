@@ -19,7 +19,7 @@ use Rattle.register_alloc.specs.Allocation.{spills_of, IsStoredTo}
 use Rattle.register_alloc.specs.inner.Tables.{look, In, is_live, is_busy, Tables}
 use Rattle.register_alloc.specs.inner.Valid.{IsInput}
 
--- how far the allocator has come
+-- the progress of the allocator, within the limits
 pub record Order (flat : Flat) (made read checked : ℕ) : Type 0 where
   pub few_nodes : length flat.nodes ≤ MOST
   pub few_checks : length flat.checks ≤ MOST
@@ -29,11 +29,12 @@ pub record Order (flat : Flat) (made read checked : ℕ) : Type 0 where
   pub checked_within : checked ≤ length flat.checks
   pub late : checked < length flat.checks → read ≤ suc (moment_from 0 flat.checks checked)
 
--- a node was stored n times: never, or once, and then it is in a slot as long as it is live
+-- a node was stored n times: never, or once, and then it is in a slot while it is live
 abbrev pub Once : ℕ → ℕ → ℕ → (ℕ → Bool) → (ℕ → Option ℕ) → Type 0
 Once n x made live s = (n ≡ 0) ⊎ ((n ≡ 1) × (x < made) × (live x ≡ true → In s x))
 
--- The counts are those of the program, and any slot may stand there. What the program's inputs and labels are is below them.
+-- The counts of the code are those of the program, with the greatest number of slots. The program's
+-- inputs and labels are below them.
 pub record Counted (flat : Flat) (counts : Counts) : Type 0 where
   pub inputs : counts.inputs ≡ flat.inputs
   pub slots : counts.slots ≡ 4294967295
@@ -41,8 +42,9 @@ pub record Counted (flat : Flat) (counts : Counts) : Type 0 where
   pub takes : (p : ℕ) (node : Node) → p < length flat.nodes → IsInput counts.inputs (slice_index_or flat.nodes p node)
   pub labels : (j : ℕ) (check : Check) → j < length flat.checks → (slice_index_or flat.checks j check).label < counts.labels
 
--- What the code so far spells, where it has `count` slots or more: the first nodes and checks, these outputs, and what the
--- tables say. It stores to each of the `count` slots.
+-- The code so far, with `count` slots or more, denotes the first nodes and checks and these
+-- outputs; the tables have the nodes that its registers and slots hold; and it stores to each of
+-- the `count` slots.
 pub record Spells (flat : Flat) (made checked : ℕ) (given : List (Option ℕ)) (code : Listing) (r s : ℕ → Option ℕ) (count : ℕ) (live : ℕ → Bool) : Type 0 where
   pub state : State
   pub counted : Counted flat code.counts
@@ -56,7 +58,7 @@ pub record Spells (flat : Flat) (made checked : ℕ) (given : List (Option ℕ))
   pub outputs : state.outputs ≡ given
   pub stored : (x : ℕ) → Once (state.stored x) x made live s
 
--- there are no more slots than the width, and none are needed where the registers are enough
+-- there are at most as many slots as the width, and none if the registers suffice
 pub record Few (flat : Flat) (code : Listing) (slots : ℕ) : Type 0 where
   pub within : slots ≤ width_of flat
   pub direct : width_of flat ≤ REGISTERS → (slots ≡ 0) × (spills_of code ≡ 0)
@@ -67,15 +69,15 @@ pub record Sound (flat : Flat) (made read checked : ℕ) (outputs : List (Option
   pub spelled : Spells flat made checked outputs code r s slots (is_live flat made read checked)
   pub few : Few flat code slots
 
--- the outputs that are given before node p
+-- the outputs that are set before node p
 abbrev pub given_before : ℕ → List ℕ → List (Option ℕ)
 given_before p outputs = map (λ x. if nat_lt x p then Some x else None) outputs
 
--- the invariant, where these outputs were given
+-- the invariant, if these outputs are set
 abbrev pub IsSoundWith : Flat → Moment → List (Option ℕ) → Room → Type 0
 IsSoundWith flat at outputs room = Sound flat at.made at.read at.checked outputs room.code (look room.registers) (look room.slots) (length room.slots)
 
--- the invariant, where the outputs of the nodes so far were given
+-- the invariant, if exactly the outputs of the nodes so far are set
 abbrev pub IsSound : Flat → Moment → Room → Type 0
 IsSound flat at room = IsSoundWith flat at (given_before at.made flat.outputs) room
 
@@ -87,15 +89,15 @@ live_at flat at = is_live flat at.made at.read at.checked
 abbrev pub AllBusy : Flat → Moment → Room → Type 0
 AllBusy flat at room = (k : ℕ) → k < REGISTERS → is_busy (live_at flat at) (look room.registers k) ≡ true
 
--- register k, if there is one, holds a live node
+-- register k holds a live node, or isn't a register
 abbrev pub IsKept : Flat → Moment → Room → ℕ → Type 0
 IsKept flat at room k = k < REGISTERS → is_busy (live_at flat at) (look room.registers k) ≡ true
 
--- register k may be written: if it holds a live node, that is in a slot
+-- register k may be overwritten: if it holds a live node, this node is also in a slot
 abbrev pub IsSpare : Flat → Moment → Room → ℕ → Type 0
 IsSpare flat at room k = (k < REGISTERS) × ((x : ℕ) → look room.registers k ≡ Some x → live_at flat at x ≡ true → In (look room.slots) x)
 
--- the arguments of a node stand in these registers, of which those past the arity are the first
+-- these registers hold the arguments of a node; those past the arity equal the first
 abbrev pub HasSources : (ℕ → Option ℕ) → Node → Sources → Type 0
 HasSources r (Input n) s = Unit {0}
 HasSources r (Lit v) s = Unit {0}
@@ -108,16 +110,16 @@ instr_of (Input n) k s = Take k n
 instr_of (Lit v) k s = TakeLit k v
 instr_of (Do op a b c) k s = TakeDo op k s.first s.second s.third
 
--- Slots lose nodes that are read and not live, and nothing else.
+-- Slots are freed only of nodes that were read and aren't live.
 pub record Cleared (read live : ℕ → Bool) (old new : ℕ → Option ℕ) : Type 0 where
   pub stays : (k y : ℕ) → old k ≡ Some y → live y ≡ true → new k ≡ Some y
   pub only : (k y : ℕ) → new k ≡ Some y → (old k ≡ Some y) × (read y ≡ true → live y ≡ true)
 
--- the outputs once the first k were looked at at node p
+-- the outputs that are set when the first k outputs have been compared with node p
 abbrev pub given_part : ℕ → ℕ → List ℕ → List (Option ℕ)
 given_part p k outputs = given_before (suc p) (take k outputs) ++ given_before p (drop k outputs)
 
--- every check that is ready is done
+-- every check whose nodes are made is done
 abbrev pub IsSettled : Flat → ℕ → ℕ → Type 0
 IsSettled flat made checked = checked < length flat.checks → made ≤ moment_from 0 flat.checks checked
 
@@ -129,16 +131,16 @@ nodes_read flat made x = sum_by (reads_by x) (take made flat.nodes)
 abbrev pub checks_read : Flat → ℕ → ℕ → ℕ
 checks_read flat checked x = sum_by (tests_by x) (take checked flat.checks)
 
--- how many outputs are given
+-- the number of outputs that are set
 abbrev pub count_some : List (Option ℕ) → ℕ
 count_some [] = 0
 count_some (None ∷ outputs) = count_some outputs
 count_some (Some x ∷ outputs) = suc (count_some outputs)
 
--- how many outputs are given before node p
+-- the number of outputs that are set before node p
 abbrev pub count_given : ℕ → List ℕ → ℕ
 count_given p outputs = count_some (given_before p outputs)
 
--- A node takes at most eight instructions, a check five and an output one.
+-- A node takes at most eight instructions, a check at most five, and an output one.
 abbrev pub IsShort : Flat → Moment → List Instr → Type 0
 IsShort flat at instrs = length instrs ≤ 8 * at.made + 5 * at.checked + count_given at.made flat.outputs

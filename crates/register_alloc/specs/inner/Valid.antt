@@ -1,4 +1,4 @@
--- What the allocator needs of a program, place by place.
+-- What the allocator requires of a program.
 use Rattle.std.specs.Prelude.{◌≡◌, ℕ, ◌<◌, ◌≤◌, true, All, slice_index_or, length}
 use Rattle.flat_code.specs.declared.program.Node.{Node}
 use Rattle.flat_code.specs.declared.program.Node.TheVariants.{Input, Lit, Do}
@@ -8,13 +8,14 @@ use Rattle.flat_code.specs.Tidy.{IsNormal}
 use Rattle.register_alloc.specs.declared.moment.TheConstants.{MOST}
 use Rattle.register_alloc.specs.Width.{reads, check_reads}
 
--- the inputs of a node are below a count
+-- an input of a node is below the count
 abbrev pub IsInput : ℕ → Node → Type 0
 IsInput inputs (Input n) = n < inputs
 IsInput inputs (Lit v) = Unit {0}
 IsInput inputs (Do op a b c) = Unit {0}
 
--- Arguments are earlier nodes, those past the arity equal the first, and what checks and outputs read are nodes.
+-- Arguments are earlier nodes, those past the arity equal the first, and checks and outputs read
+-- nodes that exist.
 pub record IsValid (flat : Flat) : Type 0 where
   pub nodes : (p x : ℕ) (node : Node) → p < length flat.nodes → reads x (slice_index_or flat.nodes p node) ≡ true → x < p
   pub inputs : (p : ℕ) (node : Node) → p < length flat.nodes → IsInput flat.inputs (slice_index_or flat.nodes p node)

@@ -1,4 +1,4 @@
--- What is true of a sheet, and of its parts while it is settled.
+-- The invariants of a sheet: between calls, and during a settle.
 use Rattle.std.specs.Prelude.{◌≡◌, ℕ, ◌+◌, ◌*◌, ◌<◌, ◌≤◌, Bool, false, List, length, replicate, take, count_by}
 use Rattle.dirty_set.specs.Members.{is_member}
 use Rattle.m_fixed.specs.declared.amount.Value.{Value}
@@ -8,8 +8,8 @@ use Rattle.flat_code.specs.Runs.{IsFlat, node_values, value_at}
 use Rattle.flat_code.specs.Touched.{is_touched}
 use Rattle.value_sheet.specs.inner.Readers.{node_at, IsReaders, IsInputRows}
 
--- Between two calls: the kept values are those for the inputs of the last settled state, which are those of now where nothing was
--- put, and nothing is marked.
+-- Between calls, the kept values are those for the inputs of the last settled state, these differ
+-- from the current inputs at most where an input was set, and no node is marked.
 pub record IsSheet (flat : Flat) (settled now : List Value) (put : List Bool) (kept : List Value) (marks : List Bool)
     (readers input_rows : List (List ℕ)) : Type 0 where
   pub valid : IsFlat flat
@@ -23,9 +23,10 @@ pub record IsSheet (flat : Flat) (settled now : List Value) (put : List Bool) (k
   pub edges : IsReaders readers flat.nodes
   pub starts : IsInputRows input_rows flat.nodes flat.inputs
 
--- At node p of a settle: below p the values are the new ones and nothing is marked; from p on the values are the old ones, and
--- exactly the nodes are marked that are touched between the old values and those that are kept now. So many steps were taken as
--- nodes below p are touched between the old values and the new.
+-- A settle that has reached node p: below p the kept values are new and no node is marked; from p
+-- on they are old, and exactly the nodes are marked that are touched between the old and the kept
+-- values. The number of steps is that of the nodes below p that are touched between the old and the
+-- new values. So marks are defined by an equation, without a history of the loop.
 pub record IsSettling (nodes : List Node) (put : List Bool) (old new kept : List Value) (marks : List Bool) (p begun steps : ℕ) : Type 0 where
   pub so_many : length kept ≡ length nodes
   pub room : length marks ≡ length nodes

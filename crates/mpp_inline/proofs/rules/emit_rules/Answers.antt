@@ -30,7 +30,7 @@ emit_checks-requires c = record {
   );
 }
 
--- no more cells come back than are defined
+-- at most as many cells are copied back as are defined
 
 pub write_under-requires : goal.write_under-requires
 write_under-requires c =
@@ -111,7 +111,7 @@ returns-then-cells-len-clause-size c =
     ) in goal')
     c.write_under.ensures.size
 
--- more come back
+-- more cells are copied back
 
 pub write_under-requires-2 : goal.write_under-requires-2
 write_under-requires-2 c =
