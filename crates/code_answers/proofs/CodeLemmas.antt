@@ -19,7 +19,7 @@ use Rattle.reg_machine.specs.declared.instr.Instr.TheVariants.{Take, Lit, Do, St
 use Rattle.reg_machine.specs.declared.wrong.CodeWrong.TheVariants.{BadNumber, BadOrder}
 use Rattle.reg_machine.specs.Flow.{Counts, Listing, State, all_given, code_fault, fault_from, flow_of, has_numbers, is_register, moved, reading, spelled, start}
 use Rattle.reg_machine.specs.Machine.{Machine, act, act_at, acts, answer_of, fresh, machine_run}
-use Rattle.reg_machine.proofs.BuilderLemmas.{end-whole}
+use Rattle.reg_machine.proofs.NumberingLemmas.{end-whole}
 use Rattle.code_file.specs.Loading.{counts_agree}
 use Rattle.tax_print.specs.Lines.{AnswerIsWithin}
 use Rattle.m_cases.specs.Mismatches.{HasValueEach}

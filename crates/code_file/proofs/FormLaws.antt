@@ -21,7 +21,7 @@ use Rattle.observables.specs.Outputs.{are_named, notes_stand_first, verif_at}
 use Rattle.reg_machine.specs.declared.instr.Instr.{Instr}
 use Rattle.reg_machine.specs.declared.wrong.CodeWrong.TheVariants.{BadNumber, BadOrder as WrongOrder}
 use Rattle.reg_machine.specs.Flow.{Counts, Listing, State, code_fault, code_of, fault_from, has_numbers, moved, reading, start, step}
-use Rattle.reg_machine.proofs.LawLemmas.{reading-none}
+use Rattle.reg_machine.proofs.StepLaws.{reading-none}
 use Rattle.code_file.specs.declared.fault.CodeFault.{CodeFault}
 use Rattle.code_file.specs.declared.fault.CodeFault.TheVariants.{Memory}
 use Rattle.code_file.specs.declared.loaded.Loaded.{Loaded}

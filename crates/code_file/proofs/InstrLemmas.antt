@@ -236,7 +236,8 @@ abbrev pub done_text : Bool → Bool → Op → ℕ → ℕ → ℕ → ℕ → 
 done_text s t op r a b c =
     cond s (codes "do " ++ (decimal r ++ (codes " " ++ (op_word op ++ (codes " " ++ (decimal a ++ 10 ∷ []))))))
     (cond t (codes "do " ++ (decimal r ++ (codes " " ++ (op_word op ++ (codes " " ++ (decimal a ++ (codes " " ++ (decimal b ++ 10 ∷ []))))))))
-    (codes "do " ++ (decimal r ++ (codes " " ++ (op_word op ++ (codes " " ++ (decimal a ++ (codes " " ++ (decimal b ++ (codes " " ++ (decimal c ++ 10 ∷ [])))))))))))
+    (codes "do " ++ (decimal r ++ (codes " "
+    ++ (op_word op ++ (codes " " ++ (decimal a ++ (codes " " ++ (decimal b ++ (codes " " ++ (decimal c ++ 10 ∷ [])))))))))))
 
 pub done-by : (s t : Bool) (op : Op) (r a b c : ℕ) → done_text s t op r a b c ≡ Done r op (written s t a b c) ++ 10 ∷ []
 done-by true t op r a b c = sym (line-three (codes "do") (decimal r) (op_word op) (decimal a))
@@ -360,7 +361,8 @@ operation-sound x y i h =
           ∙ ap (λ l. (codes "do" ++ 32 ∷ (x ++ 32 ∷ l)) ++ 10 ∷ []) (sym q.whole);
     })
 
-pub instr-by-sound : (w : List ℕ) (q : List ℕ × List ℕ) (i : Instr) (t : Bool) → bytes_eq w (codes "do") ≡ t → cond t (operation q) (plain w q.0 q.1) ≡ Some i → Sound i (Spaced w q.0 q.1)
+pub instr-by-sound : (w : List ℕ) (q : List ℕ × List ℕ) (i : Instr) (t : Bool) → bytes_eq w (codes "do") ≡ t → cond t (operation q) (plain w q.0 q.1) ≡ Some i
+    → Sound i (Spaced w q.0 q.1)
 instr-by-sound w q i true e h = subst (λ v. Sound i (Spaced v q.0 q.1)) (sym ((bytes_eq-Decides w (codes "do")).0 e)) (operation-sound q.0 q.1 i h)
 instr-by-sound w q i false e h = plain-sound w q.0 q.1 i h
 

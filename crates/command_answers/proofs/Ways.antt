@@ -13,7 +13,7 @@ use Rattle.observables.specs.declared.face.Face.{Face}
 use Rattle.flat_code.specs.Runs.{flat_run}
 use Rattle.reg_machine.specs.Flow.{code_fault}
 use Rattle.reg_machine.specs.Machine.{machine_run}
-use Rattle.reg_machine.proofs.LawLemmas.{run-is-flat_run}
+use Rattle.reg_machine.proofs.StepLaws.{run-is-flat_run}
 use Rattle.code_file.specs.declared.loaded.Loaded.{Loaded}
 use Rattle.household.specs.Household.{household_of, values_of}
 use Rattle.household.specs.Table.{table_of}

@@ -3,6 +3,7 @@ pub mod Beyond
 pub mod Cuts
 pub mod Exact
 pub mod FactLaws
+pub mod ExactFacts
 pub mod Holding
 pub mod Quotients
 pub mod Rounded

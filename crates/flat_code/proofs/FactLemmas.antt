@@ -6,7 +6,8 @@ use Rattle.std.proofs.lemmas.List.{get_or_past}
 use Rattle.m_fixed.specs.declared.amount.Value.{Value}
 use Rattle.m_fixed.specs.declared.amount.Value.TheVariants.{Undef}
 use Rattle.definedness.specs.Facts.{Possible, Holds, fact_of_input}
-use Rattle.definedness.proofs.FactLaws.{operator_fact_holds, value_fact_holds, input_fact_holds}
+use Rattle.definedness.proofs.FactLaws.{operator_fact_holds, value_fact_holds}
+use Rattle.definedness.proofs.ExactFacts.{input_fact_holds}
 use Rattle.flat_code.specs.declared.program.Node.{Node}
 use Rattle.flat_code.specs.declared.program.Flat.{Flat}
 use Rattle.flat_code.specs.declared.program.Node.TheVariants.{Input, Lit, Do}

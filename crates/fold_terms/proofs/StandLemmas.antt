@@ -14,7 +14,7 @@ use Rattle.m_fixed.specs.Laws.{IsValue}
 use Rattle.m_fixed.proofs.Values.{second_is_ignored, third_is_ignored}
 use Rattle.definedness.specs.Ranges.{InSome, may_be_zero}
 use Rattle.definedness.specs.Facts.{Possible, Holds, IsFact, one_value, is_number, lacks_zero}
-use Rattle.definedness.proofs.FactLaws.{one_value_is, held_is_value}
+use Rattle.definedness.proofs.ExactFacts.{one_value_is, held_is_value}
 use Rattle.flat_code.specs.declared.program.Node.{Node}
 use Rattle.flat_code.specs.declared.program.Node.TheVariants.{Input, Lit, Do}
 use Rattle.flat_code.specs.Runs.{entry_of, entries_of, values_for, node_values, is_one, IsNode}

@@ -84,7 +84,8 @@ pub standing_turn : {S K : Type 0} (left : S → Option (List ℕ)) (source_faul
 standing_turn left source_faults written faults source_old source_now source_new old now new start telling later held kept count most n total standing took
     all = record {
       bytes = standing.bytes ++ took.piece;
-      counted = length-append standing.bytes took.piece ∙ ap (λ (k : ℕ). k + length took.piece) standing.counted ∙ ap (λ (k : ℕ). count + k) took.counted ∙ sym all;
+      counted = length-append standing.bytes took.piece ∙ ap (λ (k : ℕ). k + length took.piece) standing.counted ∙ ap (λ (k : ℕ). count + k) took.counted
+          ∙ sym all;
       moved = standing.moved ∙ ap (prepend_known standing.bytes) took.moved ∙ prepend_more (left source_new) standing.bytes took.piece;
       calm = took.calm ∙ standing.calm;
       goes = goes_then written faults old now new start telling later (standing.bytes ++ took.piece) (held ++ took.piece) kept

@@ -11,7 +11,7 @@ use Rattle.m_fixed.specs.Operators.{arity_of, is_zero, op_value, chosen}
 use Rattle.m_fixed.proofs.Values.{second_is_ignored, third_is_ignored}
 use Rattle.definedness.specs.Facts.{Possible, Holds, one_value}
 use Rattle.definedness.specs.Ranges.{InSome, may_be_zero, may_be_other}
-use Rattle.definedness.proofs.FactLaws.{one_value_is}
+use Rattle.definedness.proofs.ExactFacts.{one_value_is}
 use Rattle.definedness.proofs.Holding.{zero_in, other_in}
 use Rattle.flat_code.specs.declared.program.Node.{Node}
 use Rattle.flat_code.specs.declared.program.Node.TheVariants.{Input, Lit, Do}

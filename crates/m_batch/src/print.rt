@@ -160,7 +160,8 @@ fn give_parts<P: RowPrinter, K: Sink>(
     requires may { MayPrintEach (P.may_print printer.now) from rows.now (answers_of code.now rows.now) }
     requires within { from + length rows.now < 2 ^ 64 }
     requires size { 0 < size }
-    requires texts { AreOfParts (λ at part made. MayBeTextOf (P.text printer.now) (P.count printer.now) code.now (from + at) part made) size 0 rows.now texts.now }
+    requires texts { AreOfParts (λ at part made. MayBeTextOf (P.text printer.now) (P.count printer.now) code.now (from + at) part made) size 0 rows.now
+        texts.now }
     ensures text { WritesRows K.written K.faults out.old out.new result (printed_text (P.text printer.now) from rows.now (answers_of code.now rows.now)) }
     ensures count { IfOk result (λ n. n ≡ counted_to_end (printed_count (P.count printer.now) from rows.now (answers_of code.now rows.now))) }
 {

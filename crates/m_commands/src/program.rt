@@ -132,7 +132,8 @@ pub fn m_tax<R: Threads + Sync, F: Files, S: Source, K: Sink>(
 
     // Valid words and files are answered, unless a read, a write or memory failed, or the limit of the input was
     // reached.
-    ensures completeness { AnswersValid words.now (files_view F.known_files F.attempts F.taken files.old) (files_view F.known_files F.attempts F.taken files.new)
+    ensures completeness { AnswersValid words.now (files_view F.known_files F.attempts F.taken files.old)
+        (files_view F.known_files F.attempts F.taken files.new)
         (input_view S.left S.faults input.old) (input_view S.left S.faults input.new)
         (output_view K.written K.faults out.old) (output_view K.written K.faults out.new) result }
 

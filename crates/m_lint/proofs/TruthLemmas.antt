@@ -223,7 +223,8 @@ no-note labels this known vs count (Noted number ∷ outputs) (p ∷ ps) first l
         ]
 
     at : (Contains (reported_notes labels (notes_of outputs) (map (value_at vs) ps)) this → ⊥) → (label : Label)
-        → reported_note labels number (value_at vs p) ≡ Some label → (k : ℕ) → k < suc (length (reported_notes labels (notes_of outputs) (map (value_at vs) ps)))
+        → reported_note labels number (value_at vs p) ≡ Some label → (k : ℕ)
+        → k < suc (length (reported_notes labels (notes_of outputs) (map (value_at vs) ps)))
         → get_or (label ∷ reported_notes labels (notes_of outputs) (map (value_at vs) ps)) k this ≡ this → ⊥
     at later label is zero lt e = here (is ∙ ap Some e)
     at later label is (suc k) lt e = later (k, omega (arith, lt), e)

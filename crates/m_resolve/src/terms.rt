@@ -72,7 +72,8 @@ fn table_read(
     symbols: &Symbols,
 ) -> Result<Box<MTerm>, ResolveFault>
     ensures { Says Memory result (λ tree. tree.value)
-        (if_resolved (λ table. if_resolved (λ i. Ok (pick table.0 table.1 i)) (resolved_term symbols.now index.now)) (resolved_table symbols.now name.now place)) }
+        (if_resolved (λ table. if_resolved (λ i. Ok (pick table.0 table.1 i)) (resolved_term symbols.now index.now))
+        (resolved_table symbols.now name.now place)) }
 {
     let (first, size) = table_of(alloc, symbols, name, place)?;
     let index = term(alloc, index, symbols)?;
@@ -87,7 +88,8 @@ fn applied(
     arguments: &[PTerm],
     symbols: &Symbols,
 ) -> Result<Box<MTerm>, ResolveFault>
-    ensures { Says Memory result (λ tree. tree.value) (if_resolved (λ all. Ok (apply op (trees_of all))) (resolved_terms symbols.now [] (terms_of arguments.now))) }
+    ensures { Says Memory result (λ tree. tree.value)
+        (if_resolved (λ all. Ok (apply op (trees_of all))) (resolved_terms symbols.now [] (terms_of arguments.now))) }
 {
     let arguments = terms(alloc, arguments, symbols)?;
     Ok(boxed(alloc, MNode::Apply(op, arguments))?)
@@ -115,7 +117,8 @@ fn chained(
     symbols: &Symbols,
 ) -> Result<Box<MTerm>, ResolveFault>
     ensures { Says Memory result (λ tree. tree.value)
-        (if_resolved (λ f. if_resolved (λ steps. Ok (chain f (steps_of steps))) (resolved_links symbols.now [] (links_of links.now))) (resolved_term symbols.now first.now)) }
+        (if_resolved (λ f. if_resolved (λ steps. Ok (chain f (steps_of steps))) (resolved_links symbols.now [] (links_of links.now)))
+        (resolved_term symbols.now first.now)) }
 {
     let first = term(alloc, first, symbols)?;
     let mut steps = Vec::with_capacity(alloc, links.len())?;
@@ -139,7 +142,8 @@ fn among(
     symbols: &Symbols,
 ) -> Result<Box<MTerm>, ResolveFault>
     ensures { Says Memory result (λ tree. tree.value)
-        (if_resolved (λ t. if_resolved (λ all. Ok (membership negated all)) (resolved_members symbols.now t [] (members_of members.now))) (resolved_term symbols.now x.now)) }
+        (if_resolved (λ t. if_resolved (λ all. Ok (membership negated all)) (resolved_members symbols.now t [] (members_of members.now)))
+        (resolved_term symbols.now x.now)) }
 {
     let Some((first, others)) = members.split_first() else {
         let _tested = term(alloc, x, symbols)?;
@@ -185,7 +189,8 @@ fn member(
     member: &PMember,
     symbols: &Symbols,
 ) -> Result<MTerm, ResolveFault>
-    ensures { Says Memory result (λ tree. tree) (if_resolved (λ t. resolved_member symbols.now t member.now.low member.now.high) (resolved_term symbols.now x.now)) }
+    ensures { Says Memory result (λ tree. tree) (if_resolved (λ t. resolved_member symbols.now t member.now.low member.now.high)
+        (resolved_term symbols.now x.now)) }
 {
     let first = term(alloc, x, symbols)?;
     let low = term(alloc, &member.low, symbols)?;

@@ -30,7 +30,9 @@ use Rattle.m_terms.proofs.Passes.{next, later, over, skip, Passes, shrinks_passi
 use Rattle.m_lexer.proofs.ChainComplete.{Complete, chain_binds, chain_complete}
 use Rattle.m_terms.proofs.HeaderLaws.{header_sound, header_passes, header_complete}
 use Rattle.m_terms.proofs.MemberLaws.{list_sound, list_passes, list_complete}
-use Rattle.m_terms.proofs.TermLaws.{Below, gathered_passes, gathered_complete, multiplies, adds, compares, conjoins, disjoins, multiplication_closed, addition_closed, comparison_closed, conjunction_closed, disjunction_closed, bracket_closed, dans_closed, non_closed, function_no_non, expr_sound}
+use Rattle.m_terms.proofs.TermLaws.{Below, gathered_passes, gathered_complete, multiplies, adds, compares, conjoins, disjoins, multiplication_closed}
+use Rattle.m_terms.proofs.TermLaws.{addition_closed, comparison_closed, conjunction_closed, disjunction_closed, bracket_closed, dans_closed, non_closed}
+use Rattle.m_terms.proofs.TermLaws.{function_no_non, expr_sound}
 
 -- A spelling takes at least one token.
 module _ (E : Syntax → List Token → List Token → Type 0) (passes : Passes E) where

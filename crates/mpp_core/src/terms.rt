@@ -73,7 +73,8 @@ fn applied(
     scope: &Scope<'_>,
 ) -> Result<Box<CTerm>, CoreFault>
     requires { IsPlaced scope.now }
-    ensures { Says Memory result (λ t. t.value) (if_resolved (λ all. Ok (apply op (formulas_of all))) (resolved_terms scope.now line [] (terms_of arguments.now))) }
+    ensures { Says Memory result (λ t. t.value)
+        (if_resolved (λ all. Ok (apply op (formulas_of all))) (resolved_terms scope.now line [] (terms_of arguments.now))) }
 {
     let arguments = terms(alloc, arguments, line, scope)?;
     Ok(boxed(alloc, CNode::Apply(op, arguments))?)

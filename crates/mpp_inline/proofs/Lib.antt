@@ -3,13 +3,17 @@ pub mod OutcomeLemmas
 pub mod RunLemmas
 pub mod UsableLemmas
 pub mod GrowthLemmas
+pub mod CheckGrowth
 pub mod TruthLemmas
 pub mod StageLemmas
+pub mod BranchStages
 pub mod WorkLemmas
+pub mod CommandMoves
 pub mod TermLemmas
 pub mod TableLemmas
 pub mod CallLemmas
 pub mod OrderLemmas
 pub mod BeginLemmas
+pub mod EndLemmas
 pub mod SizeLemmas
 pub mod RulelessLemmas

@@ -16,7 +16,8 @@ use Rattle.flat_code.specs.declared.program.Node.TheVariants.{Lit, Do}
 use Rattle.mpp_inline.specs.declared.builder.Builder.{Builder}
 use Rattle.mpp_inline.specs.inner.Growth.{IsUsable, at, denoted, Sane, Known, Pushed, Along, Gives, outside, among_cells}
 use Rattle.mpp_inline.proofs.UsableLemmas.{usable-on}
-use Rattle.mpp_inline.proofs.GrowthLemmas.{longer-then, grows-then, gives-lit, known-get, denoted-get}
+use Rattle.mpp_inline.proofs.GrowthLemmas.{longer-then, grows-then, known-get, denoted-get}
+use Rattle.mpp_inline.proofs.CheckGrowth.{gives-lit}
 use Rattle.mpp_inline.proofs.TermLemmas.{do-step}
 use Rattle.mpp_inline.proofs.StageLemmas.{choose-value}
 

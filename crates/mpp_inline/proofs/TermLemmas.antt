@@ -15,11 +15,14 @@ use Rattle.driver_core.specs.Meaning.{formula_value, formula_values}
 use Rattle.mpp_inline.specs.declared.builder.Builder.{Builder}
 use Rattle.mpp_inline.specs.inner.Growth.{at, denoted, IsUsable, Sane, Known, Pushed, Along, Gives, TermStep}
 use Rattle.mpp_inline.proofs.UsableLemmas.{usable-on}
-use Rattle.mpp_inline.proofs.GrowthLemmas.{grows-none, grows-then, longer-then, known-on, denoted-on, pushed-within, pushed-value, pushed-grows, gives-pushed}
+use Rattle.mpp_inline.proofs.GrowthLemmas.{grows-none, grows-then, longer-then, known-on, denoted-on, pushed-within, pushed-value, pushed-grows}
+use Rattle.mpp_inline.proofs.CheckGrowth.{gives-pushed}
 
 -- an operator on nodes
-pub do-step : {b c : Builder} {op : Op} {i j k n : ℕ} → Pushed b c (Do op i j k) n → IsUsable b i → IsUsable b j → IsUsable b k → Sane b → Gives b c (λ inputs. op_value op (at b inputs i) (at b inputs j) (at b inputs k)) n
-do-step {b} {c} {op} {i} {j} {k} p hi hj hk s = gives-pushed (λ inputs. op_value op (at b inputs i) (at b inputs j) (at b inputs k)) p (hi, hj, hk) (λ t. t) s (λ inputs. refl)
+pub do-step : {b c : Builder} {op : Op} {i j k n : ℕ} → Pushed b c (Do op i j k) n → IsUsable b i → IsUsable b j → IsUsable b k → Sane b
+    → Gives b c (λ inputs. op_value op (at b inputs i) (at b inputs j) (at b inputs k)) n
+do-step {b} {c} {op} {i} {j} {k} p hi hj hk s = gives-pushed (λ inputs. op_value op (at b inputs i) (at b inputs j) (at b inputs k)) p (hi, hj, hk) (λ t. t) s
+    (λ inputs. refl)
 
 pub applied-step : {b b1 b2 b3 c : Builder} {env : List ℕ} {i j k n : ℕ} (op : Op) (values : Environment → List Value)
     → (Sane b → Known b env → TermStep b b1 env (λ e. get_or (values e) 0 Undef) i)

@@ -28,7 +28,8 @@ use Rattle.mpp_inline.specs.inner.Observation.{nodes_of}
 use Rattle.mpp_inline.specs.inner.Growth.{node_of, at, IsUsable, Sane, Pushed, Gives, HasInput, InputIsThere, kinds_from}
 use Rattle.mpp_inline.proofs.ListLemmas.{all-append}
 use Rattle.mpp_inline.proofs.UsableLemmas.{and-stands}
-use Rattle.mpp_inline.proofs.GrowthLemmas.{grows-then, pushed-there, pushed-within, pushed-value, pushed-grows, stood-grows, gives-pushed}
+use Rattle.mpp_inline.proofs.GrowthLemmas.{grows-then, pushed-there, pushed-within, pushed-value, pushed-grows, stood-grows}
+use Rattle.mpp_inline.proofs.CheckGrowth.{gives-pushed}
 
 -- ---- the literals
 

@@ -24,10 +24,10 @@ use Rattle.reg_machine.proofs.TableLemmas.{put-same, put-other, put-cases, none�
 -- ---- what is below a count
 
 -- the numbers of a table, of checks and of outputs are below n
-abbrev Below : (ℕ → Option ℕ) → ℕ → Type 0
+abbrev pub Below : (ℕ → Option ℕ) → ℕ → Type 0
 Below table n = (k x : ℕ) → table k ≡ Some x → x < n
 
-abbrev ChecksBelow : ℕ → List Check → Type 0
+abbrev pub ChecksBelow : ℕ → List Check → Type 0
 ChecksBelow n [] = Unit {0}
 ChecksBelow n (check ∷ checks) = (check.guard < n) × (check.condition < n) × ChecksBelow n checks
 
@@ -35,15 +35,15 @@ abbrev EntryBelow : ℕ → Option ℕ → Type 0
 EntryBelow n None = Unit {0}
 EntryBelow n (Some x) = x < n
 
-abbrev OutputsBelow : ℕ → List (Option ℕ) → Type 0
+abbrev pub OutputsBelow : ℕ → List (Option ℕ) → Type 0
 OutputsBelow n [] = Unit {0}
 OutputsBelow n (output ∷ outputs) = EntryBelow n output × OutputsBelow n outputs
 
-checks-more : (n : ℕ) (checks : List Check) → ChecksBelow n checks → ChecksBelow (suc n) checks
+pub checks-more : (n : ℕ) (checks : List Check) → ChecksBelow n checks → ChecksBelow (suc n) checks
 checks-more n [] h = tt
 checks-more n (check ∷ checks) h = (omega (arith, h.0), omega (arith, h.1), checks-more n checks h.2)
 
-checks-push : (n : ℕ) (checks : List Check) (check : Check) → ChecksBelow n checks → check.guard < n → check.condition < n
+pub checks-push : (n : ℕ) (checks : List Check) (check : Check) → ChecksBelow n checks → check.guard < n → check.condition < n
     → ChecksBelow n (checks ++ check ∷ [])
 checks-push n [] check h a b = (a, b, tt)
 checks-push n (other ∷ checks) check h a b = (h.0, h.1, checks-push n checks check h.2 a b)
@@ -52,32 +52,32 @@ entry-more : (n : ℕ) (entry : Option ℕ) → EntryBelow n entry → EntryBelo
 entry-more n None h = tt
 entry-more n (Some x) h = omega arith
 
-outputs-more : (n : ℕ) (outputs : List (Option ℕ)) → OutputsBelow n outputs → OutputsBelow (suc n) outputs
+pub outputs-more : (n : ℕ) (outputs : List (Option ℕ)) → OutputsBelow n outputs → OutputsBelow (suc n) outputs
 outputs-more n [] h = tt
 outputs-more n (output ∷ outputs) h = (entry-more n output h.0, outputs-more n outputs h.1)
 
-outputs-set : (n : ℕ) (outputs : List (Option ℕ)) (k x : ℕ) → OutputsBelow n outputs → x < n → OutputsBelow n (set outputs k (Some x))
+pub outputs-set : (n : ℕ) (outputs : List (Option ℕ)) (k x : ℕ) → OutputsBelow n outputs → x < n → OutputsBelow n (set outputs k (Some x))
 outputs-set n [] k x h lt = tt
 outputs-set n (output ∷ outputs) zero x h lt = (lt, h.1)
 outputs-set n (output ∷ outputs) (suc k) x h lt = (h.0, outputs-set n outputs k x h.1 lt)
 
-outputs-none : (n k : ℕ) → OutputsBelow n (replicate k None)
+pub outputs-none : (n k : ℕ) → OutputsBelow n (replicate k None)
 outputs-none n zero = tt
 outputs-none n (suc k) = (tt, outputs-none n k)
 
-below-put : (table : ℕ → Option ℕ) (n k x : ℕ) → Below table n → x < n → Below (put table k (Some x)) n
+pub below-put : (table : ℕ → Option ℕ) (n k x : ℕ) → Below table n → x < n → Below (put table k (Some x)) n
 below-put table n k x h lt j y e = ⊎_elim (λ p. subst (λ z. z < n) p.1 lt) (λ p. h j y p.1) (put-cases table k x j y e)
 
-below-more : (table : ℕ → Option ℕ) (n : ℕ) → Below table n → Below table (suc n)
+pub below-more : (table : ℕ → Option ℕ) (n : ℕ) → Below table n → Below table (suc n)
 below-more table n h k x e = omega (arith, h k x e)
 
 -- ---- values
 
 -- a table of values holds those of the nodes
-abbrev Holds : List Value → (ℕ → Option ℕ) → (ℕ → Value) → Type 0
+abbrev pub Holds : List Value → (ℕ → Option ℕ) → (ℕ → Value) → Type 0
 Holds values table cells = (k x : ℕ) → table k ≡ Some x → cells k ≡ value_at values x
 
-holds-put : (values : List Value) (table : ℕ → Option ℕ) (cells : ℕ → Value) (k x : ℕ) (v : Value) → Holds values table cells → v ≡ value_at values x
+pub holds-put : (values : List Value) (table : ℕ → Option ℕ) (cells : ℕ → Value) (k x : ℕ) (v : Value) → Holds values table cells → v ≡ value_at values x
     → Holds values (put table k (Some x)) (put cells k v)
 holds-put values table cells k x v h is j y e =
     ⊎_elim
@@ -85,16 +85,16 @@ holds-put values table cells k x v h is j y e =
     (λ p. put-other cells k v j p.0 ∙ h j y p.1)
     (put-cases table k x j y e)
 
-holds-more : (values : List Value) (v : Value) (table : ℕ → Option ℕ) (cells : ℕ → Value) → Below table (length values) → Holds values table cells
+pub holds-more : (values : List Value) (v : Value) (table : ℕ → Option ℕ) (cells : ℕ → Value) → Below table (length values) → Holds values table cells
     → Holds (values ++ v ∷ []) table cells
 holds-more values v table cells below h k x e = h k x e ∙ sym (get_or_append_left values (v ∷ []) Undef x (below k x e))
 
 -- the values of outputs, undefined until they are set
-abbrev output_value : List Value → Option ℕ → Value
+abbrev pub output_value : List Value → Option ℕ → Value
 output_value values None = Undef
 output_value values (Some x) = value_at values x
 
-outputs-extend : (values : List Value) (v : Value) (outputs : List (Option ℕ)) → OutputsBelow (length values) outputs
+pub outputs-extend : (values : List Value) (v : Value) (outputs : List (Option ℕ)) → OutputsBelow (length values) outputs
     → map (output_value values) outputs ≡ map (output_value (values ++ v ∷ [])) outputs
 outputs-extend values v [] h = refl
 outputs-extend values v (None ∷ outputs) h = ap (λ xs. Undef ∷ xs) (outputs-extend values v outputs h.1)
@@ -103,10 +103,10 @@ outputs-extend values v (Some x ∷ outputs) h =
     ∙ ap (λ xs. value_at (values ++ v ∷ []) x ∷ xs) (outputs-extend values v outputs h.1)
 
 -- the stop of a check with these two values
-abbrev stop_by : Check → Value → Value → Option Stop
+abbrev pub stop_by : Check → Value → Value → Option Stop
 stop_by check guard condition = if is_one guard then stop_of check.over_only check.label condition else None
 
-stop-extend : (values : List Value) (v : Value) (checks : List Check) → ChecksBelow (length values) checks
+pub stop-extend : (values : List Value) (v : Value) (checks : List Check) → ChecksBelow (length values) checks
     → first_stop values checks ≡ first_stop (values ++ v ∷ []) checks
 stop-extend values v [] h = refl
 stop-extend values v (check ∷ checks) h =
@@ -125,14 +125,14 @@ or-none None = refl
 or-none (Some x) = refl
 
 -- one more check
-stop-push : (values : List Value) (checks : List Check) (check : Check) → first_stop values (checks ++ check ∷ []) ≡ option_or (first_stop values checks)
+pub stop-push : (values : List Value) (checks : List Check) (check : Check) → first_stop values (checks ++ check ∷ []) ≡ option_or (first_stop values checks)
     (check_stop values check)
 stop-push values [] check = sym (or-none (check_stop values check))
 stop-push values (other ∷ checks) check =
     ap (option_or (check_stop values other)) (stop-push values checks check)
     ∙ sym (or-assoc (check_stop values other) (first_stop values checks) (check_stop values check))
 
-length-values : (inputs values : List Value) (nodes : List Node)
+pub length-values : (inputs values : List Value) (nodes : List Node)
     → length (fold (λ values node. values ++ entry_of (values_for inputs) values node ∷ []) values nodes) ≡ length values + length nodes
 length-values inputs values [] = let e : length values ≡ length values + 0 = omega arith in e
 length-values inputs values (node ∷ nodes) =
@@ -141,272 +141,3 @@ length-values inputs values (node ∷ nodes) =
     length-values inputs more nodes ∙ e
 
 -- ---- one instruction
-
--- the nodes in a state of the symbolic run exist
-record Known (s : State) : Type 0 where
-  registers : Below s.registers (length s.nodes)
-  slots : Below s.slots (length s.nodes)
-  checks : ChecksBelow (length s.nodes) s.checks
-  outputs : OutputsBelow (length s.nodes) s.outputs
-
--- a machine whose run hasn't ended has the values of the nodes in the symbolic run
-record Runs (inputs : List Value) (s : State) (m : Machine) : Type 0 where
-  registers : Holds (node_values inputs s.nodes) s.registers m.registers
-  slots : Holds (node_values inputs s.nodes) s.slots m.slots
-  outputs : m.outputs ≡ map (output_value (node_values inputs s.nodes)) s.outputs
-
-record Goes (inputs : List Value) (s : State) (m : Machine) : Type 0 where
-  known : Known s
-  ended : m.ended ≡ first_stop (node_values inputs s.nodes) s.checks
-  running : m.ended ≡ None → Runs inputs s m
-
--- the effect of an instruction: the invariants hold, and a run that has ended is unchanged
-record Acts (inputs : List Value) (i : Instr) (s s' : State) : Type 0 where
-  known : Known s'
-  stays : (stop : Stop) → first_stop (node_values inputs s.nodes) s.checks ≡ Some stop → first_stop (node_values inputs s'.nodes) s'.checks ≡ Some stop
-  goes : (m : Machine) → m.ended ≡ None → None ≡ first_stop (node_values inputs s.nodes) s.checks → Runs inputs s m
-      → ((act inputs i m).ended ≡ first_stop (node_values inputs s'.nodes) s'.checks) × Runs inputs s' (act inputs i m)
-
-then-from : (o : Option ℕ) (f : ℕ → Option State) (t : State) → option_and_then f o ≡ Some t → (x : ℕ) × (o ≡ Some x) × (f x ≡ Some t)
-then-from None f t e = absurd (none≢some t e)
-then-from (Some x) f t e = (x, refl, e)
-
-map-from : (o : Option ℕ) (f : ℕ → State) (t : State) → option_map f o ≡ Some t → (x : ℕ) × (o ≡ Some x) × (f x ≡ t)
-map-from None f t e = absurd (none≢some t e)
-map-from (Some x) f t e = (x, refl, some-is (f x) t e)
-
-pub step-from : (n : Counts) (i : Instr) (s t : State) → step n i s ≡ Some t → (has_numbers n s i ≡ true) × (moved i s ≡ Some t)
-step-from n i s t e = from (has_numbers n s i) refl e
-  where
-    from : (b : Bool) → has_numbers n s i ≡ b → (if b then moved i s else None) ≡ Some t → (has_numbers n s i ≡ true) × (moved i s ≡ Some t)
-    from true is e = (is, e)
-    from false is e = absurd (none≢some t e)
-
--- a node with the value that the instruction computes
-acts-node : (inputs : List Value) (i : Instr) (r : ℕ) (node : Node) (s : State) (v : Machine → Value) → Known s
-    → ((m : Machine) → act inputs i m ≡ record m { registers = put m.registers r (v m) })
-    → ((m : Machine) → Runs inputs s m → v m ≡ entry_of (values_for inputs) (node_values inputs s.nodes) node) → Acts inputs i s (with_node r node s)
-acts-node inputs i r node s v known does is =
-    let n = length s.nodes in
-    let values = node_values inputs s.nodes in
-    let value = entry_of (values_for inputs) values node in
-    let after : State = with_node r node s in
-    let long : length values ≡ n = length-values inputs [] s.nodes ∙ (let z : 0 + n ≡ n = omega arith in z) in
-    let more : length after.nodes ≡ suc n = length_push s.nodes node ∙ (let z : n + 1 ≡ suc n = omega arith in z) in
-    let grown : node_values inputs after.nodes ≡ values ++ value ∷ [] = fold_push (λ values node. values ++ entry_of (values_for inputs) values node ∷ []) []
-    s.nodes node in
-    let Same : List Value → Type 0 = λ vs. first_stop values s.checks ≡ first_stop vs s.checks in
-    let same : Same (node_values inputs after.nodes) = subst Same (sym grown)
-    (stop-extend values value s.checks (subst (λ k. ChecksBelow k s.checks) (sym long) known.checks)) in
-    record {
-      known = record {
-        registers = subst (Below after.registers) (sym more) (below-put s.registers (suc n) r n (below-more s.registers n known.registers) (omega arith));
-        slots = subst (Below s.slots) (sym more) (below-more s.slots n known.slots);
-        checks = subst (λ k. ChecksBelow k s.checks) (sym more) (checks-more n s.checks known.checks);
-        outputs = subst (λ k. OutputsBelow k s.outputs) (sym more) (outputs-more n s.outputs known.outputs);
-      };
-      stays = λ stop f. sym same ∙ f;
-      goes = λ m live none runs.
-          let Done : Machine → Type 0 = λ a. (a.ended ≡ first_stop (node_values inputs after.nodes) s.checks) × Runs inputs after a in
-          subst Done (sym (does m)) (
-            live ∙ none ∙ same,
-            record {
-              registers = subst (λ vs. Holds vs after.registers (put m.registers r (v m))) (sym grown)
-                  (holds-put (values ++ value ∷ []) s.registers m.registers r n (v m)
-                  (holds-more values value s.registers m.registers (subst (Below s.registers) (sym long) known.registers) runs.registers) (is m runs
-                  ∙ sym (get_or_push values value Undef n long)));
-              slots = subst (λ vs. Holds vs s.slots m.slots) (sym grown) (holds-more values value s.slots m.slots (subst (Below s.slots) (sym long) known.slots)
-                  runs.slots);
-              outputs = subst (λ vs. m.outputs ≡ map (output_value vs) s.outputs) (sym grown) (runs.outputs
-                  ∙ outputs-extend values value s.outputs (subst (λ k. OutputsBelow k s.outputs) (sym long) known.outputs));
-            },
-          );
-    }
-
-acts-one : (inputs : List Value) (i : Instr) (s s' : State) → Known s → moved i s ≡ Some s' → Acts inputs i s s'
-acts-one inputs (Take r n) s s' known e = subst (Acts inputs (Take r n) s) (some-is _ s' e)
-    (acts-node inputs (Take r n) r (Input n) s (λ m. get_or inputs n Undef) known (λ m. refl) (λ m runs. refl))
-acts-one inputs (Lit r v) s s' known e = subst (Acts inputs (Lit r v) s) (some-is _ s' e)
-    (acts-node inputs (Lit r v) r (LitNode v) s (λ m. v) known (λ m. refl) (λ m runs. refl))
-acts-one inputs (Do op r a b c) s s' known e =
-    let x = then-from (s.registers a) _ s' e in
-    let y = then-from (s.registers b) _ s' x.2 in
-    let z = map-from (s.registers c) _ s' y.2 in
-    subst (Acts inputs (Do op r a b c) s) z.2
-    (acts-node inputs (Do op r a b c) r (DoNode op x.0 y.0 z.0) s (λ m. op_value op (m.registers a) (m.registers b) (m.registers c)) known (λ m. refl)
-    (λ m runs.
-    let vs = node_values inputs s.nodes in
-    ap (λ v. op_value op v (m.registers b) (m.registers c)) (runs.registers a x.0 x.1)
-    ∙ ap (λ v. op_value op (value_at vs x.0) v (m.registers c)) (runs.registers b y.0 y.1)
-    ∙ ap (λ v. op_value op (value_at vs x.0) (value_at vs y.0) v) (runs.registers c z.0 z.1)))
-acts-one inputs (Store k r) s s' known e =
-    let x = map-from (s.registers r) _ s' e in
-    subst (Acts inputs (Store k r) s) x.2 (record {
-      known = record {
-        registers = known.registers;
-        slots = below-put s.slots (length s.nodes) k x.0 known.slots (known.registers r x.0 x.1);
-        checks = known.checks;
-        outputs = known.outputs;
-      };
-      stays = λ stop f. f;
-      goes = λ m live none runs. (
-        live ∙ none,
-        record {
-          registers = runs.registers;
-          slots = holds-put (node_values inputs s.nodes) s.slots m.slots k x.0
-              (m.registers r) runs.slots (runs.registers r x.0 x.1);
-          outputs = runs.outputs;
-        },
-      );
-    })
-acts-one inputs (Load r k) s s' known e =
-    let x = map-from (s.slots k) _ s' e in
-    subst (Acts inputs (Load r k) s) x.2 (record {
-      known = record {
-        registers = below-put s.registers (length s.nodes) r x.0 known.registers (known.slots k x.0 x.1);
-        slots = known.slots;
-        checks = known.checks;
-        outputs = known.outputs;
-      };
-      stays = λ stop f. f;
-      goes = λ m live none runs. (
-        live ∙ none,
-        record {
-          registers = holds-put (node_values inputs s.nodes) s.registers m.registers r x.0 (m.slots k)
-              runs.registers (runs.slots k x.0 x.1);
-          slots = runs.slots;
-          outputs = runs.outputs;
-        },
-      );
-    })
-acts-one inputs (Test g r over_only label) s s' known e =
-    let x = then-from (s.registers g) _ s' e in
-    let y = map-from (s.registers r) _ s' x.2 in
-    let check : Check = record { guard = x.0; condition = y.0; over_only = over_only; label = label } in
-    let values = node_values inputs s.nodes in
-    let more : first_stop values (s.checks ++ check ∷ []) ≡ option_or (first_stop values s.checks) (check_stop values check) = stop-push values s.checks
-    check in
-    subst (Acts inputs (Test g r over_only label) s) y.2 (record {
-      known = record {
-        registers = known.registers;
-        slots = known.slots;
-        checks = checks-push (length s.nodes) s.checks check known.checks
-            (known.registers g x.0 x.1) (known.registers r y.0 y.1);
-        outputs = known.outputs;
-      };
-      stays = λ stop f. more ∙ ap (λ o. option_or o (check_stop values check)) f;
-      goes = λ m live none runs. (
-        ap (λ v. stop_by check v (m.registers r)) (runs.registers g x.0 x.1)
-            ∙ ap (λ v. stop_by check (value_at values x.0) v) (runs.registers r y.0 y.1)
-            ∙ ap (λ o. option_or o (check_stop values check)) none ∙ sym more,
-        record { registers = runs.registers; slots = runs.slots; outputs = runs.outputs },
-      );
-    })
-acts-one inputs (Output k r) s s' known e =
-    let x = map-from (s.registers r) _ s' e in
-    let values = node_values inputs s.nodes in
-    subst (Acts inputs (Output k r) s) x.2 (record {
-      known = record {
-        registers = known.registers;
-        slots = known.slots;
-        checks = known.checks;
-        outputs = outputs-set (length s.nodes) s.outputs k x.0
-            known.outputs (known.registers r x.0 x.1);
-      };
-      stays = λ stop f. f;
-      goes = λ m live none runs. (
-        live ∙ none,
-        record {
-          registers = runs.registers;
-          slots = runs.slots;
-          outputs = ap (λ xs. set xs k (m.registers r)) runs.outputs
-              ∙ ap (set (map (output_value values) s.outputs) k) (runs.registers r x.0 x.1) ∙ sym (map-set (output_value values) s.outputs k (Some x.0));
-        },
-      );
-    })
-
--- ---- all instructions
-
-goes-on : (n : Counts) (inputs : List Value) (i : Instr) (s s' : State) (m : Machine) → Goes inputs s m → step n i s ≡ Some s'
-    → Goes inputs s' (act_at inputs m.ended i m)
-goes-on n inputs i s s' m h e =
-    let a = acts-one inputs i s s' h.known (step-from n i s s' e).1 in
-    ⊎_elim
-    (λ (none : m.ended ≡ None).
-    let b = a.goes m none (sym none ∙ h.ended) (h.running none) in
-    subst (λ o. Goes inputs s' (act_at inputs o i m)) (sym none) (record { known = a.known; ended = b.0; running = λ _. b.1 }))
-    (λ (some : (stop : Stop) × (m.ended ≡ Some stop)).
-    subst (λ o. Goes inputs s' (act_at inputs o i m)) (sym some.1)
-    (record { known = a.known; ended = some.1 ∙ sym (a.stays some.0 (sym h.ended ∙ some.1)); running = λ z. absurd (none≢some some.0 (sym z ∙ some.1)) }))
-    (cases m.ended)
-  where
-    cases : (o : Option Stop) → (o ≡ None) ⊎ ((stop : Stop) × (o ≡ Some stop))
-    cases None = inl refl
-    cases (Some stop) = inr (stop, refl)
-
--- once an instruction is wrong, there is no state
-pub reading-none : (n : Counts) (code : List Instr) → fold (λ s i. option_and_then (step n i) s) None code ≡ None
-reading-none n [] = refl
-reading-none n (i ∷ code) = reading-none n code
-
-goes-all : (n : Counts) (inputs : List Value) (code : List Instr) (s t : State) (m : Machine) → Goes inputs s m
-    → fold (λ s i. option_and_then (step n i) s) (Some s) code ≡ Some t → Goes inputs t (acts inputs m code)
-goes-all n inputs [] s t m h e = subst (λ s. Goes inputs s m) (some-is s t e) h
-goes-all n inputs (i ∷ code) s t m h e = next (λ s' a. goes-all n inputs code s' t (act_at inputs m.ended i m) (goes-on n inputs i s s' m h a)) (step n i s)
-    refl e
-  where
-    next : ((s' : State) → step n i s ≡ Some s' → fold (λ s i. option_and_then (step n i) s) (Some s') code ≡ Some t
-        → Goes inputs t (acts inputs (act_at inputs m.ended i m) code)) → (o : Option State) → step n i s ≡ o
-        → fold (λ s i. option_and_then (step n i) s) o code ≡ Some t → Goes inputs t (acts inputs (act_at inputs m.ended i m) code)
-    next rest None a b = absurd (none≢some t (sym (reading-none n code) ∙ b))
-    next rest (Some s') a b = rest s' a b
-
-output-none : (n : ℕ) → replicate n Undef ≡ map (output_value []) (replicate n None)
-output-none zero = refl
-output-none (suc n) = ap (λ xs. Undef ∷ xs) (output-none n)
-
-all-given : (values : List Value) (outputs : List (Option ℕ)) (xs : List ℕ) → all_given outputs ≡ Some xs
-    → map (output_value values) outputs ≡ map (value_at values) xs
-all-given values [] xs e = ap (map (value_at values)) (some-is [] xs e)
-all-given values (None ∷ outputs) xs e = absurd (none≢some xs e)
-all-given values (Some x ∷ outputs) xs e = next (λ ys a. all-given values outputs ys a) (all_given outputs) refl e
-  where
-    next : ((ys : List ℕ) → all_given outputs ≡ Some ys → map (output_value values) outputs ≡ map (value_at values) ys) → (o : Option (List ℕ))
-        → all_given outputs ≡ o → option_map (λ xs. x ∷ xs) o ≡ Some xs → value_at values x ∷ map (output_value values) outputs ≡ map (value_at values) xs
-    next rest None a b = absurd (none≢some xs b)
-    next rest (Some ys) a b = ap (λ zs. value_at values x ∷ zs) (rest ys a) ∙ ap (map (value_at values)) (some-is (x ∷ ys) xs b)
-
-pub run-is-flat_run : (code : Listing) (flat : Flat) (inputs : List Value) → flow_of code ≡ Some flat → machine_run code inputs ≡ flat_run flat inputs
-run-is-flat_run code flat inputs e = next (reading code) refl e
-  where
-    n : ℕ
-    n = code.counts.outputs
-
-    first : Goes inputs (start n) (fresh n)
-    first = record {
-      known = record { registers = λ k x f. absurd (none≢some x f); slots = λ k x f. absurd (none≢some x f); checks = tt; outputs = outputs-none 0 n };
-      ended = refl;
-      running = λ _. record { registers = λ k x f. absurd (none≢some x f); slots = λ k x f. absurd (none≢some x f); outputs = output-none n };
-    }
-
-    given : (s : State) (o : Option (List ℕ)) → all_given s.outputs ≡ o
-        → option_map (λ outputs. record { inputs = code.counts.inputs; nodes = s.nodes; checks = s.checks; outputs = outputs }) o ≡ Some flat
-        → (outputs : List ℕ) × (all_given s.outputs ≡ Some outputs)
-        × (record { inputs = code.counts.inputs; nodes = s.nodes; checks = s.checks; outputs = outputs } ≡ flat)
-    given s None a f = absurd (none≢some flat f)
-    given s (Some outputs) a f = (outputs, a, some-is _ flat f)
-
-    finish : (e : Option Stop) (xs : List Value) (d : Option Stop) (ys : List Value) → e ≡ d → (e ≡ None → xs ≡ ys)
-        → answer_of e xs ≡ option_map_or Stopped d (Values ys)
-    finish None xs d ys a b = ap (λ zs. Values zs) (b refl) ∙ ap (λ (o : Option Stop). option_map_or Stopped o (Values ys)) a
-    finish (Some stop) xs d ys a b = ap (λ (o : Option Stop). option_map_or Stopped o (Values ys)) a
-
-    next : (o : Option State) → reading code ≡ o → option_and_then (spelled code.counts.inputs) o ≡ Some flat → machine_run code inputs ≡ flat_run flat inputs
-    next None a f = absurd (none≢some flat f)
-    next (Some s) a f =
-        let g = given s (all_given s.outputs) refl f in
-        let h = goes-all code.counts inputs code.instrs (start n) s (fresh n) first a in
-        let values = node_values inputs s.nodes in
-        let end : Machine = acts inputs (fresh n) code.instrs in
-        subst (λ f. machine_run code inputs ≡ flat_run f inputs) g.2 (finish end.ended end.outputs (first_stop values s.checks) (map (value_at values) g.0)
-        h.ended (λ none. (h.running none).outputs ∙ all-given values s.outputs g.0 g.1))

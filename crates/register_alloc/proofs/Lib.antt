@@ -6,5 +6,7 @@ pub mod LastLemmas
 pub mod LiveLemmas
 pub mod OutputLemmas
 pub mod SoundLemmas
+pub mod SoundTests
+pub mod SoundSteps
 pub mod StepLemmas
 pub mod TableLemmas

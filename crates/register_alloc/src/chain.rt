@@ -25,13 +25,8 @@ fn link(firsts: &mut Vec<usize>, nexts: &mut Vec<usize>, outputs: &[u32], place:
     firsts[node] = place;
 }
 
-<<<<<<< HEAD
-/// The chain of outputs of n nodes.
-pub fn chain_of(alloc: Global, outputs: &[u32], nodes: usize) -> Result<OutputChain, AllocError>
-=======
 /// The lists of outputs of `nodes` nodes.
-pub fn chain_of(alloc: Global, outputs: &[u32], nodes: usize) -> Result<Chain, AllocError>
->>>>>>> be747affa8fe19064c1c06b505095489e930c67f
+pub fn chain_of(alloc: Global, outputs: &[u32], nodes: usize) -> Result<OutputChain, AllocError>
     requires { All (λ x. x < nodes) outputs.now }
     ensures { IfOk result (λ chain. IsChain outputs.now nodes 0 chain.firsts.items chain.nexts.items) }
 {

@@ -113,7 +113,8 @@ pub fn m_survey<R: Threads + Sync, F: Files, K: Sink>(
         (output_view K.written K.faults out.old) (output_view K.written K.faults out.new) result }
 
     // Valid words and files are answered, unless a read, a write or memory failed.
-    ensures completeness { AnswersValid words.now (files_view F.known_files F.attempts F.taken files.old) (files_view F.known_files F.attempts F.taken files.new)
+    ensures completeness { AnswersValid words.now (files_view F.known_files F.attempts F.taken files.old)
+        (files_view F.known_files F.attempts F.taken files.new)
         (output_view K.written K.faults out.old) (output_view K.written K.faults out.new) result }
 
     // The usage line is printed only for words that are no command, and for these unless a write or memory failed.

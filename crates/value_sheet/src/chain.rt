@@ -27,17 +27,12 @@ fn link(firsts: &mut Vec<u32>, nexts: &mut Vec<u32>, sources: &[u32], edge: usiz
     }
 }
 
-<<<<<<< HEAD
-/// The chain of edges with these sources; an edge whose source isn't below the count is in none.
+/// The lists of edges with these sources. An edge whose source isn't below the count is in no list.
 pub(crate) fn chain_of(
     alloc: Global,
     sources: &[u32],
     count: usize,
 ) -> Result<EdgeChain, AllocError>
-=======
-/// The lists of edges with these sources. An edge whose source isn't below the count is in no list.
-pub(crate) fn chain_of(alloc: Global, sources: &[u32], count: usize) -> Result<Chain, AllocError>
->>>>>>> be747affa8fe19064c1c06b505095489e930c67f
     requires { length sources.now < 2 ^ 32 }
     ensures { IfOk result (λ chain. IsChain sources.now count 0 chain.firsts.items chain.nexts.items) }
 {

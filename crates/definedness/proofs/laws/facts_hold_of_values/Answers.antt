@@ -1,4 +1,4 @@
-use Rattle.definedness.proofs.FactLaws.{held_is_value}
+use Rattle.definedness.proofs.ExactFacts.{held_is_value}
 use Rattle.definedness.proofs.laws.facts_hold_of_values.Goals as goal
 
 pub returns : goal.returns

@@ -1,4 +1,4 @@
-use Rattle.definedness.proofs.FactLaws.{input_fact_holds}
+use Rattle.definedness.proofs.ExactFacts.{input_fact_holds}
 use Rattle.definedness.proofs.laws.input_fact_holds.Goals as goal
 
 pub returns : goal.returns

@@ -1,4 +1,5 @@
-use Rattle.definedness.proofs.FactLaws.{value_fact_holds, value_fact_is_one}
+use Rattle.definedness.proofs.FactLaws.{value_fact_holds}
+use Rattle.definedness.proofs.ExactFacts.{value_fact_is_one}
 use Rattle.definedness.proofs.laws.literal_facts_hold.Goals as goal
 
 pub returns-clause-holds : goal.returns-clause-holds

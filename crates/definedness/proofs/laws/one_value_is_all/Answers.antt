@@ -1,4 +1,4 @@
-use Rattle.definedness.proofs.FactLaws.{one_value_holds, one_value_is}
+use Rattle.definedness.proofs.ExactFacts.{one_value_holds, one_value_is}
 use Rattle.definedness.proofs.laws.one_value_is_all.Goals as goal
 
 pub returns-clause-holds : goal.returns-clause-holds

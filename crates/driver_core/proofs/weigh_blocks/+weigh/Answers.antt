@@ -25,7 +25,8 @@ weigh_block-loop-command-preserved t c =
     let next : drop i all ≡ a ∷ drop (i + 1) all = drop-next all i a c.loop-command-test.true c.command-item.is in
     record {
       sum = sum-next c.loop-command.total (action_weight c.args.rules c.args.cells (λ f. get_or c.args.table.now f 0) a) (w (drop (i + 1) all)) (w all) _ _
-          c.saturating_add-total.ensures (c.weigh_command.ensures) (ap (λ n. capped (c.loop-command.total + n)) (sym (ap w next)) ∙ c.loop-command.invariant.sum);
+          c.saturating_add-total.ensures (c.weigh_command.ensures) (ap (λ n. capped (c.loop-command.total + n)) (sym (ap w next))
+          ∙ c.loop-command.invariant.sum);
       fits = omega (arith, c.saturating_add-total.ensures);
     }
 

@@ -7,7 +7,7 @@ use Rattle.flat_code.specs.declared.program.Node.TheVariants.{Lit}
 use Rattle.driver_core.specs.Answers.{first_value}
 use Rattle.driver_core.specs.Inputs.{type_declared}
 use Rattle.mpp_inline.specs.inner.Growth.{Pushed, Gives, Sane, HasInput, InputIsThere, typed_value}
-use Rattle.mpp_inline.proofs.GrowthLemmas.{gives-lit}
+use Rattle.mpp_inline.proofs.CheckGrowth.{gives-lit}
 use Rattle.mpp_inline.proofs.begin.first_node.Goals as goal
 
 pub returns-in-Input-clause-step : goal.returns-in-Input-clause-step

@@ -4,7 +4,7 @@ use Rattle.mpp_inline.specs.declared.work.Work.{Work}
 use Rattle.mpp_inline.specs.declared.work.Work.TheVariants.{Run, Restore, Return}
 use Rattle.mpp_inline.specs.inner.Work.{Standing, Kept, Moves, done, point, block_ahead, whole_of}
 use Rattle.mpp_inline.proofs.ListLemmas.{front-all}
-use Rattle.mpp_inline.proofs.WorkLemmas.{restore-moves, return-moves}
+use Rattle.mpp_inline.proofs.CommandMoves.{restore-moves, return-moves}
 use Rattle.mpp_inline.proofs.blocks.advance.Goals as goal
 
 pub returns-in_ok-next-in-Run-clause-step : goal.returns-in_ok-next-in-Run-clause-step

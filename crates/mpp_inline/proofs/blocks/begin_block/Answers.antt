@@ -6,7 +6,7 @@ use Rattle.mpp_inline.specs.inner.Work.{Standing, Moves, ahead, block_ahead, who
 use Rattle.mpp_inline.specs.declared.work.Work.TheVariants.{Run}
 use Rattle.mpp_inline.specs.inner.Sizes.{load, left_weight, left_turns, action_size, block_size, action_turns, block_turns}
 use Rattle.mpp_inline.proofs.SizeLemmas.{weight-last, turns-last, block-some}
-use Rattle.mpp_inline.proofs.WorkLemmas.{first-moves, none-moves}
+use Rattle.mpp_inline.proofs.CommandMoves.{first-moves, none-moves}
 use Rattle.mpp_inline.proofs.blocks.begin_block.Goals as goal
 
 nothing : (xs : List Action) → length xs ≡ 0 → xs ≡ []

@@ -6,7 +6,7 @@ use Rattle.mpp_inline.specs.inner.Growth.{calls}
 use Rattle.mpp_inline.specs.inner.Work.{Moves, ahead, does, whole_of}
 use Rattle.mpp_inline.specs.inner.Sizes.{left_weight, left_turns, block_size, block_turns}
 use Rattle.mpp_inline.proofs.SizeLemmas.{weight-last, turns-last}
-use Rattle.mpp_inline.proofs.WorkLemmas.{call-moves}
+use Rattle.mpp_inline.proofs.CommandMoves.{call-moves}
 use Rattle.mpp_inline.proofs.blocks.begin_call.Goals as goal
 
 pub returns-clause-step : goal.returns-clause-step

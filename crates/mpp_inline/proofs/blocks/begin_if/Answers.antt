@@ -5,7 +5,7 @@ use Rattle.mpp_inline.specs.declared.work.Work.TheVariants.{Run, Under}
 use Rattle.mpp_inline.specs.inner.Work.{Moves, ahead}
 use Rattle.mpp_inline.specs.inner.Sizes.{left_weight, left_turns}
 use Rattle.mpp_inline.proofs.SizeLemmas.{weight-last, turns-last}
-use Rattle.mpp_inline.proofs.WorkLemmas.{if-moves}
+use Rattle.mpp_inline.proofs.CommandMoves.{if-moves}
 use Rattle.mpp_inline.proofs.blocks.begin_if.Goals as goal
 
 pub returns-clause-step : goal.returns-clause-step

@@ -7,7 +7,7 @@ use Rattle.driver_core.specs.ActionView.{block_of}
 use Rattle.driver_core.specs.Weights.{weight_of}
 use Rattle.mpp_inline.specs.inner.Sizes.{left_weight, left_turns, block_size, body_size}
 use Rattle.mpp_inline.proofs.SizeLemmas.{weight-last, turns-last}
-use Rattle.mpp_inline.proofs.WorkLemmas.{main-point, main-first, moves-then}
+use Rattle.mpp_inline.proofs.CommandMoves.{main-point, main-first, moves-then}
 use Rattle.mpp_inline.proofs.blocks.emit_all.Goals as goal
 
 pub loop-work-init : goal.loop-work-init

@@ -4,7 +4,7 @@ use Rattle.driver_core.specs.Weights.{weight_of}
 use Rattle.mpp_inline.specs.inner.Sizes.{load, left_weight, left_turns}
 use Rattle.mpp_inline.specs.inner.Growth.{Ready, rules_in_turn}
 use Rattle.mpp_inline.specs.inner.Work.{Moves, whole_of}
-use Rattle.mpp_inline.proofs.WorkLemmas.{main-point}
+use Rattle.mpp_inline.proofs.CommandMoves.{main-point}
 use Rattle.mpp_inline.proofs.blocks.emit_all.Given as goal
 
 abbrev pub invariant-loop-work : goal.invariant-loop-work

@@ -1,4 +1,4 @@
-use Rattle.mpp_inline.proofs.StageLemmas.{open-branches}
+use Rattle.mpp_inline.proofs.BranchStages.{open-branches}
 use Rattle.mpp_inline.proofs.branches.open_branches.Goals as goal
 
 pub returns-clause-step : goal.returns-clause-step

@@ -12,7 +12,7 @@ use Rattle.mpp_inline.specs.inner.Growth.{IsUsable, at, denoted, Sane, Known, Pu
 use Rattle.mpp_inline.specs.inner.Sizes.{load}
 use Rattle.mpp_inline.proofs.SizeLemmas.{three-formulas}
 use Rattle.mpp_inline.proofs.ListLemmas.{drop_next}
-use Rattle.mpp_inline.proofs.GrowthLemmas.{gives-lit, gives-same, pushed-load}
+use Rattle.mpp_inline.proofs.CheckGrowth.{gives-lit, gives-same, pushed-load}
 use Rattle.mpp_inline.proofs.TermLemmas.{applied-step, undef-step, fold-first, fold-next, chain-step}
 use Rattle.mpp_inline.proofs.formulas.+formulas.Goals as goal
 

@@ -3,7 +3,7 @@ use Rattle.std.proofs.lemmas.List.{drop_all, drop_more}
 use Rattle.micro_m.specs.Values.{environment}
 use Rattle.driver_core.specs.Meaning.{present_in, present_or}
 use Rattle.mpp_inline.specs.inner.Growth.{at, denoted, Along}
-use Rattle.mpp_inline.proofs.GrowthLemmas.{pushed-load}
+use Rattle.mpp_inline.proofs.CheckGrowth.{pushed-load}
 use Rattle.mpp_inline.proofs.TermLemmas.{fold-first, fold-next}
 use Rattle.mpp_inline.proofs.formulas.emit_further.Goals as goal
 

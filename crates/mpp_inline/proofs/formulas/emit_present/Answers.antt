@@ -4,7 +4,8 @@ use Rattle.m_fixed.specs.declared.operator.Op.TheVariants.{Present}
 use Rattle.m_fixed.specs.Operators.{op_value}
 use Rattle.flat_code.specs.declared.program.Node.TheVariants.{Do}
 use Rattle.mpp_inline.specs.inner.Growth.{Pushed}
-use Rattle.mpp_inline.proofs.GrowthLemmas.{gives-same, known-get, denoted-get}
+use Rattle.mpp_inline.proofs.GrowthLemmas.{known-get, denoted-get}
+use Rattle.mpp_inline.proofs.CheckGrowth.{gives-same}
 use Rattle.mpp_inline.proofs.TermLemmas.{do-step}
 use Rattle.mpp_inline.proofs.formulas.emit_present.Goals as goal
 

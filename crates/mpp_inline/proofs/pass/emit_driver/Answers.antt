@@ -7,7 +7,8 @@ use Rattle.mpp_inline.specs.inner.Growth.{Ready, HasLiterals, Begun, begun_from,
 use Rattle.mpp_inline.specs.inner.Observation.{nodes_of}
 use Rattle.mpp_inline.specs.inner.Work.{Step}
 use Rattle.mpp_inline.proofs.GrowthLemmas.{faces-on}
-use Rattle.mpp_inline.proofs.BeginLemmas.{last-answer, last-known, whole-run, begun-same, start-long}
+use Rattle.mpp_inline.proofs.BeginLemmas.{begun-same, start-long}
+use Rattle.mpp_inline.proofs.EndLemmas.{last-answer, last-known, whole-run}
 use Rattle.mpp_inline.proofs.OrderLemmas.{run-same}
 use Rattle.mpp_inline.proofs.pass.emit_driver.Goals as goal
 

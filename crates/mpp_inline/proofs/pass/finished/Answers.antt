@@ -1,4 +1,4 @@
-use Rattle.mpp_inline.proofs.BeginLemmas.{inlined}
+use Rattle.mpp_inline.proofs.EndLemmas.{inlined}
 use Rattle.mpp_inline.proofs.pass.finished.Goals as goal
 
 pub returns : goal.returns

@@ -3,7 +3,7 @@ use Rattle.std.proofs.lemmas.Result.{IfOk-weaker}
 use Rattle.flat_code.specs.declared.program.Node.TheVariants.{Lit}
 use Rattle.micro_m.specs.Values.{picked_value}
 use Rattle.mpp_inline.specs.inner.Growth.{Pushed, TermStep}
-use Rattle.mpp_inline.proofs.GrowthLemmas.{gives-lit}
+use Rattle.mpp_inline.proofs.CheckGrowth.{gives-lit}
 use Rattle.mpp_inline.proofs.tables.emit_picked.Goals as goal
 
 pub returns-in-Fixed-clause-step : goal.returns-in-Fixed-clause-step

@@ -5,8 +5,8 @@ use Rattle.flat_code.specs.declared.program.Node.TheVariants.{Do}
 use Rattle.mpp_inline.specs.inner.Growth.{IsUsable, Placed, Held, Pushed, Merged, SameButSome, cells_of}
 use Rattle.mpp_inline.specs.inner.Sizes.{load}
 use Rattle.mpp_inline.proofs.ListLemmas.{all-get, some-first, some-next, some-last, same-put, same-none}
-use Rattle.mpp_inline.proofs.GrowthLemmas.{pushed-load}
-use Rattle.mpp_inline.proofs.StageLemmas.{merge-first, merge-skip, merge-write}
+use Rattle.mpp_inline.proofs.CheckGrowth.{pushed-load}
+use Rattle.mpp_inline.proofs.BranchStages.{merge-first, merge-skip, merge-write}
 use Rattle.mpp_inline.proofs.writes.merge.Goals as goal
 use Rattle.mpp_inline.proofs.writes.merge.Goals.{then-first-second+in_ok-number, else-first-second}
 

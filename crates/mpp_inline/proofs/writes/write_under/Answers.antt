@@ -1,7 +1,7 @@
 use Rattle.std.proofs.Common.{[], sym, subst}
 use Rattle.mpp_inline.specs.inner.Growth.{Placed, Held, Merged, SameBut, cells_of}
 use Rattle.mpp_inline.proofs.ListLemmas.{same-written}
-use Rattle.mpp_inline.proofs.StageLemmas.{write-one}
+use Rattle.mpp_inline.proofs.BranchStages.{write-one}
 use Rattle.mpp_inline.proofs.writes.write_under.Goals as goal
 
 pub returns-then-guard-eq-ONE-clause-step : goal.returns-then-guard-eq-ONE-clause-step

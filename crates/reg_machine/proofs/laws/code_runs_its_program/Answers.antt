@@ -1,4 +1,4 @@
-use Rattle.reg_machine.proofs.LawLemmas.{run-is-flat_run}
+use Rattle.reg_machine.proofs.StepLaws.{run-is-flat_run}
 use Rattle.reg_machine.proofs.laws.code_runs_its_program.Goals as goal
 
 pub returns : goal.returns

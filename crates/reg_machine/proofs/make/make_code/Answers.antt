@@ -4,7 +4,7 @@ use Rattle.std.proofs.Math.Seq.{take-suc}
 use Rattle.reg_machine.specs.declared.instr.Instr.{Instr}
 use Rattle.reg_machine.specs.declared.wrong.Wrong.{Wrong}
 use Rattle.reg_machine.specs.Flow.{code_of, with_instr, wrong_behind}
-use Rattle.reg_machine.proofs.BuilderLemmas.{Rest, rest-next, rest-wrong}
+use Rattle.reg_machine.proofs.NumberingLemmas.{Rest, rest-next, rest-wrong}
 use Rattle.reg_machine.proofs.make.make_code.Goals as goal
 
 pub returns-in-Some : goal.returns-in-Some

@@ -1,6 +1,6 @@
 use Rattle.std.proofs.Common.{◌≡◌, take, drop}
 use Rattle.reg_machine.specs.Flow.{code_of}
-use Rattle.reg_machine.proofs.BuilderLemmas.{Rest}
+use Rattle.reg_machine.proofs.NumberingLemmas.{Rest}
 use Rattle.reg_machine.proofs.make.make_code.Given as goal
 
 abbrev pub invariant-loop-place : goal.invariant-loop-place

@@ -1,6 +1,6 @@
 use Rattle.std.proofs.Common.{◌≡◌, ℕ, ◌≤◌, List, length, ap, refl, rules, arith}
 use Rattle.reg_machine.specs.Flow.{Counts, Listing}
-use Rattle.register_alloc.proofs.SoundLemmas.{slots-small}
+use Rattle.register_alloc.proofs.SoundSteps.{slots-small}
 use Rattle.register_alloc.proofs.AllocationLemmas.{sound-start, sealed-from, allocation-from}
 use Rattle.register_alloc.proofs.turn.allocated.Goals as goal
 

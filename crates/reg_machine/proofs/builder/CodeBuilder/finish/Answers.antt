@@ -1,7 +1,7 @@
 use Rattle.std.proofs.Common.{◌≡◌, None, Some, subst}
 use Rattle.reg_machine.specs.Flow.{reading, code_fault, with_slots}
 use Rattle.reg_machine.specs.inner.Packed.{listing_of}
-use Rattle.reg_machine.proofs.BuilderLemmas.{end-whole, end-missing}
+use Rattle.reg_machine.proofs.NumberingLemmas.{end-whole, end-missing}
 use Rattle.reg_machine.proofs.builder.CodeBuilder.finish.Goals as goal
 
 pub seal-requires : goal.seal-requires

@@ -1,6 +1,7 @@
 use Rattle.std.proofs.Common.{◌≡◌, Some, sym, ◌∙◌, subst, arith}
 use Rattle.reg_machine.specs.Flow.{reading}
-use Rattle.reg_machine.proofs.BuilderLemmas.{Parts, whole-not, whole-all}
+use Rattle.reg_machine.proofs.DraftLemmas.{Parts}
+use Rattle.reg_machine.proofs.NumberingLemmas.{whole-not, whole-all}
 use Rattle.reg_machine.proofs.builder.CodeBuilder.is_whole.Goals as goal
 
 pub returns-then-not-contains : goal.returns-then-not-contains

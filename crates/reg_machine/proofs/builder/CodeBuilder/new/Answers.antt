@@ -1,4 +1,4 @@
-use Rattle.reg_machine.proofs.BuilderLemmas.{draft-empty}
+use Rattle.reg_machine.proofs.DraftLemmas.{draft-empty}
 use Rattle.reg_machine.proofs.builder.CodeBuilder.new.Goals as goal
 
 pub invariant_of-result : goal.invariant_of-result

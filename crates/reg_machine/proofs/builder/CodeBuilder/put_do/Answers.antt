@@ -1,7 +1,7 @@
 use Rattle.std.proofs.Common.{sym, subst}
 use Rattle.reg_machine.specs.declared.instr.Instr.TheVariants.{Do}
 use Rattle.reg_machine.specs.inner.Packed.{IsRight}
-use Rattle.reg_machine.proofs.BuilderLemmas.{Parts, draft-do}
+use Rattle.reg_machine.proofs.DraftLemmas.{Parts, draft-do}
 use Rattle.reg_machine.proofs.builder.CodeBuilder.put_do.Goals as goal
 
 pub invariant_of-self-2 : goal.invariant_of-self-2

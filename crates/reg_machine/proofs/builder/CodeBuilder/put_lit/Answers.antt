@@ -1,7 +1,7 @@
 use Rattle.std.proofs.Common.{◌≡◌, length, sym, subst, arith}
 use Rattle.reg_machine.specs.declared.instr.Instr.TheVariants.{Lit}
 use Rattle.reg_machine.specs.inner.Packed.{IsRight}
-use Rattle.reg_machine.proofs.BuilderLemmas.{Parts, literal-pushed, draft-literal}
+use Rattle.reg_machine.proofs.DraftLemmas.{Parts, literal-pushed, draft-literal}
 use Rattle.reg_machine.proofs.builder.CodeBuilder.put_lit.Goals as goal
 
 pub invariant_of-self-2 : goal.invariant_of-self-2

@@ -1,7 +1,7 @@
 use Rattle.std.proofs.Common.{sym, subst}
 use Rattle.reg_machine.specs.declared.instr.Instr.TheVariants.{Load}
 use Rattle.reg_machine.specs.inner.Packed.{IsRight}
-use Rattle.reg_machine.proofs.BuilderLemmas.{Parts, draft-load}
+use Rattle.reg_machine.proofs.DraftLemmas.{Parts, draft-load}
 use Rattle.reg_machine.proofs.builder.CodeBuilder.put_load.Goals as goal
 
 pub invariant_of-self-in-Some : goal.invariant_of-self-in-Some

@@ -1,7 +1,8 @@
 use Rattle.std.proofs.Common.{sym, subst}
 use Rattle.reg_machine.specs.declared.instr.Instr.TheVariants.{Store}
 use Rattle.reg_machine.specs.inner.Packed.{IsRight}
-use Rattle.reg_machine.proofs.BuilderLemmas.{Parts, grown-from, slot-pushed, draft-store}
+use Rattle.reg_machine.proofs.BuilderLemmas.{grown-from}
+use Rattle.reg_machine.proofs.DraftLemmas.{Parts, slot-pushed, draft-store}
 use Rattle.reg_machine.proofs.builder.CodeBuilder.put_store.Goals as goal
 
 pub invariant_of-self-2 : goal.invariant_of-self-2

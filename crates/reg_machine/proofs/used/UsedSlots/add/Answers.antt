@@ -1,6 +1,6 @@
 use Rattle.std.proofs.Common.{◌≡◌, ℕ, List, length, sym, subst, arith}
 use Rattle.reg_machine.specs.inner.Packed.{IsAmong}
-use Rattle.reg_machine.proofs.BuilderLemmas.{numbered-same, numbered-push}
+use Rattle.reg_machine.proofs.NumberingLemmas.{numbered-same, numbered-push}
 use Rattle.reg_machine.proofs.used.UsedSlots.add.Goals as goal
 
 pub invariant_of-self-in_err-insert : goal.invariant_of-self-in_err-insert

@@ -5,7 +5,7 @@ use Rattle.reg_machine.specs.Flow.{loads_of, Listing}
 use Rattle.register_alloc.specs.inner.Tables.{look}
 use Rattle.register_alloc.specs.inner.OutputChain.{IsNext}
 use Rattle.register_alloc.specs.inner.Sound.{count_some, given_part}
-use Rattle.register_alloc.proofs.SoundLemmas.{sound-gave, right-gave, loads-gave}
+use Rattle.register_alloc.proofs.SoundSteps.{sound-gave, right-gave, loads-gave}
 use Rattle.register_alloc.proofs.OutputLemmas.{count-gave, part-least}
 use Rattle.register_alloc.proofs.ChainLemmas.{sound-skip, part-next-output}
 use Rattle.register_alloc.proofs.room.Room.give.Goals as goal

@@ -2,7 +2,8 @@ use Rattle.std.proofs.Common.{◌≡◌, ◌≤◌, ◌+◌, ℕ, ◌<◌, Some,
 use Rattle.reg_machine.specs.Flow.{loads_of}
 use Rattle.register_alloc.specs.inner.Tables.{look}
 use Rattle.register_alloc.proofs.TableLemmas.{look-within}
-use Rattle.register_alloc.proofs.SoundLemmas.{sound-loaded, right-load, loads-load, slots-small}
+use Rattle.register_alloc.proofs.SoundLemmas.{right-load, loads-load}
+use Rattle.register_alloc.proofs.SoundSteps.{sound-loaded, slots-small}
 use Rattle.register_alloc.proofs.room.Room.load.Goals as goal
 
 pub overflow_cast-slot : goal.overflow_cast-slot

@@ -1,5 +1,6 @@
 use Rattle.std.proofs.Common.{◌<◌, length, rules, arith}
-use Rattle.register_alloc.proofs.SoundLemmas.{sound-made-at, right-make, loads-make}
+use Rattle.register_alloc.proofs.SoundLemmas.{right-make, loads-make}
+use Rattle.register_alloc.proofs.SoundSteps.{sound-made-at}
 use Rattle.register_alloc.proofs.room.Room.make.Goals as goal
 
 pub add-requires-clause-right : goal.add-requires-clause-right

@@ -1,7 +1,7 @@
 use Rattle.std.proofs.Common.{◌≡◌, ◌+◌, suc, ap, ◌∙◌, rules, arith}
 use Rattle.register_alloc.specs.declared.moment.Moment.{Moment}
 use Rattle.register_alloc.specs.inner.Sound.{count_given, checks_read}
-use Rattle.register_alloc.proofs.SoundLemmas.{turn-room, tests-more}
+use Rattle.register_alloc.proofs.SoundSteps.{turn-room, tests-more}
 use Rattle.register_alloc.proofs.room.Room.settle.Goals as goal
 
 pub test-requires-clause-few : goal.test-requires-clause-few

@@ -1,7 +1,7 @@
 use Rattle.std.proofs.Common.{◌≡◌, true, sym, ap, ◌∙◌, arith}
 use Rattle.register_alloc.specs.inner.Tables.{is_busy}
 use Rattle.register_alloc.specs.inner.Sound.{live_at}
-use Rattle.register_alloc.proofs.SoundLemmas.{sound-stored, right-stored, loads-stored, slot-small}
+use Rattle.register_alloc.proofs.SoundSteps.{sound-stored, right-stored, loads-stored, slot-small}
 use Rattle.register_alloc.proofs.room.Room.spill.Goals as goal
 
 pub overflow_cast-slot : goal.overflow_cast-slot

@@ -1,6 +1,7 @@
 use Rattle.std.proofs.Common.{arith, ap, sym, ◌∙◌}
 use Rattle.reg_machine.specs.Flow.{loads_of}
-use Rattle.register_alloc.proofs.SoundLemmas.{sound-tested, right-test, loads-test}
+use Rattle.register_alloc.proofs.SoundTests.{right-test, loads-test}
+use Rattle.register_alloc.proofs.SoundSteps.{sound-tested}
 use Rattle.register_alloc.proofs.room.Room.test.Goals as goal
 
 pub add-requires-clause-right : goal.add-requires-clause-right

@@ -1,6 +1,6 @@
 use Rattle.std.proofs.Common.{◌≡◌, suc, length, ap, ◌∙◌, arith}
 use Rattle.reg_machine.specs.Flow.{Listing, loads_of}
-use Rattle.register_alloc.proofs.SoundLemmas.{turn-crowded, turn-room, reads-more}
+use Rattle.register_alloc.proofs.SoundSteps.{turn-crowded, turn-room, reads-more}
 use Rattle.register_alloc.proofs.room.Room.turn.Goals as goal
 
 pub sources-requires-clause-few : goal.sources-requires-clause-few
