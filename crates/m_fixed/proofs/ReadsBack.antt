@@ -30,15 +30,15 @@ digit_test c h = rw (le-leb 48 c h.0, le-leb c 57 h.1) refl
 and_true : (a b : Bool) → IsTrue a → IsTrue b → IsTrue (a && b)
 and_true a b p q = rw (p, q) refl
 
-tells_digits : IsDigitsTest (λ ds. IsTrue (only_digits ds))
-tells_digits = record {
+holds_digits : IsDigitsTest (λ ds. IsTrue (only_digits ds))
+holds_digits = record {
   empty = refl;
   parts = λ c cs h. (digit_from_test c (both _ _ h).0, (both _ _ h).1);
   more = λ c cs h k. and_true _ _ (digit_test c h) k;
 }
 
 own : IsNumeralModel (λ ds. IsTrue (only_digits ds)) (digits_value 10)
-own = numerals_by_value (λ ds. IsTrue (only_digits ds)) tells_digits
+own = numerals_by_value (λ ds. IsTrue (only_digits ds)) holds_digits
 
 digits_test : (ds : List ℕ) → IsTrue (only_digits ds) → 0 < length ds → IsTrue (is_digits ds)
 digits_test ds h some = and_true _ _ h (le-leb 1 (length ds) some)

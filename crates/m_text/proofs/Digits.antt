@@ -24,15 +24,15 @@ digit_from_test c h = let k = both (nat_le 48 c) (nat_le c 57) h in (leb-true 48
 digit_test : (c : ℕ) → IsInRange 48 57 c → IsTrue (is_digit c)
 digit_test c h = rw (le-leb 48 c h.0, le-leb c 57 h.1) refl
 
-tells_digits : IsDigitsTest (λ ds. IsTrue (list_all is_digit ds))
-tells_digits = record {
+holds_digits : IsDigitsTest (λ ds. IsTrue (list_all is_digit ds))
+holds_digits = record {
   empty = refl;
   parts = λ c cs h. (digit_from_test c (both (is_digit c) (list_all is_digit cs) h).0, (both (is_digit c) (list_all is_digit cs) h).1);
   more = λ c cs h k. and_true (is_digit c) (list_all is_digit cs) (digit_test c h) k;
 }
 
 own : IsNumeralModel (λ ds. IsTrue (list_all is_digit ds)) (digits_value 10)
-own = numerals_by_value (λ ds. IsTrue (list_all is_digit ds)) tells_digits
+own = numerals_by_value (λ ds. IsTrue (list_all is_digit ds)) holds_digits
 
 -- one more digit
 pub value_more : (ds : List ℕ) (i : ℕ) → IsTrue (list_all is_digit ds) → i < length ds
