@@ -1,4 +1,4 @@
-"""Edits that mend what a diagnostic tells: a sign that is missing, a comma for a decimal point, a name that is nearly another."""
+"""Edits that fix a diagnostic: a sign that is missing, a comma for a decimal point, a name that is nearly another."""
 from __future__ import annotations
 
 import re
@@ -80,7 +80,7 @@ def other_names(context: Context, text: Text, data: dict[str, Any], begin: int, 
 
 
 def in_rules(text: RuleText, data: dict[str, Any], begin: int, end: int) -> Iterator[tuple[str, list[Edit]]]:
-    """What mends a fault of grammar, by the tokens round it and by what could stand there."""
+    """The fixes of a fault of grammar, by the tokens round it and by the expected ones."""
     before, after = tokens_round(text, begin)
     wanted, found = data["wanted"], data["found"]
     yield from third_argument(text, found, before, after, begin)
@@ -113,7 +113,7 @@ def in_rules(text: RuleText, data: dict[str, Any], begin: int, end: int) -> Iter
 
 
 def tokens_round(text: RuleText, begin: int) -> tuple[list[source.Token], list[source.Token]]:
-    """The tokens before a byte, from the piece before its own on, and those behind the token at it, to the end of the next piece."""
+    """The tokens before a byte, from the piece before its own on, and those after the token at it, to the end of the next piece."""
     number = text.at(begin)
     first, last = max(0, number - 1), min(len(text.pieces) - 1, number + 1)
     tokens: list[source.Token] = []

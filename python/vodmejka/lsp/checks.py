@@ -17,7 +17,7 @@ ERROR, WARNING, INFORMATION, HINT = 1, 2, 3, 4
 
 
 class Finding(NamedTuple):
-    """What is told of some bytes, which count from the begin of a piece: how grave it is, what the program calls it, and a token that stands for it."""
+    """A finding at some bytes, counted from the begin of a piece: its severity, the program's name of it, and a token that identifies it."""
 
     begin: int
     end: int
@@ -108,7 +108,7 @@ class Checker(faults.Names):
         return Finding(byte, byte + token_length(piece, byte), ERROR, what)
 
     def add(self, _name: str, _content: bytes, byte: int, what: str) -> None:
-        """What the library tells of a piece. That a name is unknown isn't sure where a piece with faults may declare it, or a file can't be read."""
+        """Adds what the library reports of a piece. That a name is unknown isn't sure where a piece with faults may declare it, or a file can't be read."""
         if what.startswith("unknown name ") and (self.base.missing or what.split(" ")[2] in self.base.maybe):
             return
         self.told.append((byte, what))
@@ -223,7 +223,7 @@ def is_returned(item: items.Declaration) -> bool:
 
 
 def applications_of(head: Piece) -> tuple[str, ...]:
-    """The applications of a rule or verification: what stands behind its head is of them."""
+    """The applications of a rule or verification: the items after its head belong to them."""
     pieces = head.text.pieces
     number = head.text.at(head.begin)
     return pieces[number + 1].state.applications if number + 1 < len(pieces) else ()

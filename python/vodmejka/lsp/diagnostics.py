@@ -1,4 +1,4 @@
-"""What is told of a text: faults of its bytes, tokens and grammar, of names and loops, and slips; and what the program told when it was saved."""
+"""The diagnostics of a text: faults of its bytes, tokens and grammar, of names and loops, and slips; and what the program reported when it was saved."""
 from __future__ import annotations
 
 import re
@@ -17,8 +17,8 @@ from .texts import Text
 from .workspace import DriverText, Workspace
 
 MOST = 500
-UNREADABLE = "\ufffd".encode()  # what stands for a letter that an editor can't read
-NEAR = 40  # within so many bytes after a bad byte a fault of grammar says nothing new
+UNREADABLE = "\ufffd".encode()  # the replacement of a letter that an editor can't read
+NEAR = 40  # within this many bytes after a bad byte a fault of grammar adds nothing
 
 Diagnostic = dict[str, Any]
 
@@ -34,7 +34,7 @@ def diagnostic(text: Text, begin: int, end: int, severity: int, what: str, mend:
 
 
 def of_text(workspace: Workspace, text: Text) -> list[Diagnostic]:
-    """All that is told of a text, in its order."""
+    """All diagnostics of a text, in its order."""
     if isinstance(text, DriverText):
         found = list(of_driver(workspace, text))
     elif isinstance(text, RuleText):
@@ -138,7 +138,7 @@ def of_driver(workspace: Workspace, text: DriverText) -> Iterator[Diagnostic]:
 
 
 def place_in_driver(text: DriverText, fault: faults.Found) -> tuple[int, int]:
-    """The bytes of a fault: of a name that it tells, of a token, or of a whole line."""
+    """The bytes of a fault: of a name that it has, of a token, or of a whole line."""
     start, line = text.starts[fault.line - 1], text.line(fault.line - 1)
     if fault.byte is not None:
         found = drivers.TOKEN.match(line, fault.byte)
@@ -162,7 +162,7 @@ def kinds_of_no_input(text: DriverText, base: Base) -> Iterator[Diagnostic]:
 
 
 def of_bytes(text: Text) -> Iterator[Diagnostic]:
-    """What is told of the bytes: a byte order mark that the client hides, carriage returns, and letters that the client could not read."""
+    """The diagnostics of the bytes: a byte order mark that the client hides, carriage returns, and letters that the client could not read."""
     if text.on_disk is not None and text.on_disk.startswith(source.MARK) and not text.content.startswith(source.MARK):
         yield diagnostic(text, 0, 0, ERROR, "bad byte", marked())
     alone = re.search(rb"\r(?!\n)", text.content)
@@ -175,7 +175,7 @@ def of_bytes(text: Text) -> Iterator[Diagnostic]:
 
 
 def of_list(workspace: Workspace, base: Base) -> list[Diagnostic]:
-    """What is told of a list: that it can't be read, files that can't, and slips of the whole base."""
+    """The diagnostics of a list: that it can't be read, files that can't, and slips of the whole base."""
 
     def at(line: int, severity: int, what: str) -> Diagnostic:
         place = {"line": line, "character": 0}

@@ -1,4 +1,4 @@
-"""The values of a household beside the formulas: those that the program computed of the files as they are."""
+"""The values of a household, shown at the formulas: those that the program computed of the files as they are."""
 from __future__ import annotations
 
 from typing import Any
@@ -11,7 +11,7 @@ MOST = 4
 
 
 def inlay_hints(context: Context, params: dict[str, Any]) -> list[dict[str, Any]]:
-    """A hint behind each formula of a range. None are given where a file was changed since the program computed."""
+    """A hint after each formula of a range. None are given where a file was changed since the program computed."""
     text = read_text(context, params)
     begin, end = range_of(text, params)
     if not isinstance(text, RuleText):

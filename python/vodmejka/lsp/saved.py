@@ -1,5 +1,5 @@
 """What the programs report of the files as they were saved: the fault, the findings of `lint`, the facts that hold for all households within the ranges that a
-setting names, and the values of a household. They run beside the server, one run at a time."""
+setting names, and the values of a household. They run in parallel with the server, one run at a time."""
 from __future__ import annotations
 
 import contextlib
@@ -25,7 +25,7 @@ Key = tuple[Any, ...]
 
 
 class Job(NamedTuple):
-    """A run of m_tax, or of m_survey for `facts`: `words` behind its name, and the contents of the files as they were when it began."""
+    """A run of m_tax, or of m_survey for `facts`: `words` after its name, and the contents of the files as they were when it began."""
 
     base: Base
     kind: str
@@ -35,7 +35,7 @@ class Job(NamedTuple):
 
 
 class Told(NamedTuple):
-    """What a run told, by text with the content that it is about, of the list, and of a household."""
+    """The results of a run, by text with the content that they are about, of the list, and of a household."""
 
     key: Key
     contents: dict[Text, bytes] = {}
@@ -70,7 +70,7 @@ class Runs:
         return None if program.is_trial(found) else found
 
     def begin(self) -> None:
-        """Starts what the files as they are on the disk ask for, and ends what others asked for."""
+        """Starts the runs that the files on the disk need, and ends those that are no longer needed."""
         wanted = [job for base in self.workspace.bases.values() if not base.is_alone for job in self.jobs_of(base)]
         if self.at_hand is not None and not any(self.at_hand.key == job.key for job in wanted):
             self.end()
@@ -127,7 +127,7 @@ class Runs:
         return [self.child.stdout.fileno()] if self.child is not None and self.child.stdout is not None else []
 
     def take_in(self) -> bool:
-        """Takes in what the run at hand prints, without waiting; whether it has ended and told something."""
+        """Reads what the run at hand prints, without waiting; returns whether it has ended and reported something."""
         import select
 
         ended = False
@@ -170,10 +170,10 @@ class Runs:
             self.child.wait()
         self.forget()
 
-    # ---- what was told
+    # ---- the results
 
     def told(self, text: Text) -> list[dict[str, Any]]:
-        """What the program told of a text, where it is still the one that was saved."""
+        """What the program reported of a text, if it is still the one that was saved."""
         return [one for told in self.results.values() if told.contents.get(text) == text.content for one in told.texts.get(text, [])]
 
     def told_of_list(self, base: Base) -> list[dict[str, Any]]:
@@ -239,7 +239,7 @@ def told_by_lint(job: Job, status: int, lines: list[str]) -> Told:
 
 
 def tell_finding(base: Base, line: str, tell: Any) -> None:
-    """Tells a line of `lint` at the place that it is about."""
+    """Reports a line of `lint` at the place that it is about."""
     words = line.split(" ")
     if line.startswith("never defined "):
         piece = base.first(base.variables.of(words[2].split("[")[0]))
@@ -259,7 +259,7 @@ def verification(base: Base, number: str, error: str) -> Piece | None:
 
 def told_by_facts(job: Job, status: int, lines: list[str], known: frozenset[tuple[str, str]]) -> Told:
     """What holds for all households within the ranges: values that may overflow, and verifications that never stop, without those that `lint` knows. A fault of
-    the source is `lint`'s to report, one of the ranges stands at the list."""
+    the source is `lint`'s to report, one of the ranges is reported at the list."""
     if status != 0:
         faults = [line for line in lines[:1] if "ranges" in line]
         return Told(job.key, job.contents, of_list=[diagnostic(None, 0, 0, ERROR, line) for line in faults])
@@ -279,7 +279,7 @@ def told_by_facts(job: Job, status: int, lines: list[str], known: frozenset[tupl
 
 
 def head_of(piece: Piece) -> Piece | None:
-    """The head of the rule or verification in which a piece stands."""
+    """The head of the rule or verification in which a piece is."""
     pieces = piece.text.pieces
     at = piece.text.at(piece.begin)
     while at >= 0 and not isinstance(pieces[at].item, Head):
@@ -288,7 +288,7 @@ def head_of(piece: Piece) -> Piece | None:
 
 
 def fault_of(job: Job, line: str) -> tuple[Text | None, dict[str, Any]]:
-    """The fault that the program tells, at its text where it has one."""
+    """The fault that the program reports, at its text if it has one."""
     match = re.fullmatch(r"refused (.*) line ([0-9]+) byte ([0-9]+): (.*)", line)
     text: Text | None
     if match:
