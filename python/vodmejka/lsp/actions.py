@@ -26,19 +26,19 @@ def code_actions(context: Context, params: dict[str, Any]) -> list[dict[str, Any
     begin, end = range_of(text, params)
     context.workspace.look_at_text(text, context.tick)
     found = []
-    for told in diagnostics.of_text(context.workspace, text):
-        if "data" in told and text.byte(told["range"]["start"]) <= end and text.byte(told["range"]["end"]) >= begin:
+    for reported in diagnostics.of_text(context.workspace, text):
+        if "data" in reported and text.byte(reported["range"]["start"]) <= end and text.byte(reported["range"]["end"]) >= begin:
             context.tick()
-            for title, edits in mended(context, text, told):
+            for title, edits in mended(context, text, reported):
                 changes = [{"range": text.range(first, last), "newText": new} for first, last, new in edits]
-                shown = {name: value for name, value in told.items() if name != "data"}
+                shown = {name: value for name, value in reported.items() if name != "data"}
                 found.append({"title": title, "kind": "quickfix", "diagnostics": [shown], "edit": {"changes": {text.uri: changes}}})
     return found
 
 
-def mended(context: Context, text: Text, told: Diagnostic) -> Iterator[tuple[str, list[Edit]]]:
+def mended(context: Context, text: Text, reported: Diagnostic) -> Iterator[tuple[str, list[Edit]]]:
     """What mends a diagnostic: a title with edits, the likeliest first."""
-    data, begin, end = told["data"], text.byte(told["range"]["start"]), text.byte(told["range"]["end"])
+    data, begin, end = reported["data"], text.byte(reported["range"]["start"]), text.byte(reported["range"]["end"])
     what = data["what"]
     if what.startswith(("unknown name ", "unknown error ", "unknown ")):
         yield from other_names(context, text, data, begin, end)

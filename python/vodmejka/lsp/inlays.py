@@ -17,14 +17,14 @@ def inlay_hints(context: Context, params: dict[str, Any]) -> list[dict[str, Any]
     if not isinstance(text, RuleText):
         return []
     base = next((base for base in context.workspace.bases_of(text) if context.runs.is_current(base)), None)
-    told = context.runs.values(base) if base is not None else None
-    if base is None or told is None or told.stop:
+    outcome = context.runs.values(base) if base is not None else None
+    if base is None or outcome is None or outcome.stop:
         return []
     found = []
     for number in pieces_in(text, begin, end):
         piece = text.pieces[number]
         if isinstance(piece.item, Formula) and base.counts(piece):
-            label = label_of(piece, told.values)
+            label = label_of(piece, outcome.values)
             if label and begin <= piece.end <= end:
                 found.append({"position": text.position(piece.end), "label": label, "paddingLeft": True})
     return found

@@ -173,9 +173,9 @@ def laid_out_driver(content: bytes) -> bytes:
     for number, line in enumerate(source.lines_of(content), 1):
         comment = line.split(b"#", 1)[1].decode("latin-1").strip(" \t\r") if b"#" in line else None
         if number in levels:
-            level, said = levels[number]
+            level, parsed = levels[number]
             rows += [Row(STEP * level if one else "", one) for one in pending]
-            rows.append(Row(STEP * level + driver_line(said.tokens), "" if comment is None else f"# {comment}".strip()))
+            rows.append(Row(STEP * level + driver_line(parsed.tokens), "" if comment is None else f"# {comment}".strip()))
             pending = []
         elif comment is not None:
             pending.append(f"# {comment}".strip())
