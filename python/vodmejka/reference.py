@@ -1,4 +1,4 @@
-"""The entries of a reference, one for each variable of a rule base: declarations with comments, formulas with the letters of loops filled in, who reads whom."""
+"""The entries of a reference, one for each variable of a rule base: declarations with comments, formulas with letters of loops filled in, who reads whom."""
 from __future__ import annotations
 
 import bisect
