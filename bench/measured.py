@@ -1,4 +1,4 @@
-"""What one run of a command takes, and how a figure is told: used by the benches that time whole runs of programs."""
+"""What one run of a command takes, and how a figure is reported: used by the benches that time whole runs of programs."""
 import os
 import subprocess
 import sys
@@ -11,7 +11,7 @@ RUNS = 3
 def timed(command, folder, typed=b""):
     """Seconds of the processor (user and system), peak bytes of resident memory, the status, what was printed, and seconds by the clock, of one run.
 
-    The peak is told by GNU time: that of a child of Python isn't less than Python's own.
+    The peak is the one that GNU time prints: that of a child of Python isn't less than Python's own.
     """
     with tempfile.TemporaryFile() as printed, tempfile.TemporaryFile() as given, tempfile.NamedTemporaryFile() as told:
         given.write(typed)
@@ -38,10 +38,10 @@ def least(command, folder, typed=b""):
 
 
 def figure(name, value, aim="-"):
-    """Tells a figure to bench/all: a name without blanks, a number, and the aim, as `<=3` or `>=60`, or `-` for none."""
+    """Reports a figure to bench/all: a name without blanks, a number, and the aim, as `<=3` or `>=60`, or `-` for none."""
     print(f"figure {name} {value:.4g} {aim}" if value < 1000 else f"figure {name} {value:.0f} {aim}", flush=True)
 
 
 def machine():
-    """What the page says of the machine: its processors, and how many programs wanted one in the last minute."""
+    """The page's line on the machine: its processors, and how many programs wanted one in the last minute."""
     return f"{os.cpu_count()} processors, load {os.getloadavg()[0]:.1f}, Python {sys.version.split()[0]}"

@@ -21,7 +21,7 @@ def uses_of(path):
 
 
 def rlib_of(name, folder, own):
-    """Where a library lies: that of the kit, where it is none of the repository's."""
+    """The path of a library: that of the kit, if it is none of the repository's."""
     place = os.path.join(folder, name, "out/rlib", f"{name}.rlib") if own else f"{KIT}/rlibs/{name}.rlib"
     if not os.path.exists(os.path.join(place, "format")):
         sys.exit(f"over_rlibs: {place} isn't there")

@@ -3,7 +3,7 @@
 # crate that is over, and a count; the status is 0 where none is.
 #
 # tests/budget.sh FIGURES also looks at the figures that bench/gate/measure.py wrote: the check of a library takes at most
-# 20 s of CPU, for those that it stands on, and 100 s for 1,000 lines of its code, definitions and proofs, and its tests no
+# 20 s of CPU, for those that it uses, and 100 s for 1,000 lines of its code, definitions and proofs, and its tests no
 # more than the crates that they test. What a program takes is the linking of all of them and its two builds.
 cd "$(dirname "$0")/.." || exit 1
 figures=${1-/dev/null}
@@ -14,7 +14,7 @@ for crate in $(sed -n 's/^\([a-z][a-z0-9_]*\)[^:#]*:.*/\1/p' crates.txt); do
     [ ! -f "crates/$crate/src/main.rt" ] || kind=program
     echo "$crate $edits $lines $kind"
 done | awk -v figures="$figures" '
-    # whether the crates that this one stands on, and theirs, are marked in below
+    # whether the crates that this one uses, directly or not, are marked in below
     function stands_on(crate,    k, n, names) {
         n = split(uses[crate], names, " ")
         for (k = 1; k <= n; k++) if (names[k] in uses && !(names[k] in below)) { below[names[k]]; stands_on(names[k]) }

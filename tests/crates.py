@@ -5,7 +5,7 @@
     tests/crates.py NAME ..         prints what each of these crates is for, what it uses, what uses it, and its files of definitions
     tests/crates.py --cited PAGE .. prints each file and name that a page cites and the repository lacks
 
-The first paragraph of a crate's first comment says what the crate is for, and the others what it uses and may not know. A page cites
+The first paragraph of a crate's first comment gives its purpose, the others what it uses and may not know. A page cites
 `crate/folder/file` or `folder/file`, and in brackets after a file or a crate the names that it has: `m_fixed/src/table.rt` (`apply`), m_fixed (`apply`).
 The status is 1 where a crate has no comment or something cited isn't there.
 """
@@ -18,7 +18,7 @@ ROOT = os.path.dirname(os.path.dirname(os.path.abspath(__file__)))
 PATH = r"`(?P<path>\.?[\w*][\w.*+-]*(?:/[\w.*+-]+)+)/?(?: [^`]*)?`"
 CRATE = r"`?\b(?P<crate>[a-z][a-z0-9_]*)\b`?"
 NAMES = r" \((?P<names>`[^`)]+`(?:(?:, | and |; )`[^`)]+`)*)"
-NOT_THERE = re.compile("^out/|^build/|NAME|CRATE")  # what commands make, and what stands for a name
+NOT_THERE = re.compile("^out/|^build/|NAME|CRATE")  # what commands make, and placeholders of names
 
 
 def read(path):
@@ -74,7 +74,7 @@ def table():
 
 
 def show(crate):
-    """Prints what there is to know of a crate."""
+    """Prints a crate's first comment, uses, users and definitions."""
     uses = dict(row for _, crates in index() for row in crates)
     if crate not in uses:
         sys.exit(f"crates: there is no crate {crate}")

@@ -46,7 +46,7 @@ same "the limits of m_places and those of FORMATS" "$room/constants" "$room/limi
 sed -n 's/^\([A-Z_]*\) = \([0-9_]*\)  # .*/\1 \2/p' python/vodmejka/limits.py | grep -v '^AMOUNT ' | sed 's/_\([0-9]\)/\1/g' | sort >"$room/library"
 same "the limits of m_places and those of the Python library" "$room/constants" "$room/library"
 
-# The usage line: one text wherever it stands.
+# The usage line: the same text in all places.
 git grep -hoE 'usage: m_tax run[^"\\]*TABLE' -- README.md LISEZMOI.md docs crates tests/started.sh | sort -u >"$room/usages"
 head -n 1 "$room/usages" >"$room/usage"
 same "the copies of the usage line" "$room/usage" "$room/usages"
@@ -77,7 +77,7 @@ for pair in m.tmLanguage.json:listed mpp.tmLanguage.json:driver_listed; do
     same "the words of ${pair%:*} and their list" "$room/coloured" "$room/${pair#*:}"
 done
 
-# What PROVED says of how much there is to read, and what the script counts; the list of mutants can be made.
+# The counts of lines to read in PROVED, and those of the script; the list of mutants can be made.
 if command -v python3 >/dev/null 2>&1; then
     awk '/^## /{inside = /^## Everything you must read/; next} inside && /^`tests/{exit} inside' docs/PROVED.md | sed '1d;$d' >"$room/told"
     python3 -B tests/definitions.py --head >"$room/counted"
@@ -124,7 +124,7 @@ for pair in README.md:LISEZMOI.md docs/FIRST_HOUR.md:docs/fr/PREMIERE_HEURE.md d
     same "the commands and answers of ${pair%:*} and of ${pair#*:}" "$room/blocks" "$room/french"
 done
 
-# Pages keep their sizes, in KB: who adds something says it shorter, or leaves something out.
+# Pages keep their sizes, in KB: who adds something shortens or removes something else.
 sizes="README.md 9 docs/ARCHITECTURE.md 20 docs/PROVED.md 15 docs/DECISIONS.md 18 docs/PROOFS.md 12 docs/STRENGTH.md 6"
 echo "$sizes" | xargs -n 2 | while read -r page most; do
     if [ "$(wc -c <"$page")" -le $((most * 1024)) ]; then echo "$page at most $most KB"; else echo "$page has $(wc -c <"$page") bytes"; fi

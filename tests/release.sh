@@ -25,7 +25,7 @@ says() {
     tail -n 5 "$room/errors"
 }
 
-# rejects WHAT MESSAGE WORD..: the command says this on standard error, with the status 1, and makes no folder.
+# rejects WHAT MESSAGE WORD..: the command prints this on standard error, with the status 1, and makes no folder.
 rejects() {
     what=$1 expected=$2
     shift 2

@@ -1,5 +1,5 @@
 #!/bin/sh
-# Installs the Debian packages that some tests use; without one its tests are left out, with a line that says so. As root: tests/setup.sh
+# Installs the Debian packages that some tests use; without one its tests are left out, with a message. As root: tests/setup.sh
 set -eu
 apt-get update -qq
 # tests/web: node runs the modules of pages, chromium with its driver opens them

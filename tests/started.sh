@@ -44,7 +44,7 @@ row() {
     printf '%s %s\n' "$cases" "$status" >>"$dir/$called.statuses"
 }
 
-# try_cases PROGRAM: compiles the sources once, and tries each case. The files of the examples go along under their names.
+# try_cases PROGRAM: compiles the sources once, and tries each case. The files of the examples are there under their names.
 try_cases() {
     called=$1
     set --
@@ -64,7 +64,7 @@ try_cases() {
     [ "$failed" -eq 0 ] || tail -n 5 "$dir/tried"
 }
 
-# judge SEEN STATUS LINE WORDS [COMPLAINT]: compares a run that was just made. On standard error it said the complaint, or
+# judge SEEN STATUS LINE WORDS [COMPLAINT]: compares a run that was just made. On standard error it printed the complaint, or
 # nothing where there is none.
 judge() {
     if [ "$1" -eq "$2" ] && [ "$(cat "$dir/out")" = "$3" ] && [ "$(cat "$dir/err")" = "${5-}" ]; then
@@ -267,7 +267,7 @@ if [ $way = built ]; then
     judge "$?" 0 "IRN = 1500.5" "exec of what compile printed"
 fi
 
-# A standard output that is closed or full: the status says so, whatever the line would have been.
+# A standard output that is closed or full: the status reports it, whatever the line would have been.
 if [ $way = built ]; then
     : >"$dir/out"
     "$program" run $list - - $household 2>"$dir/err" >&-
@@ -286,8 +286,8 @@ if [ $way = built ]; then
     fi
 fi
 
-# Which files are opened, and how: those that are named, for reading, and no more but the C library's and those in which the system says how many processors
-# there are. Threads are begun, and no other process. Each thread's calls come in a file of its own, so that none stands in the middle of another.
+# Which files are opened, and how: those that are named, for reading, and no more but the C library's and those in which the system has the number of processors
+# there are. Threads are begun, and no other process. Each thread's calls come in a file of its own, so that none is in the middle of another.
 opened() {
     rm -f "$dir"/calls.*
     strace -ff -e trace=file,network,process -o "$dir/calls" "$@" >/dev/null 2>&1 </dev/null
@@ -336,7 +336,7 @@ status=$?
 cp "$dir/second" "$dir/out" && : >"$dir/err"
 judge "$status" 3 "unreadable nowhere.list" "a second run at once"
 
-# The script beside sources that are newer than the program: it says so, and runs the program that was proved.
+# The script where the sources are newer than the program: it reports this, and runs the program that was proved.
 mkdir -p "$dir/old/out" "$dir/old/crates/any/src" "$dir/old/crates/any/specs"
 cp m_tax "$dir/old/m_tax"
 printf '#!/bin/sh\necho "program: $*"\nexit 6\n' >"$dir/old/out/m_tax"
@@ -345,7 +345,7 @@ touch -d '2000-01-01' "$dir/old/out/built"
 : >"$dir/old/crates.txt"
 "$dir/old/m_tax" run "a b" >"$dir/out" 2>"$dir/err"
 judge "$?" 6 "program: run a b" "sources that are newer" "m_tax: the sources are newer than the program; this is the program as ./build proved it last"
-# Each kind of source is looked at, wherever it lies, and a proof alone is no newer program: a file that is written where it lies, one that is new, one that goes.
+# Each kind of source is looked at, in any folder, and a proof alone is no newer program: a file that is rewritten, one that is new, one that is removed.
 for part in src src/below specs specs/below; do
     mkdir -p "$dir/old/crates/any/$part" && : >"$dir/old/crates/any/$part/file"
 done
@@ -381,7 +381,7 @@ rm "$dir/old/out/built"
 judge "$?" 6 "program: run a b" "a build that was ended" \
     "m_tax: nothing tells whether the program is of these sources, since ./build was ended; ./build goes on"
 
-# ./build through a symbolic link finds no crates beside the link, and makes nothing there.
+# ./build through a symbolic link finds no crates in the link's folder, and makes nothing there.
 mkdir "$dir/links"
 ln -s "$root/build" "$dir/links/build"
 "$dir/links/build" >"$dir/out" 2>"$dir/err"

@@ -10,7 +10,7 @@ if ! command -v python3 >/dev/null 2>&1; then
     exit 0
 fi
 ROOT=$PWD
-# named PROGRAM FILE: the file that PROGRAM is to be, or what ./build made; nothing where neither is there.
+# named PROGRAM FILE: the file to use as PROGRAM, or what ./build made; nothing if neither is there.
 named() {
     case $2 in
         "") [ ! -x "out/$1" ] || echo "$ROOT/out/$1" ;;

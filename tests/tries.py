@@ -2,20 +2,20 @@
 """Tries mutants, which are wrong bodies: tests/tries.py [--stands | --page] [CRATE ..]
 
 tests/tries/CRATE.txt has wrong bodies of a crate's functions. This script copies the repository, puts them into the copy, as many
-functions at a time as it can, checks these functions there, and says of each whether the check refused it. What can't be judged since
+functions at a time as it can, checks these functions there, and prints for each whether the check rejected it. What can't be judged since
 another function is wrong too is tried again alone. Without a name it goes through all crates. `rt check` proves the crates below first, and
 takes what a check in this clone proved already: begin with `./build`, and it is an hour for all. It is no part of the gate.
 
-Of an entry the first line is `@ FUNCTION FILE`, the second `# ` and what is wrong; in brackets stands what is right, or free, and
-may be proved. Then come the lines that stand in the file, each behind `-`, and the lines in their place, each behind `+`. The
+Of an entry the first line is `@ FUNCTION FILE`, the second `# ` and what is wrong; in brackets is what is right, or free, and
+may be proved. Then come the lines of the file, each after `-`, and the lines in their place, each after `+`. The
 first and the last may be parts of lines.
 
-The verdicts are `refused`: the search doesn't prove a goal of the function; `hint`: an answer that stands in proofs/ no longer fits, as
-a name that it cites is gone, and the search alone doesn't decide, which says nothing of the clause before somebody has looked at the
+The verdicts are `refused`: the search doesn't prove a goal of the function; `hint`: an answer in proofs/ no longer fits, as
+a name that it cites is gone, and the search alone doesn't decide, which proves nothing of the clause before somebody has looked at the
 goal; `PROVED`, which is a clause to strengthen; `allowed`, for those in brackets that are proved; and `not judged`, with the reason.
-Where an answer doesn't fit, the body is tried once more without the function's answers. --stands says which entries no longer stand in their
+Where an answer doesn't fit, the body is tried once more without the function's answers. --stands prints which entries no longer occur in their
 files, and how many do, and checks nothing. --page lists all entries and the edits of crates/*/must-fail. The
-status is 1 where one is proved or doesn't stand.
+status is 1 if one is proved or doesn't occur.
 """
 import re
 import shutil
@@ -29,7 +29,7 @@ TOP = Path(__file__).resolve().parent.parent
 
 
 class Body(NamedTuple):
-    """A wrong body: the function, its file, what is wrong with it, and the text that stands in the place of another."""
+    """A wrong body: the function, its file, what is wrong with it, and the text that replaces another."""
 
     function: str
     file: str
@@ -55,7 +55,7 @@ def bodies_of(crate):
 
 
 def put(texts, body):
-    """Puts a body into the texts of its crate's files, and returns whether its old text stands there once."""
+    """Puts a body into the texts of its crate's files, and returns whether its old text occurs there once."""
     text = texts.get(body.file, "")
     if text.count(body.old) != 1:
         return False
@@ -81,7 +81,7 @@ def texts_of(crate_folder):
 
 
 def module_of(body):
-    """Returns the module of a body's file, as it stands in front of a name that a check prints: "" for the root."""
+    """Returns the module of a body's file, as it precedes a name that a check prints: "" for the root."""
     module = body.file.removeprefix("src/").removesuffix(".rt").replace("/", "::")
     return "" if module == "lib" else module + "::"
 
@@ -177,7 +177,7 @@ def tried(crate_folder, crate):
     for bodies in rounds_of(standing, texts):
         lines, errors, changed = check(crate_folder, texts, bodies)
         while errors:
-            # what seems to stand where the error is is tried again alone, and all where nothing does
+            # what seems to be at the error's place is tried again alone, and all if nothing is
             wrong = {nearest(bodies, changed, *error) for error in errors} - {None} or set(bodies)
             alone += [body for body in bodies if body in wrong]
             bodies = [body for body in bodies if body not in wrong]
@@ -196,8 +196,8 @@ def tried(crate_folder, crate):
 
 HEAD = """# All mutants
 
-Printed by `tests/tries.py --page` from `tests/tries` and `crates/*/must-fail`. What they say of the contracts stands in docs/STRENGTH.md. "Edits" are the mutants that the gate tries each time; the rows are tried by `tests/tries.py`. In brackets
-stands what is right or free, and may be proved.
+Printed by `tests/tries.py --page` from `tests/tries` and `crates/*/must-fail`. docs/STRENGTH.md describes what they show of the contracts.
+"Edits" are the mutants that the gate tries each time; the rows are tried by `tests/tries.py`. In brackets is what is right or free, and may be proved.
 """
 
 

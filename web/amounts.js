@@ -51,7 +51,7 @@ function ofBoth(compute) {
   };
 }
 
-// An operator of two arguments, of which an undefined one counts as 0 beside one that isn't.
+// An operator of two arguments, of which an undefined one counts as 0 if the other isn't.
 function ofEither(compute) {
   return (a, b) => {
     if (a === OVER || b === OVER) return OVER;

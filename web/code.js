@@ -1,4 +1,4 @@
-// Code files, as docs/CODE.md has them: what one says, or its first fault, and what its code gives for the amounts of a household.
+// Code files, as docs/CODE.md has them: the parser with its first fault, and the evaluation for the amounts of a household.
 // A file is a text of one character a byte. Registers and slots are gone once it is read: each value that an instruction makes has a number of its own.
 import { ARITY, GREATEST, OPERATORS, OVER, UNDEFINED, UNIT } from './amounts.js';
 
@@ -64,7 +64,7 @@ function labelOf(words) {
   return { verification, error, kind, text: text.replace(/../g, (digits) => String.fromCharCode(parseInt(digits, 16))) };
 }
 
-// What a code file says: `inputs` are codes with types, `labels` what checks tell, `outputs` a note's label or the name of a cell. A value is a literal, an
+// A parsed code file: `inputs` are codes with types, `labels` those of checks, `outputs` a note's label or the name of a cell. A value is a literal, an
 // input's amount (`takes` has pairs of the value and the input), or one that an operator makes of others (`steps`). `checks` and `results` name values.
 export class Program {
   constructor() {
@@ -113,8 +113,8 @@ export class Program {
 
   // The notes of a run, and its named values in the order of the outputs.
   notes(values) {
-    const told = (output, k) => 'note' in output && typeof values[this.results[k]] === 'bigint' && values[this.results[k]] !== 0n;
-    return this.outputs.filter(told).map((output) => this.labels[output.note]);
+    const isNoted = (output, k) => 'note' in output && typeof values[this.results[k]] === 'bigint' && values[this.results[k]] !== 0n;
+    return this.outputs.filter(isNoted).map((output) => this.labels[output.note]);
   }
 
   named(values) {
@@ -259,7 +259,7 @@ const READS = {
   end: { lengths: [1], take: Reader.prototype.end },
 };
 
-// The program of a code file. The first line with a fault decides; what stands after the last line feed is no line.
+// The program of a code file. The first line with a fault decides; text after the last line feed is no line.
 export function readCode(text) {
   const lines = text.split('\n');
   const rest = lines.pop();

@@ -29,8 +29,8 @@ export class Walk {
   }
 }
 
-// Walks a range with all cases; tells how far it is, and gives the amounts with a list of results for each case. Another walk that begins ends this one.
-export async function walk(walks, { from, to, step }, tell, isOver) {
+// Walks a range with all cases; reports its progress, and returns the amounts with a list of results for each case. A walk that begins later ends this one.
+export async function walk(walks, { from, to, step }, report, isOver) {
   const amounts = [];
   const results = walks.map(() => []);
   let amount = from;
@@ -40,7 +40,7 @@ export async function walk(walks, { from, to, step }, tell, isOver) {
       amounts.push(amount);
       walks.forEach((each, k) => results[k].push(each.at(amount)));
     }
-    tell(amounts.length);
+    report(amounts.length);
     await new Promise((go) => setTimeout(go));
     if (isOver()) return null;
   }

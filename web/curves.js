@@ -46,7 +46,7 @@ export class Curves {
     if (chosen !== undefined) this.box.value = chosen.code;
   }
 
-  // The range that is asked for, or null with a message.
+  // The requested range, or null with a message.
   range() {
     const [from, to] = [this.from, this.to].map((field) => readTyped(field.value, this.page.language));
     const bad = from.fault ?? to.fault ?? (from.amount >= to.amount ? 'curve-range' : undefined);
@@ -72,8 +72,8 @@ export class Curves {
     const walks = cases.map(({ law, amounts }) => new Walk(law, amounts, law.numbers.get(code), name));
     const count = Number((range.to - range.from) / range.step) + 1;
     const whole = (number) => spellNumber(number, this.page.language, 0);
-    const tell = (done) => (this.message.textContent = say('curve-computing', { done: whole(done), count: whole(count) }));
-    const found = await walk(walks, range, tell, () => turn !== this.turn);
+    const report = (done) => (this.message.textContent = say('curve-computing', { done: whole(done), count: whole(count) }));
+    const found = await walk(walks, range, report, () => turn !== this.turn);
     if (found !== null) this.show(found, cases, code, name);
   }
 

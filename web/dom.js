@@ -1,4 +1,4 @@
-// Elements of the page. Content is text alone: nothing that a rule file or a household says is ever read as markup.
+// Elements of the page. Content is text alone: nothing of a rule file or a household is ever parsed as markup.
 
 const SVG = 'http://www.w3.org/2000/svg';
 

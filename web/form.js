@@ -1,4 +1,4 @@
-// The form: a field for each input, in groups, with a search. A fault stands at its field.
+// The form: a field for each input, in groups, with a search. A fault is shown at its field.
 import { UNDEFINED, UNIT } from './amounts.js';
 import { element, refill } from './dom.js';
 import { isOfType } from './household.js';
@@ -34,7 +34,7 @@ export class Form {
     return this.law.description(this.law.codes.get(code)) || say('box', { code });
   }
 
-  // Draws the groups anew, or what is found. Groups that were open stay open.
+  // Redraws the groups, or the fields found. Groups that were open stay open.
   fill() {
     const wanted = plain(this.search.value).split(/\s+/).filter((word) => word !== '');
     this.fields.clear();
@@ -58,7 +58,7 @@ export class Form {
     refill(this.list, this.heads(), found.slice(0, MOST_FOUND).map((k) => this.row(k)));
   }
 
-  // A group: its filled boxes stand open above it where it is closed, so that nothing that counts is hidden.
+  // A group: its filled fields are shown above it while it is closed, so that no amount is hidden.
   group({ title, codes }, k) {
     const inputs = codes.map((code) => this.law.numbers.get(code));
     this.openGroups ??= new Set([0]);

@@ -46,7 +46,7 @@ export class Shown {
     return level <= outer && level < PLAIN ? `(${text})` : text;
   }
 
-  // A figure, in brackets where it is negative and stands behind a sign.
+  // A figure, in brackets if it is negative and follows a sign.
   figure(value, outer) {
     const text = spellValue(value, this.language);
     return outer >= LEVELS['+'] && value !== OVER && value !== UNDEFINED && value < 0n ? `(${text})` : text;
@@ -72,7 +72,7 @@ export class Shown {
     return `${sign === '?' ? '' : sign}(${rest.map((each) => part(each, 0)).join(say('separator'))})`;
   }
 
-  // What stands first may be of the same level; what follows a sign is in brackets then.
+  // The first operand may be of the same level; one that follows a sign is then in brackets.
   chain(rest, withFigures, level) {
     const spelled = (sign) => (sign === 'et' || sign === 'ou' ? say(`sign-${sign}`) : (SIGNS[sign] ?? sign));
     return rest.map((each, k) => (k % 2 === 1 ? spelled(each) : this.text(each, withFigures, k === 0 ? level - 1 : level))).join(' ');

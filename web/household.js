@@ -4,17 +4,17 @@ import { Refused } from './code.js';
 
 const MOST_ROWS = 100_000;
 
-// A field that begins at a place: what it says, and the place after it.
+// A field that begins at a place: its text, and the place after it.
 function fieldAt(text, at) {
   if (text[at] !== '"') return plainField(text, at, '');
-  let said = '';
+  let value = '';
   let from = at + 1;
   for (;;) {
     const quote = text.indexOf('"', from);
-    if (quote < 0) return { said: said + text.slice(from), at: text.length };
-    said += text.slice(from, quote);
-    if (text[quote + 1] !== '"') return plainField(text, quote + 1, said);
-    said += '"';
+    if (quote < 0) return { value: value + text.slice(from), at: text.length };
+    value += text.slice(from, quote);
+    if (text[quote + 1] !== '"') return plainField(text, quote + 1, value);
+    value += '"';
     from = quote + 2;
   }
 }
@@ -22,7 +22,7 @@ function fieldAt(text, at) {
 function plainField(text, at, before) {
   let end = at;
   while (end < text.length && !',\r\n'.includes(text[end])) end += 1;
-  return { said: before + text.slice(at, end), at: end };
+  return { value: before + text.slice(at, end), at: end };
 }
 
 // The records of a text, each a list of fields.
@@ -37,7 +37,7 @@ export function records(text) {
     const fields = [];
     for (;;) {
       const field = fieldAt(text, at);
-      fields.push(field.said);
+      fields.push(field.value);
       at = field.at;
       if (text[at] !== ',') break;
       at += 1;
@@ -80,13 +80,13 @@ export function writeHousehold(amounts, inputs) {
   return 'code,amount\n' + rows.join('');
 }
 
-function told(word, label) {
+function labelLines(word, label) {
   return `${word} ${label.verification} ${label.error} ${label.kind}\n${label.text}\n`;
 }
 
 function stopLines({ label, isOver }) {
   if ('driver' in label) return `over driver line ${label.driver}\n`;
-  return isOver ? `over verification ${label.verification} ${label.error}\n` : told('failed', label);
+  return isOver ? `over verification ${label.verification} ${label.error}\n` : labelLines('failed', label);
 }
 
 export function valueLine(name, value) {
@@ -99,6 +99,6 @@ export function answerLines(program, amounts) {
   const values = program.run(amounts);
   const stop = program.stop(values);
   if (stop !== null) return { text: stopLines(stop), status: 6 };
-  const notes = program.notes(values).map((label) => told('noted', label));
+  const notes = program.notes(values).map((label) => labelLines('noted', label));
   return { text: notes.concat(program.named(values).map(({ name, value }) => valueLine(name, value))).join(''), status: 0 };
 }

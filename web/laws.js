@@ -41,7 +41,7 @@ export class Law {
     return { text, file, line, rule, comments: heading === '' ? comments : [heading, ...comments], tree };
   }
 
-  // What the rules with the driver give: a stop or none, the notes, and the values that are asked for.
+  // What the rules with the driver give: a stop or none, the notes, and the requested values.
   answer(amounts) {
     const values = this.program.run(amounts);
     return { values, stop: this.program.stop(values), notes: this.program.notes(values), named: this.program.named(values) };

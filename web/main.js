@@ -30,7 +30,7 @@ class Page {
     window.addEventListener('hashchange', () => this.takeAddress());
   }
 
-  // Takes the households that stand in the address; says whether they can be read.
+  // Takes the households of the address; returns whether they can be parsed.
   readAddress() {
     try {
       return this.state.read(decodeURIComponent(location.hash.slice(1)));
@@ -43,7 +43,7 @@ class Page {
   // Another address of the same page was opened.
   takeAddress() {
     this.unreadable.hidden = this.readAddress();
-    this.state.tell('households');
+    this.state.notify('households');
   }
 
   unit(cell) {

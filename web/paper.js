@@ -1,4 +1,4 @@
-// All steps, for paper: each cell once, in an order in which each stands after what it was taken from.
+// All steps, for paper: each cell once, in an order in which each comes after those that it was computed from.
 import { UNDEFINED } from './amounts.js';
 import { element, refill } from './dom.js';
 import { say } from './texts.js';
@@ -29,7 +29,7 @@ export class Paper {
     return element('table', {}, filled.map((k) => element('tr', {}, head(law.inputs[k]), spelled(k))));
   }
 
-  // The cells that the values that are asked for were taken from, by one call of the rules.
+  // The cells that the requested values were computed from, by one call of the rules.
   order() {
     const { page } = this;
     const found = new Set();

@@ -1,4 +1,4 @@
-// The result: the values that are asked for, the notes, or the stop of a run. Each value unfolds to why it is so.
+// The result: the requested values, the notes, or the stop of a run. Each value unfolds to why it is so.
 import { UNDEFINED } from './amounts.js';
 import { element, button, refill } from './dom.js';
 import { decoded } from './laws.js';
@@ -42,9 +42,9 @@ export class Result {
   head(answers) {
     const name = this.page.main;
     const description = this.page.describe(name) || name;
-    const told = answers.map((answer) => (answer.stop === null ? this.spell(name, answer) : say('stopped')));
-    if (told.length === 1) return answers[0].stop === null ? say('headline', { what: description, value: told[0] }) : say('stopped-long');
-    const line = ({ name: which }, k) => element('span', { class: 'line' }, say('headline-of', { which, what: description, value: told[k] }));
+    const shown = answers.map((answer) => (answer.stop === null ? this.spell(name, answer) : say('stopped')));
+    if (shown.length === 1) return answers[0].stop === null ? say('headline', { what: description, value: shown[0] }) : say('stopped-long');
+    const line = ({ name: which }, k) => element('span', { class: 'line' }, say('headline-of', { which, what: description, value: shown[k] }));
     const lines = this.page.cases.map(line);
     if (answers.some(({ stop }) => stop !== null)) return lines;
     const values = answers.map((answer) => answer.named.find((each) => each.name === name).value);
@@ -62,18 +62,18 @@ export class Result {
       const { name, law } = this.page.cases[k];
       const head = () => (answers.length === 1 ? null : element('strong', {}, `${name}\u00a0: `));
       if (answer.stop !== null) return element('div', { class: 'message stop', role: 'alert' }, head(), this.stop(law, answer), this.boxes(law, answer));
-      const notes = new Set(answer.notes.map((label) => say('noted', this.told(law, label))));
+      const notes = new Set(answer.notes.map((label) => say('noted', this.labelTexts(law, label))));
       return [...notes].map((text) => element('div', { class: 'message note' }, head(), text));
     });
   }
 
-  told(law, label) {
+  labelTexts(law, label) {
     return { text: law.data.errors[label.error] ?? decoded(label.text), number: label.verification, error: label.error };
   }
 
   stop(law, { stop }) {
     if ('driver' in stop.label) return say('stop-driver', { line: stop.label.driver });
-    return say(stop.isOver ? 'stop-over' : 'stop', this.told(law, stop.label));
+    return say(stop.isOver ? 'stop-over' : 'stop', this.labelTexts(law, stop.label));
   }
 
   boxes(law, { values, stop }) {
@@ -92,6 +92,6 @@ export class Result {
     const heads = isOne ? null : element('div', { class: 'heads', 'aria-hidden': 'true' }, element('span', {}), columns);
     const open = () => this.page.why.openDifferences(this.list);
     const opener = isOne ? null : button(say('open-differences'), open, { id: 'open-differences' });
-    return [element('p', { class: 'hint' }, say('unfold')), opener, heads, names.map((name) => this.page.why.asked(name, all(name), name))];
+    return [element('p', { class: 'hint' }, say('unfold')), opener, heads, names.map((name) => this.page.why.requested(name, all(name), name))];
   }
 }

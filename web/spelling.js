@@ -25,7 +25,7 @@ function grouped(digits, group) {
   return digits.replace(/\B(?=(\d{3})+$)/g, group);
 }
 
-// An amount in the language's form; `least` decimals stand there where there are any.
+// An amount in the language's form; it has at least `least` decimals, if it has any.
 export function spell(amount, language, least = 0) {
   const { decimal, group } = FORMS[language];
   const [units, decimals = ''] = writeAmount(amount < 0n ? -amount : amount).split('.');

@@ -14,30 +14,30 @@ export class State {
     return this.inputs.map(() => UNDEFINED);
   }
 
-  // Whom a change is told; `what` is 'amounts', or 'households' where fields must be filled anew.
+  // Calls the listener at each change; `what` is 'amounts', or 'households' where fields must be filled again.
   listen(listener) {
     this.listeners.push(listener);
   }
 
-  tell(what) {
+  notify(what) {
     for (const listener of this.listeners) listener(what);
   }
 
   set(which, input, amount) {
     this.faults[which].delete(input);
     this.households[which][input] = amount;
-    this.tell('amounts');
+    this.notify('amounts');
   }
 
   fault(which, input, what) {
     this.faults[which].set(input, what);
-    this.tell('amounts');
+    this.notify('amounts');
   }
 
   replace(which, amounts) {
     this.households[which] = amounts;
     this.faults[which].clear();
-    this.tell('households');
+    this.notify('households');
   }
 
   // 'none', 'household' or 'reform'. The second household begins as a copy of the first.
@@ -45,20 +45,20 @@ export class State {
     this.compared = what;
     this.faults[1].clear();
     this.households = what === 'household' ? [this.households[0], this.households[1] ?? this.households[0].slice()] : [this.households[0]];
-    this.tell('households');
+    this.notify('households');
   }
 
   hasFaults() {
     return this.faults.some((faults) => faults.size > 0);
   }
 
-  // The households as they stand behind # in an address: codes with amounts, the second household after a stroke.
+  // The households as written after # in an address: codes with amounts, the second household after a stroke.
   written() {
     const one = (amounts) => this.inputs.flatMap(({ code }, k) => (amounts[k] === UNDEFINED ? [] : [`${code}=${writeAmount(amounts[k])}`])).join('&');
     return this.households.map(one).join('/');
   }
 
-  // Takes households from an address; says whether they can be read. Where they can't, nothing changes.
+  // Takes households from an address; returns whether they can be parsed. If they can't, nothing changes.
   read(text) {
     const parts = text.split('/');
     const read = parts.map((part) => this.readOne(part));

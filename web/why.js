@@ -60,7 +60,7 @@ export class Why {
     return ['step', ...(this.page.cases.length > 1 ? ['two'] : []), ...(differs ? ['differs'] : [])].join(' ');
   }
 
-  // A cell as a step, with all that stands below it.
+  // A cell as a step, with all below it.
   step(cell, hidden, path) {
     const values = this.page.cases.map((each) => this.value(each, cell, hidden));
     const heading = this.heading(cell, values);
@@ -91,7 +91,7 @@ export class Why {
     ];
   }
 
-  // The lines of each case. What both have is said once: the formula, its place, and figures that are the same.
+  // The lines of each case. What both have is shown once: the formula, its place, and equal figures.
   lines(found) {
     const drawn = (lines) => lines.map(({ kind, text }) => element('p', { class: kind }, text));
     const [first, second] = found;
@@ -151,7 +151,7 @@ export class Why {
     return `${label}\u2002:\u2002${names}${figures === result ? '' : ` = ${figures}`} = ${result}`;
   }
 
-  // Opens what differs between the cases, from the values that are asked for down to what was declared, each cell once.
+  // Opens what differs between the cases, from the requested values down to what was declared, each cell once.
   openDifferences(root) {
     const opened = new Set();
     for (;;) {
@@ -162,8 +162,8 @@ export class Why {
     }
   }
 
-  // A value that is asked for. Where a driver sets it, by which of its commands.
-  asked(cell, values, path) {
+  // A requested value. If a driver sets it, by which of its commands.
+  requested(cell, values, path) {
     const isKnown = this.page.cases.every((each) => each.law.data.whole !== '');
     const heading = this.heading(cell, values);
     const differs = values.length > 1 && values[0] !== values[1];
@@ -178,7 +178,7 @@ export class Why {
     return isLeaf ? [this.received(cell), this.step(cell, [], `${path}/${cell}`)] : this.body(cell, [], path, this.received(cell));
   }
 
-  // Whether the value is that of one call of the rules for the household as it stands.
+  // Whether the value is that of one call of the rules for the household as it is.
   isOfOneCall(each, cell, value) {
     const origins = each.law.data.origins[cell];
     const isCalled = origins === undefined || origins.length === 0 || (origins.length === 1 && origins[0].by === 'rules' && origins[0].hidden.length === 0);
@@ -213,7 +213,7 @@ export class Why {
 
   // What a call of the rules gives, within partitions.
   called(law, cell, hidden, path) {
-    const said = element('p', { class: 'place' }, say(hidden.length === 0 ? 'call' : 'call-without', { cell, codes: hidden.join(', ') }));
-    return law.data.pure ? [said, this.step(cell, hidden, `${path}/${cell}`)] : [said, element('p', {}, say('call-changed'))];
+    const sentence = element('p', { class: 'place' }, say(hidden.length === 0 ? 'call' : 'call-without', { cell, codes: hidden.join(', ') }));
+    return law.data.pure ? [sentence, this.step(cell, hidden, `${path}/${cell}`)] : [sentence, element('p', {}, say('call-changed'))];
   }
 }

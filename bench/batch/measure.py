@@ -1,5 +1,5 @@
 #!/usr/bin/env python3
-"""Times tables of households beside C that computes the same tables, on one thread and on all processors, and their memory.
+"""Times tables of households against C that computes the same tables, on one thread and on all processors, and their memory.
 
     measure.py PROGRAM FOLDER
 
@@ -43,7 +43,7 @@ def table(path, codes, rows, cell=amount):
 
 
 def done(words, taken, wanted=None):
-    """User and system seconds, peak and seconds by the clock, the least of so many runs, of a command whose output is as it must be."""
+    """User and system seconds, peak and seconds by the clock, the least of `runs` runs, of a command whose output is checked."""
     runs = [timed(words, ".") for _ in range(taken)]
     for run in runs:
         if run[2] != 0 or wanted is not None and run[3] != wanted:
@@ -105,7 +105,7 @@ def long_amount(row, column, _code):
 
 
 def memory(program, folder, name, words, codes, cell, rows, aim):
-    """The peak of one batch over a table of so many rows, cut at the limit of a table's bytes."""
+    """The peak of one batch over a table of this many rows, cut at the limit of a table's bytes."""
     path = os.path.join(folder, "memory.csv")
     table(path, codes, rows, cell)
     with open(path, "rb+") as file:

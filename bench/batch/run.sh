@@ -1,5 +1,5 @@
 #!/bin/sh
-# Times tables of households beside C for the same tables. It needs ./build before, gcc, taskset and python3, and prints the tables of RESULTS.md.
+# Times tables of households against C for the same tables. It needs ./build before, gcc, taskset and python3, and prints the tables of RESULTS.md.
 #
 #     sh bench/batch/run.sh [PROGRAM [ROWS]]
 set -eu

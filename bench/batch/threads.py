@@ -3,7 +3,7 @@
 
     threads.py PROGRAM FOLDER [RUNS]
 
-Times are of the clock, the least and the median of so many runs (10). What the source costs is measured by a table of no rows and taken off. Both must
+Times are of the clock, the least and the median of the runs (10). What the source costs is measured by a table of no rows and taken off. Both must
 print the same bytes. Run it on a machine that does nothing else: what other programs take counts here.
 """
 import os

@@ -1,4 +1,4 @@
-"""Microseconds of `allocate` on tidy programs of so many nodes, by the clock, the least of three runs, with what the code has.
+"""Microseconds of `allocate` on tidy programs of NODES nodes, by the clock, the least of three runs, with what the code has.
 
     allocate.py PROGRAM NODES
 """

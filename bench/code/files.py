@@ -1,5 +1,5 @@
 #!/usr/bin/env python3
-"""Times code files: what `compile` and `exec` take, beside `run`, and what a code file has.
+"""Times code files: what `compile` and `exec` take, compared with `run`, and what a code file has.
 
     files.py PROGRAM FOLDER
 
@@ -23,7 +23,7 @@ SMALLEST = b"mcode 1\nslots 0\ncode\nend\n"
 
 
 def example(name, folder):
-    """The words of a source and a household of an example, which stand at the top of the repository."""
+    """The words of a source and a household of an example, with paths from the top of the repository."""
     household = os.path.join(folder, "household.csv")
     with open(household, "w", encoding="latin-1") as out:
         out.write("code,amount\n1AJ,33333\n" if name.endswith("2023") else open(os.path.join(ROOT, name, "household.csv"), encoding="latin-1").read())

@@ -34,7 +34,7 @@ def main():
         allocation, flat, machine = (min(run[k] for run in runs) for k in (6, 7, 8))
         ratio = machine / max(flat, 1)
         print(f"| {name} | " + " | ".join(f"{n:,}" for n in (*counts, allocation, flat, machine)) + f" | {ratio:.2f} |", flush=True)
-        # Of a few hundred nodes a run takes a few microseconds, which the clock doesn't tell apart.
+        # Of a few hundred nodes a run takes a few microseconds, which the clock can't resolve.
         if counts[0] >= 10_000:
             figure(f"code.{name}_machine_to_flat_run", ratio, f"<={AIM}")
 

@@ -20,7 +20,7 @@ def long(size):
 
 
 def headers(size):
-    """10,000 headers a tenth before one formula, each binding the same letter anew."""
+    """10,000 headers a tenth before one formula, each binding the same letter again."""
     return "pour i = 1 : " * (10000 * size) + "Ri = i ;\n"
 
 

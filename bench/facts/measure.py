@@ -1,9 +1,9 @@
 #!/usr/bin/env python3
-"""Times `facts` beside `lint`: measure.py M_TAX M_SURVEY FOLDER
+"""Times `facts` against `lint`: measure.py M_TAX M_SURVEY FOLDER
 
-At the top of the repository. Of examples/impot2023 with its driver by the clock, as a user waits for it: 30 runs of each by turns, and an empty table of households beside
-them, which only compiles. Of the base of `large N` (bench/flat/generate.py) with 100,000 rules, with ranges for its 100,000 inputs and without: user and
-system seconds, the least of three runs. What is printed must be what the rules give by hand.
+At the top of the repository. Of examples/impot2023 with its driver by the clock, as a user waits for it: 30 runs of each by turns, and an empty table
+of households, which only compiles. Of the base of `large N` (bench/flat/generate.py) with 100,000 rules, with ranges for its 100,000 inputs and without: user
+and system seconds, the least of three runs. What is printed must be what the rules give by hand.
 """
 import os
 import statistics
@@ -53,7 +53,7 @@ def of_the_year(program, survey, folder):
 
 
 def of_many_rules(program, survey, folder):
-    """Seconds of facts and of lint of 100,000 rules. Each input lies from 0 to 10,000, so that each rule adds 9,000 at most."""
+    """Seconds of facts and of lint of 100,000 rules. Each input is from 0 to 10,000, so that each rule adds 9,000 at most."""
     subprocess.run([sys.executable, f"{BENCH}/flat/generate.py", str(N), "0", folder], check=True)
     with open(os.path.join(folder, "ranges.csv"), "w") as out:
         out.write("code,given,least,greatest\n" + "".join(f"C{k},yes,0,10000\n" for k in range(N)))

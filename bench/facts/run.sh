@@ -1,5 +1,5 @@
 #!/bin/sh
-# Times `facts` beside `lint`, of examples/impot2023 and of 100,000 rules. It needs ./build before, and python3, and prints the tables of RESULTS.md.
+# Times `facts` against `lint`, of examples/impot2023 and of 100,000 rules. It needs ./build before, and python3, and prints the tables of RESULTS.md.
 #
 #     sh bench/facts/run.sh
 set -eu

@@ -5,7 +5,7 @@
 
 makes FOLDER/list.txt, FOLDER/rules.m and FOLDER/household.csv. Each computed variable is the sum of
 the one before it and a product. The product is of an input and, by turns, a number, a negated number
-and another input that stands anywhere in the file, so that names are looked up all over it. Every
+and another input from anywhere in the file, so that names are looked up all over it. Every
 computed variable is returned, so that a run prints N lines. The same N gives the same bytes.
 """
 import os

@@ -5,7 +5,7 @@ a dictionary from names to values.
     interpret.py LIST HOUSEHOLD
 
 Run in the folder of the files, it prints what `m_tax run LIST - - HOUSEHOLD` prints. It takes files of
-the form that generate.py writes, and tells no faults. A value is a whole number of millionths, None
+the form that generate.py writes, and reports no faults. A value is a whole number of millionths, None
 where it is undefined, or OVER.
 """
 import re

@@ -3,7 +3,7 @@
 
     measure.py PROGRAM FOLDER N..
 
-FOLDER/N holds what generate.py wrote for N. Each line tells the time of the processor (user and
+FOLDER/N holds what generate.py wrote for N. Each line has the time of the processor (user and
 system) and of the clock, the least of a few runs, and the peak of resident memory.
 """
 import fcntl
@@ -27,7 +27,7 @@ class Run:
         child = subprocess.Popen(command, cwd=folder, stdout=subprocess.PIPE, pipesize=4096)
         select.select([child.stdout], [], [])
         # Both commands print at their end, and all at once. So the peak is reached here, and a pipe
-        # of one page keeps the child there. The peak that wait4 tells counts the parent too, which
+        # of one page keeps the child there. The peak that wait4 reports counts the parent too, which
         # hides a small one.
         peak = own_peak(child.pid)
         fcntl.fcntl(child.stdout, fcntl.F_SETPIPE_SZ, 1 << 20)

@@ -4,7 +4,7 @@
     measure.py PROGRAM FOLDER
 
 The weight of a base of N is 9 N + 6 or so for each call; a node of the flat program is an input, a literal or an operator.
-Each line tells the least time of the processor (user and system) of three runs and the peak of resident memory.
+Each line has the least time of the processor (user and system) of three runs and the peak of resident memory.
 """
 import os
 import subprocess

@@ -5,7 +5,7 @@ Starts `rt ci` at the top of the repository, hands on what it prints, and looks 
 (out/figures.txt, if it isn't named) gets a line for each crate: its name, and the seconds of CPU of its check, of its tests and
 of its must-fail edits; then come the seconds that the whole took, the processors it ran on, and its last line. A run that is
 stopped (SIGTERM, SIGINT) writes what it saw, with no verdict. tests/budget.sh FIGURES compares them with the budget.
-With --anew all is proved and tried though an earlier run on this machine passed it: it is handed to `rt ci` in a kit that keeps
+With --anew all is proved and tried again, even if an earlier run on this machine passed: it is handed to `rt ci` in a kit that keeps
 what passed, and another kit does so each time. `taskset -c 0,1` as prefix measures a machine of two processors.
 """
 import collections
@@ -48,7 +48,7 @@ def kind_of(words, folder):
 
 
 def below(found, root):
-    """Returns whether a process stands below the root."""
+    """Returns whether a process descends from the root."""
 
     def is_below(pid):
         while pid in found and pid != root:

@@ -1,5 +1,5 @@
 #!/usr/bin/env python3
-"""Says how long the gate takes from nothing by the order in which the kit's `rt` does its work: bench/gate/simulate.py FIGURES [PROCESSORS [MEMORY [CLOCK]]]
+"""Computes the time of the gate from nothing by the order in which the kit's `rt` does its work: bench/gate/simulate.py FIGURES [PROCESSORS [MEMORY [CLOCK]]]
 
 FIGURES are those that bench/gate/measure.py wrote (seconds of processors for each crate's check, tests and edits); one may change them by hand to see
 what a change would bring. PROCESSORS are 4, MEMORY is 19.5 GB (0.85 of what is free) and CLOCK 1.05 seconds by the clock for one of a processor, if they

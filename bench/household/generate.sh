@@ -1,5 +1,5 @@
 #!/bin/sh
-# Writes a household or a table of so many rows: `sh generate.sh household ROWS FILE`, or `table`. The codes
+# Writes a household or a table of ROWS rows: `sh generate.sh household ROWS FILE`, or `table`. The codes
 # are C0 to C99999; a table has 8 columns, of which each tenth cell is empty.
 set -eu
 export LC_ALL=C

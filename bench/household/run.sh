@@ -1,5 +1,5 @@
 #!/bin/sh
-# Times the reading of households and tables beside a plain hand-written reader in Rust (plain.rs) with the
+# Times the reading of households and tables against a plain hand-written reader in Rust (plain.rs) with the
 # same checks, on the same bytes in the same run. It prints the tables of RESULTS.md. It needs the
 # toolchain's `rt`, and `rustc`, `awk`, GNU `time` and `valgrind`, which counts instructions: what else runs on the machine
 # doesn't change these.

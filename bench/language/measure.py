@@ -1,9 +1,9 @@
 #!/usr/bin/env python3
-"""Times whole runs of the program over generated rule bases, beside a plain scanner of the same bytes.
+"""Times whole runs of the program over generated rule bases, against a plain scanner of the same bytes.
 
     measure.py PROGRAM SCANNER FOLDER SIZE:FILES..
 
-PROGRAM is out/m_tax as ./build made it, SCANNER the compiled bench/lexer/plain.rs, and FOLDER a place for the generated files. Each line tells the
+PROGRAM is out/m_tax as ./build made it, SCANNER the compiled bench/lexer/plain.rs, and FOLDER a place for the generated files. Each line has the
 bytes read, the least time of the processor (user and system) of three runs, of `run` and of `compile`, and the peak of resident memory.
 """
 import os

@@ -1,5 +1,5 @@
 #!/bin/sh
-# Times whole runs over generated rule bases in the administration's shape, of 1.6, 16 and 60 MB, beside a plain scanner of their
+# Times whole runs over generated rule bases in the administration's shape, of 1.6, 16 and 60 MB, against a plain scanner of their
 # tokens. It needs ./build before, rustc and python3, and prints the table of RESULTS.md.
 #
 #     sh bench/language/run.sh

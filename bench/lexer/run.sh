@@ -1,5 +1,5 @@
 #!/bin/sh
-# Times the lexer over two generated rule files of 16 MiB, beside `wc -w` and a plain hand-written
+# Times the lexer over two generated rule files of 16 MiB, against `wc -w` and a plain hand-written
 # scanner in Rust (plain.rs), all on the same bytes in the same run. It prints the tables of
 # RESULTS.md. It needs the toolchain's `rt`, and `rustc`, `awk` and GNU `time`.
 #

@@ -1,11 +1,11 @@
 #!/usr/bin/env python3
 """How many of the true findings `lint` gives: measure.py PROGRAM [BASES] [SEED]
 
-At the top of the repository. For both examples and for so many random bases (100; those of tests/second/changing that have no fault)
-it counts what `lint` finds, and what households don't tell against: of HOUSEHOLDS made-up ones with amounts near the numbers of the rules,
+At the top of the repository. For both examples and for BASES random bases (100; those of tests/second/changing that have no fault)
+it counts what `lint` finds, and what no household refutes: of HOUSEHOLDS made-up ones with amounts near the numbers of the rules,
 verifications that none of them stops or notes, and inputs of which another amount changed no answer in PAIRS pairs each.
 These are at least the true ones, and maybe more. What is never defined is counted by the reference implementation, exactly.
-Where households tell against a finding, or a cell is missed, it says so, and the status is 1.
+If households refute a finding, or a cell is missed, this is reported, and the status is 1.
 """
 import csv
 import io
@@ -41,7 +41,7 @@ HEADS = ["Base", "verifications", "never stop: `lint`", "no household stops", "i
 
 
 class Trial:
-    """A source, what is found of it, and what households tell."""
+    """A source, its findings, and what households show."""
 
     def __init__(self, program, words, folder, sizes):
         self.program, self.words, self.folder, self.sizes = program, words, folder, sizes
@@ -84,7 +84,7 @@ class Trial:
         return parts
 
     def measured(self):
-        """The figures of a row, and the findings that are told against."""
+        """The figures of a row, and the refuted findings."""
         found = self.ran("lint", *self.words).split("\n")[:-1]
         tried, pairs = self.sizes
         households = [self.household() for _ in range(tried)]
@@ -114,7 +114,7 @@ class Trial:
 
 
 def random_sources(count, seed, room):
-    """So many changed rows that have no fault, each in a folder, with its words."""
+    """Changed rows without a fault, each in a folder, with its words."""
     rows = [(row, status) for name, (row, _, status, size) in read_rows().items() if size <= MOST_BYTES and name not in SLOW]
     good = [row for row, status in rows if status in (0, 6)]
     bad = [row for row, status in rows if status not in (0, 6)]

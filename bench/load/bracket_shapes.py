@@ -15,7 +15,7 @@ def nested(opening, inner, closing, expected, depth=256, rules=ONE):
 # A bracket below each operator that binds a term: a tree has nine levels for each.
 ALL_LEVELS = "0 ou 1 et non 0 = 0 + 1 * -abs("
 
-# In each, what is told of 1 is 1 again.
+# In each, what is computed of 1 is 1 again.
 LEVELS = [
     ("brackets", "(", ")"),
     ("sums, products, signs, comparisons, et, ou, non", "(0 ou 1 et non 0 = 0 + 1 * -(", "))"),

@@ -4,10 +4,10 @@
     failing.py PROGRAM FOLDER [COMMAND..]
 
 Each command of COMMANDS is run as it is, and then once for each call of a kind, in which that one call fails (failing.c, by
-LD_PRELOAD). What must come of it stands in docs/FORMATS.md:
+LD_PRELOAD). docs/FORMATS.md has what must happen then:
 
-- no memory: status 5 with nothing on the standard output, but of `batch` and `cases`, of which a prefix of the answer may stand; or the same as
-  without it, where the call only asked for room that isn't needed (a sort's, say);
+- no memory: status 5 with nothing on the standard output, except for `batch` and `cases`, which may have written a prefix of the answer; or the same as
+  without it, if the memory was for an optional buffer (a sort's, for example);
 - an open or a read that fails: status 3 and the line `unreadable NAME`, of a file that the command names; the same as without it, where the
   machine's own list of processors (below /sys) can't be opened or read; in a session that has begun, the replies to the lines so far
   and the line `unreadable input`;

@@ -63,7 +63,7 @@ def _(n):
     return case([ONE, RULE, front, "Bij = ", "somme(k=1;l=1: " * 250, "1", ")" * 250, " ;"], refused("unknown name B11", line=3, byte=place), 1)
 
 
-# Sums that stay: an operand stands between one and the next. They have 501 parts, and the definition is one more.
+# Sums that stay: there is an operand between one and the next. They have 501 parts, and the definition is one more.
 @shape("250 sums of 26 letters in one another, with an operand each, in each instance of a formula", 3900)
 def _(n):
     front = f"pour i=1..{n}: "

@@ -4,11 +4,11 @@
     measure.py PROGRAM FOLDER [--stack=KB] [--memory=MB] [WORD..]
 
 Each shape of shapes.py is written into FOLDER, with what must be printed for it, which was worked out by hand. The program
-runs, and what it prints is compared byte by byte. A row is told on standard output: user and system time at a tenth and at the full size, how
+runs, and what it prints is compared byte by byte. A row is printed on standard output: user and system time at a tenth and at the full size, how
 many times as much that is, the peak of memory, the answer (its first bytes) and the status. Only shapes with one of the WORDs in their
-names run, if any are given. With --stack each shape runs once, with a stack of so many KB; with --memory a run has so many MB of addresses in the place of
+names run, if any are given. With --stack each shape runs once, with a stack of KB kilobytes; with --memory a run has MB megabytes of addresses instead of
 8 GB. A shape fails where it prints anything else, ends by a signal, takes more than a minute of processor or five by the clock, or takes more than 1.2 times
-as long as its size tells: more than 12 times for 10 times the size. The status is 1 where one failed.
+as long as its size suggests: more than 12 times for 10 times the size. The status is 1 where one failed.
 """
 import filecmp
 import json
@@ -25,7 +25,7 @@ from measured import figure  # noqa: E402
 
 MINUTE = 60
 GROWTH = 1.2
-MEMORY = 8 << 30  # bytes that a run may take: past it the program says by its status that there was no memory
+MEMORY = 8 << 30  # bytes that a run may take: past it the program reports by its status that there was no memory
 
 
 def in_child(work):
@@ -122,7 +122,7 @@ def told(program, shape, room, stack, memory):
     big = measure(program, shape, shape.full, room, stack, memory)
     faults = [*(f"at a tenth: {f}" for f in (small["faults"] if small else [])), *big["faults"]]
     times = big["seconds"] / small["seconds"] if small else 0
-    # Under some hundredths of a second the growth says more of the machine than of the program.
+    # Under some hundredths of a second the growth reflects the machine more than the program.
     if small and times > GROWTH * shape.grows and big["seconds"] > 0.05:
         small = min(small, measure(program, shape, shape.full // 10, room, stack, memory), key=lambda one: one["seconds"])
         big = min(big, measure(program, shape, shape.full, room, stack, memory), key=lambda one: one["seconds"])

@@ -7,7 +7,7 @@ pieces of it), the words of the command, what is typed, what must be printed, an
 FILE = 16_777_216  # bytes of a file
 GREATEST = 4_000_000  # weight of a driver
 PARTS = 2_000_000
-DEEP = (8192, 512)  # KB of stack, where a shape is to be run in little too
+DEEP = (8192, 512)  # KB of stack, of a shape that is also run in little memory
 
 
 class Shape:
@@ -54,7 +54,7 @@ def case(rules, prints, status=0, driver=None, requests=None, household=EMPTY, c
 
 
 def filled(piece, size, rest=""):
-    """As many of a piece as leave room for the rest in so many bytes, and the rest."""
+    """A piece repeated as often as leaves room for the rest within a size in bytes, and the rest."""
     yield from many(piece, (size - len(rest)) // len(piece))
     yield rest
 
@@ -68,7 +68,7 @@ def many(piece, count):
 
 
 def packed(pieces, size=FILE):
-    """Rule files a0.m, a1.m and so on of these pieces, none of more than so many bytes."""
+    """Rule files a0.m, a1.m and so on of these pieces, none of more than the given size."""
     files, room = {}, 0
     for piece in pieces:
         if not files or room + len(piece) > size:

@@ -1,6 +1,6 @@
 """Inputs that a hostile writer would choose, and what must be printed for each, worked out by hand.
 
-The shapes, in the order in which they are run, stand in
+The shapes, in the order in which they are run, are in
 
     rule_shapes.py        rule files of one thing (comments, one name, one number, one text ..), and files that are too long or too many
     bracket_shapes.py     brackets in all levels of the grammar

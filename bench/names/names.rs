@@ -1,6 +1,6 @@
 // Writes two rule files of N constants: NAMES of random names, and of names that collide under the
-// hasher that indexmap has by default. Both have the same number of bytes. Beside each are its names,
-// as they stand there (names.txt) and in order (asked.txt), in which they are asked for.
+// hasher that indexmap has by default. Both have the same number of bytes. With each are its names,
+// in its order (names.txt) and in the order in which they are looked up (asked.txt).
 //
 //     names N FOLDER
 //

@@ -1,4 +1,4 @@
-// The plain i128 operation beside each operator, with its overflow test: what a program would compute
+// The plain i128 operation for each operator, with its overflow test: what a program would compute
 // that knew nothing of undefined values. Prints `NAME NANOSECONDS`, the least time of a
 // hundred thousand operations in fifty tries.
 use std::hint::black_box;

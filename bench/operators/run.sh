@@ -1,13 +1,13 @@
 #!/bin/sh
-# Times each operator of m_fixed, and reading and writing an amount, beside plain Rust, in one run on
+# Times each operator of m_fixed, and reading and writing an amount, against plain Rust, in one run on
 # this machine, and prints tables of nanoseconds for one operation. With the top of an older clone as
 # its argument it times that one too, by turns. Needs rt and rustc; leaves no files.
 #
 #   run.sh [OLDER_CLONE]
 #
 # Each operator is in a function of its own that is called by a pointer, so that it isn't inlined and none changes the code of another.
-# Each program is built twice, the second time with an empty function before these, by which each lies 16 bytes farther: a processor of
-# this kind takes longer over a jump that lies across a line of 32 bytes. The less counts. plain.rs is built with no such jump.
+# Each program is built twice, the second time with an empty function before these, which moves each by 16 bytes: a processor of
+# this kind takes longer over a jump that crosses a line of 32 bytes. The less counts. plain.rs is built with no such jump.
 # With WORK set to a folder it builds there and keeps what it built.
 set -eu
 here=$(cd "$(dirname "$0")" && pwd)
@@ -93,7 +93,7 @@ fn run_any(op: Op, xs: &[Value], ys: &[Value]) -> u64 {
     total
 }
 
-/// The least time of so many runs, in nanoseconds. The operator is known in the function that is timed; of none nothing is told.
+/// The least time of the runs, in nanoseconds. The operator is known in the function that is timed; nothing is printed of none.
 fn time_known(rt: &HostRuntime, op: Option<Op>, runs: u32, xs: &[Value], ys: &[Value]) -> io::Result<()> {
     let run = run_of(op);
     let mut best = u128::MAX;

@@ -1,4 +1,4 @@
-"""Writes rule files of so many definitions: python3 generate.py chain|ring|sum|dynamic COUNT FOLDER."""
+"""Writes rule files of COUNT definitions: python3 generate.py chain|ring|sum|dynamic COUNT FOLDER."""
 
 import os
 import sys

@@ -33,7 +33,7 @@ instructions() {
         awk '/I *refs/ { gsub(",", "", $NF); printf "%d", $NF / 1000 }'
 }
 
-# Three runs of so many definitions of a kind, and the memory that they hold.
+# Three runs of a number of definitions of a kind, and the memory that they hold.
 timed() {
     python3 "$here/generate.py" "$1" "$2" "$work/$1$2"
     echo "### $1, $2 definitions"
@@ -44,7 +44,7 @@ timed() {
     echo
 }
 
-# The instructions of each step for so many definitions of a kind.
+# The instructions of each step for a number of definitions of a kind.
 counts() {
     for step in base order; do
         echo "up to $step: $(instructions "$step" "$work/$1$2"/*.m) thousand instructions"

@@ -2,9 +2,9 @@
 """Times a million households as frames and as files, and what a reform does to them: frames.py PROGRAM FOLDER [ROWS]
 
 At the top of the repository, by a Python that has pandas. The rules are those of examples/impot2023 with their driver: nine codes, eight values; PROGRAM is
-m_tax, with m_survey beside it. Each line is a process of its own. Seconds are by the clock, and of the processor, of Python and of the programs that it starts;
-the peak is that of the process, in MiB. A frame is made before the clock runs, and is part of the peak, which is also told less what
-the process had before. The same households are computed by columns of numpy, which give one value; how many of these differ is told.
+m_tax, next to m_survey. Each line is a process of its own. Seconds are by the clock, and of the processor, of Python and of the programs that it starts;
+the peak is that of the process, in MiB. A frame is made before the clock runs, and is part of the peak, which is also printed less what
+the process had before. The same households are computed by columns of numpy, which give one value; the number of those that differ is printed.
 """
 import json
 import os
@@ -53,7 +53,7 @@ def spent(who):
 
 
 def timed(what, folder, rows):
-    """Does one thing in this process, and tells seconds and peaks."""
+    """Does one thing in this process, and prints seconds and peaks."""
     import pandas
     from by_numpy import total
     from vodmejka import Rules

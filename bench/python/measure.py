@@ -4,9 +4,9 @@
 At the top of the repository. The rules are those of examples/impot2023 with their driver: nine codes, eight values.
 The command computes ROWS (1,000,000) in tables of 100,000, which is the most that one takes, and its output is dropped.
 Python is handed the same households one after the other, and reads of each answer nothing, one value, or all. Seconds are user and system
-of the process and of what it starts, one run each. Since the machine may be loaded, the command is run anew before each of these,
+of the process and of what it starts, one run each. Since the machine may be loaded, the command is run again before each of these,
 and a ratio is that to the run right before. The sums of what is paid are compared. What the bench's own loop takes (it makes no household,
-but hands them out, reads and adds) is measured over dicts in the place of answers, and told on a line of its own:
+but hands them out, reads and adds) is measured over dicts instead of answers, and printed on a line of its own:
 it is a part of Python's seconds, and of the ratio.
 """
 import collections

@@ -1,5 +1,5 @@
 #!/bin/sh
-# Times a million households by `.batch` of python/vodmejka beside the command alone, and then frames, files and reforms, where a python3 has pandas. It
+# Times a million households by `.batch` of python/vodmejka against the command alone, and then frames, files and reforms, where a python3 has pandas. It
 # needs ./build before and python3.
 #
 #     sh bench/python/run.sh [PROGRAM [ROWS]]

@@ -2,7 +2,7 @@
 """Rewrites of a small rule base, each through tools/same: python3 bench/same/rewrites.py [--check]
 
 At the top of the repository. Each rewrite that keeps the meaning changes one thing of the base below; so does each that changes the meaning.
-Prints the table of RESULTS.md. With --check it says instead only what must be: no rewrite that keeps the meaning has a household
+Prints the table of RESULTS.md. With --check it prints instead only what must hold: no rewrite that keeps the meaning has a household
 in which the two differ, and each that changes it has one.
 """
 import os

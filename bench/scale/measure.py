@@ -1,12 +1,12 @@
 #!/usr/bin/env python3
-"""Computes a table of so many made-up households over examples/impot2023 with tools/scale, each step timed, to csv.
+"""Computes a table of made-up households over examples/impot2023 with tools/scale, each step timed, to csv.
 
     measure.py PROGRAM FOLDER [HOUSEHOLDS [STEP..]]
 
 PROGRAM is m_survey.
 
 The steps are make, cut, run, join, in this order (all of them, where none is named), each of which needs those before it in the same FOLDER. HOUSEHOLDS is
-38,000,000 where it isn't said, for which FOLDER needs 12 GB. The table is made by households.c; `cut` looks that no label stands twice,
+38,000,000 by default, for which FOLDER needs 12 GB. The table is made by households.c; `cut` checks that no label occurs twice,
 `run` looks at each record of the answers, and `join` looks through all of them again and prints one csv into a file. For each step:
 seconds by the clock, seconds of all processors, and bytes.
 """
@@ -32,7 +32,7 @@ def sizes(folder, ending):
 
 
 def done(name, words, out, households):
-    """Does a step, and tells what it took. What runs in other processes is counted with it."""
+    """Does a step, and prints what it took. What runs in other processes is counted with it."""
     before, begin = resource.getrusage(resource.RUSAGE_CHILDREN), time.monotonic()
     child = subprocess.run(words, stdout=out, cwd=ROOT, check=False)
     elapsed, after = time.monotonic() - begin, resource.getrusage(resource.RUSAGE_CHILDREN)

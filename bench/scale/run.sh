@@ -1,7 +1,7 @@
 #!/bin/sh
 # Computes a table of made-up households with tools/scale, by parts, on this machine. It needs ./build before, gcc and python3.
 #
-#     sh bench/scale/run.sh [HOUSEHOLDS]      3,800,000 where it isn't said; 38,000,000 need 12 GB of disk
+#     sh bench/scale/run.sh [HOUSEHOLDS]      3,800,000 by default; 38,000,000 need 12 GB of disk
 set -eu
 here=$(cd "$(dirname "$0")" && pwd)
 root=$(cd "$here/../.." && pwd)

@@ -3,9 +3,9 @@
 
     measure.py PROGRAM FOLDER
 
-Each line is a base, an edit that is made to and fro, and so many edits and shows. What a session took is read off its clock of the processor (user and system)
-while it waits: after its first edit, after its first show, and after all others. Each reply is compared: an edit says `ok`, and each second show of the same
-edit says the same. What a show says after an edit is what `run` says of the household with that edit. The memory is what the heap holds
+Each line is a base, an edit that is made to and fro, and their number. What a session took is read off its clock of the processor (user and system)
+while it waits: after its first edit, after its first show, and after all others. Each reply is compared: that of an edit is `ok`, and each second show of the
+same edit is equal. A show after an edit prints what `run` prints for the household with that edit. The memory is what the heap holds
 while the session waits after its first show (live.c, by LD_PRELOAD), less the 48 bytes a node of the program's own list.
 """
 import os
@@ -34,7 +34,7 @@ def example(name, folder):
 
 
 def large(n, folder, wanted=True):
-    """The words of a session over the base of `large N`, which asks for its last value, or for nothing."""
+    """The words of a session over the base of `large N`, which requests its last value, or nothing."""
     place = os.path.join(folder, str(n))
     subprocess.run([sys.executable, os.path.join(os.path.dirname(HERE), "flat", "generate.py"), str(n), "0", place], check=True)
     with open(os.path.join(place, "nothing.txt"), "w", encoding="ascii"):
@@ -56,7 +56,7 @@ def few_inputs(n, folder):
 
 
 def typed(code, amounts, count):
-    """So many edits of a code and shows, to and fro between two amounts."""
+    """Edits of a code and shows, to and fro between two amounts."""
     return "".join(f"set {code} {amounts[k % 2]}\nshow\n" for k in range(count)).encode()
 
 
@@ -73,7 +73,7 @@ def answers(text):
 
 
 class Talk:
-    """A session that goes on while it is asked."""
+    """A session that is kept running between requests."""
 
     def __init__(self, program, words, place):
         self.child = subprocess.Popen([program, "serve", *words], cwd=place, stdin=subprocess.PIPE, stdout=subprocess.PIPE)
@@ -87,7 +87,7 @@ class Talk:
                 self.come.notify()
 
     def ask(self, lines, ending, count):
-        """Sends lines and waits until so many replies of this form came since; the seconds of the processor since the session began, and the replies."""
+        """Sends lines and waits until this many replies of the form came; the seconds of the processor since the session began, and the replies."""
         begin = len(self.said)
         self.child.stdin.write(lines)
         self.child.stdin.flush()
@@ -102,7 +102,7 @@ class Talk:
 
 
 def session(program, words, place, code, amounts, count):
-    """Seconds of a session to begin, of its first show, and of so many edits and shows after it."""
+    """Seconds of a session to begin, of its first show, and of a number of edits and shows after it."""
     talk = Talk(program, words, place)
     begun, _ = talk.ask(f"set {code} {amounts[1]}\n".encode(), b"ok\n", 1)
     first, _ = talk.ask(b"show\n", b".\n", 1)
@@ -146,7 +146,7 @@ def row(program, name, words, place, code, amounts, count, room):
 
 
 def same_as_run(program, words, place, code, amount, room):
-    """What a show says after an edit is what `run` says of the household with that amount."""
+    """A show after an edit prints what `run` prints for the household with that amount."""
     path = os.path.join(room, "edited.csv")
     with open(os.path.join(place, words[3]), encoding="latin-1") as source:
         lines = [line for line in source.read().split("\n") if line and line.split(",")[0] != code]

@@ -1,6 +1,6 @@
 #!/bin/sh
-# Times `table` of m_survey beside `batch` of m_tax, by turns, of 100,000 made-up households of examples/impot2023, on one processor and on all. It needs ./build
-# before, gcc and python3, and prints the table of RESULTS.md.
+# Times `table` of m_survey against `batch` of m_tax, by turns, of 100,000 made-up households of examples/impot2023, on one processor and on all. It needs
+# ./build before, gcc and python3, and prints the table of RESULTS.md.
 #
 #     sh bench/survey/run.sh
 set -eu

@@ -3,7 +3,7 @@
 
     nodes.py PROGRAM FOLDER
 
-The nodes of a tidy program are those of the code that `compile` prints (`in`, `lit` and `do`). Beside them stand the cost of the driver, by the reference
+The nodes of a tidy program are those of the code that `compile` prints (`in`, `lit` and `do`). The table also has the cost of the driver, by the reference
 implementation, and of a driver of several calls how many nodes one call of the rules has. How many nodes there were before isn't printed by any command.
 """
 import os

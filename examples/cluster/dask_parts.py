@@ -2,7 +2,7 @@
 """Computes those parts of a table that have no answer yet on a cluster of Dask: dask_parts.py SCHEDULER FOLDER CODE DIGEST
 
 SCHEDULER is the address of a scheduler, as tcp://10.0.0.1:8786. FOLDER is what `tools/scale cut` made; CODE is the file that `tools/scale source .. --code
-CODE` wrote, and DIGEST what it told. They stand on a disk that all machines see, as this repository does, or the file that the variable SCALE names in place of
+CODE` wrote, and DIGEST what it printed. They are on a disk all machines see, as this repository does, or the file that the variable SCALE names in place of
 its tools/scale. What a lost worker had begun is computed by another one. After a failure the same words compute what is left.
 """
 import os
@@ -16,7 +16,7 @@ SCALE = os.path.abspath(os.environ.get("SCALE") or os.path.join(os.path.dirname(
 
 
 def computed(words):
-    """What a worker says of a part: nothing where it has its answer."""
+    """A worker's message about a part: empty if it has its answer."""
     done = subprocess.run(words, stdin=subprocess.DEVNULL, stdout=subprocess.PIPE, stderr=subprocess.STDOUT, check=False)
     said = done.stdout.decode("utf-8", "replace").strip()
     return said or f"{' '.join(words)}: status {done.returncode}" if done.returncode else ""

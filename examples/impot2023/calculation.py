@@ -1,7 +1,7 @@
 """The tax on the incomes of 2023 a second time, from the articles of the code général des impôts, in exact fractions.
 
 It knows nothing of the rule files: the scale is applied to the income for one part, as article 197 words it, and children are counted one by one. The
-verifications stand in verifications.py.
+verifications are in verifications.py.
 """
 from dataclasses import dataclass
 from fractions import Fraction
@@ -151,7 +151,7 @@ def parts(household, law):
 
 
 def scale(income_of_a_part, law):
-    """197 I 1: each rate on what lies between its threshold and the next one."""
+    """197 I 1: each rate on the part between its threshold and the next one."""
     tax, steps = Fraction(0), law.scale()
     for number, (threshold, rate) in enumerate(steps):
         above = steps[number + 1][0] if number + 1 < len(steps) else None

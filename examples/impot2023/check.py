@@ -6,7 +6,7 @@ a declaration that a verification stops the verification. The households come fr
 does, and 2 where the program is missing or doesn't answer.
 
 With --picture FILE it also draws the marginal rate over the income of a single person, from a table of its own. With --cases FILE it starts no program, and
-writes the households as a table of cases, with what the second calculation says of each. With --extremes the households are those that have a billion in one
+writes the households as a table of cases, with the results of the second calculation. With --extremes the households are those that have a billion in one
 box or in many, in the place of random ones.
 """
 import argparse
@@ -118,7 +118,7 @@ def spelled(amount):
 
 
 def write_cases(file_name, households):
-    """A table of cases: the households, and what the calculation says of each value."""
+    """A table of cases: the households, and the calculation's result for each value."""
     names = [name for name in answer(Household()) if name != "noted"]
     with open(file_name, "w") as file:
         file.write(",".join(["name", *CODES, *(f"={name}" for name in names)]) + "\n")

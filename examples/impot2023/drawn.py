@@ -116,7 +116,7 @@ def random_household(chance):
 
 
 def mistaken(household, chance):
-    """One household in ten has one or two boxes that are drawn anew, most of them wrong."""
+    """One household in ten has one or two boxes that are drawn again, most of them wrong."""
     if chance.random() < 0.9:
         return household
     wrong = {code: chance.choice(WRONG[code]) for code in chance.sample(sorted(WRONG), chance.choice([1, 1, 2]))}

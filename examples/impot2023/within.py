@@ -1,12 +1,12 @@
 #!/usr/bin/env python3
-"""Looks for households that tell against what `m_survey facts` prints: python3 examples/impot2023/within.py
+"""Looks for households that refute what `m_survey facts` prints: python3 examples/impot2023/within.py
 
 At the top of the repository, after ./build. The ranges are ranges.csv, or those that --ranges names. It computes --count random households, and those
 that have a billion in one box or in many, by the command `batch` of m_tax: each of them with the nearest amounts within the ranges. Each value must be one
-that its line has, no verification that never stops may stop a household or be noted, and where the boxes that don't stand after `depends` are those of
+that its line has, no verification that never stops may stop a household or be noted, and where the boxes that aren't listed after `depends` are those of
 another household, the value must be the same. This is done for what the driver returns, and for all computed cells by one call of the rules, of which it
-also counts those that may be over. The status is 0 where no household tells against a line, 1 where one does, and 2 where a program is missing or
-doesn't answer. M_TAX and M_SURVEY name other programs than those of ./build. Of what tells against a line the first is printed.
+also counts those that may be over. The status is 0 if no household refutes a line, 1 where one does, and 2 where a program is missing or
+doesn't answer. M_TAX and M_SURVEY name other programs than those of ./build. The first refutation of a line is printed.
 """
 import argparse
 import csv
@@ -75,7 +75,7 @@ class Facts:
         return [name for name, words in self.possible.items() if words.endswith("over")]
 
     def against(self, answer):
-        """What an answer tells against it."""
+        """What an answer refutes of it."""
         if isinstance(answer, int):
             return [f"{answer} stops"] if answer in self.silent else []
         noted = [f"{number} is noted" for number in answer["noted"] if number in self.silent]
@@ -112,7 +112,7 @@ def mixed(household, other, codes):
 
 
 def told_against(facts, households, driver, requests, room):
-    """What households tell against facts, how many of them have values, and of how many pairs neither is stopped."""
+    """What households refute of facts, how many of them have values, and of how many pairs neither is stopped."""
     pairs = [(name, one, mixed(one, other, codes)) for one, other in zip(households[:PAIRS], households[1:]) for name, codes in facts.depends.items()]
     found = answers(households + [both for _, _, both in pairs], room, driver, requests)
     wrong = [line for answer in found for line in facts.against(answer)]

@@ -10,7 +10,7 @@ No program of taxes is started: a step is what a person wrote, and here only its
     notes 301                                     what is noted; or in the place of all steps: stop 101
 
 A step may have numbers, + - * /, brackets, and round (a half up), min and max. A step whose name is an output (all.txt) is expected of the rules. These
-are expected too, of what the steps say: RFR is RNI, IPLAF, DECOTE, IPROP, REDUC, CREDIT, PS and CHR are 0, and AVANT is TOTAL, where no step says
+are expected too, by the steps: RFR is RNI, IPLAF, DECOTE, IPROP, REDUC, CREDIT, PS and CHR are 0, and AVANT is TOTAL, where no step says
 otherwise; TOTAL = IINET + PS + CHR, SOLDE = TOTAL - 8HV - 8IV, GAIN = AVANT - TOTAL, TXMOYEN = TOTAL / RFR to the millionth. The first fault ends the
 check with the status 1.
 """

@@ -55,7 +55,7 @@ def sums(rows):
 
 
 def tenths(rows):
-    """The rows of each tenth of the weight, by the taxable income; those of equal income stand as in the table."""
+    """The rows of each tenth of the weight, by the taxable income; those of equal income are in the order of the table."""
     whole, passed, found = sum(weight for _, weight, *_ in rows), 0, [[] for _ in range(10)]
     for row in sorted(rows, key=lambda row: row[2]):
         found[min(9, int(passed * 10 / whole))].append(row)

@@ -10,12 +10,12 @@ import sys
 
 SEED = 2023
 CODES = ["0AM", "0BT", "0CF", "1AJ", "1BJ", "1AS", "1BS", "7UD", "7UF"]
-# Of 100 adults so many live of a wage, of a pension, of nothing.
+# Of 100 adults, the numbers that live on a wage, on a pension, on nothing.
 SOURCES = {"wage": 66, "pension": 24, "nothing": 10}
-# Of 1,000 wages and pensions so many lie in a band, from its first amount up to the next band's, each whole unit as likely as another.
+# Of 1,000 wages and pensions, the numbers in each band, from its first amount up to the next band's, each whole unit as likely as another.
 WAGES = {3_000: 130, 12_000: 150, 18_000: 220, 24_000: 200, 32_000: 160, 45_000: 90, 70_000: 40, 130_000: 10, 600_000: 0}
 PENSIONS = {4_000: 230, 12_000: 320, 18_000: 270, 26_000: 140, 40_000: 40, 90_000: 0}
-# Of 1,000 couples and single persons so many have 0, 1, 2, 3, 4 children.
+# Of 1,000 couples and single persons, the numbers with 0, 1, 2, 3, 4 children.
 CHILDREN = {True: [440, 200, 250, 80, 30], False: [800, 110, 70, 20, 0]}
 MORE = ["0CH", "0AP", "2DC", "2TR", "2OP", "2CK", "2BH", "4BA", "4BE", "6NS", "6PS", "7DB"]
 DIVIDENDS = {100: 500, 1_000: 300, 5_000: 150, 30_000: 50, 200_000: 0}

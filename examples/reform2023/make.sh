@@ -3,7 +3,7 @@
 #
 # At the top of the repository, with the program that ./build makes or the one that M_TAX names. FOLDER (out/reform2023), which must not be there, gets the
 # made-up households (table.csv, 100,000 or the first COUNT of them), and what tools/reform writes (report). REFORM is thresholds, whose rules tools/variant
-# writes into the folder too (rules), or children or capital, whose changed file stands beside this script.
+# writes into the folder too (rules), or children or capital, whose changed file is in this script's folder.
 set -eu
 [ -x tools/variant ] || { echo "make: this runs at the top of the repository" >&2; exit 1; }
 folder=${1-out/reform2023}

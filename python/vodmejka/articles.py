@@ -15,13 +15,13 @@ class BadPattern(Exception):
 
 
 class Article(NamedTuple):
-    """A pattern, and an address in which \\1 stands for its first group."""
+    """A pattern, and an address in which \\1 denotes its first group."""
 
     pattern: re.Pattern
     address: str
 
     def link(self, match: re.Match) -> str:
-        """The address of a match: groups stand in it as parts of an address, whatever they hold."""
+        """The address of a match: groups are quoted in it as parts of an address."""
         quoted = lambda group: urllib.parse.quote(match[int(group[1])] or "", safe="") if int(group[1]) <= self.pattern.groups else ""
         return re.sub(r"\\([0-9])", quoted, self.address)
 

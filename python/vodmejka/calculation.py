@@ -18,7 +18,7 @@ Read = Callable[[list[Value]], Value]
 Letters = dict[str, str]
 DIGITS = 12
 SIGNS_OF_TWO = frozenset(operators.TWO)
-# A message is told for each way of a conditional, and for each argument of max and min.
+# A message is reported for each way of a conditional, and for each argument of max and min.
 WAYS = {"si": ("alors", "sinon"), "max": ("1", "2"), "min": ("1", "2")}
 
 
@@ -237,7 +237,7 @@ def is_plain(index: Any, letters: Letters) -> bool:
 
 
 class Rules:
-    """The formulas of a list in an order in which each stands behind those that it reads, and its checks in theirs."""
+    """The formulas of a list in an order in which each comes after those that it reads, and its checks in theirs."""
 
     def __init__(self, base: source.RuleBase, points: Points):
         sys.setrecursionlimit(max(sys.getrecursionlimit(), 20_000))
@@ -309,7 +309,7 @@ class Rules:
 
 
 def ordered(reads: dict[int, set[int]]) -> list[int]:
-    """Each formula behind those that it reads; the program has refused cycles."""
+    """The formulas, each after those that it reads; the program has rejected cycles."""
     order: list[int] = []
     seen: set[int] = set()
     for root in reads:

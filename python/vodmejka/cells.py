@@ -78,7 +78,7 @@ def whole(values: Numbers, missing: Numbers) -> list[Bytes]:
 
 
 def digits(values: Numbers, least: int) -> Bytes:
-    """The digits of whole numbers of 0 or more, with at least so many; zeros stand before them."""
+    """The digits of whole numbers of 0 or more, with at least `least`; zeros precede them."""
     import numpy
 
     greatest = int(values.max()) if len(values) else 0

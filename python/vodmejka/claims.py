@@ -1,4 +1,4 @@
-"""What a report proves of a value that is claimed, and what it doesn't: what `m_tax check` says, what a run without a driver and one with it say."""
+"""What a report proves of a value that is claimed, and what it doesn't: by `m_tax check`, a run without a driver and one with it."""
 from __future__ import annotations
 
 import re
@@ -41,7 +41,7 @@ def read_claim(text: str) -> Claim:
 
 
 def of_line(line: str) -> Claim | None:
-    """What a line of a report says."""
+    """The claim of a line of a report."""
     match = LINE.fullmatch(line.removesuffix("\r"))
     return match and Claim(match[1], match[3] or spelled(match[2]))
 
@@ -60,7 +60,7 @@ def lines_of(report: bytes) -> list[str]:
 
 
 class Verdict:
-    """What is proved, computed and not proved, as lines; `holds` where all that was asked is so."""
+    """What is proved, computed and not proved, as lines; `holds` if all claims are met."""
 
     def __init__(self):
         self.lines, self.holds = [], True
@@ -111,7 +111,7 @@ def judge_report(verdict: Verdict, rules: Rules, copies: Copies, report: bytes, 
 
 
 def judge_claim(verdict: Verdict, claim: Claim, found: list[Claim], name: str) -> None:
-    """Says whether a sound report has what is claimed."""
+    """Judges whether a sound report has what is claimed."""
     own = [line for line in found if line.cell == claim.cell]
     if own and own[0] == claim:
         verdict.say("proved", f"{claim.said()} is what the rules give in one call at the start, for the amounts of the household: "
@@ -125,7 +125,7 @@ def judge_claim(verdict: Verdict, claim: Claim, found: list[Claim], name: str) -
 
 
 def judge_call(verdict: Verdict, claims: list[Claim], copies: Copies) -> None:
-    """Says whether a verification stops the call of the rules."""
+    """Judges whether a verification stops the call of the rules."""
     try:
         found = copies.values([claim.cell for claim in claims], driver="-")
     except Stopped as stop:
@@ -146,7 +146,7 @@ def lines_that_set(content: bytes, cell: str) -> list[int]:
 
 
 def judge_driver(verdict: Verdict, claims: list[Claim], copies: Copies, name: str, content: bytes) -> None:
-    """Says what the driver makes of it."""
+    """Judges the claim by a run with the driver."""
     try:
         values = copies.values([claim.cell for claim in claims])
     except Stopped as stop:

@@ -67,7 +67,7 @@ class Copies:
         return dict(line.split(" ", 1) for line in told)
 
     def reported(self, cell: str) -> dict[str, str]:
-        """The report of a cell, as a session tells it, also where a verification stops the call; nothing where no cell has the name."""
+        """The report of a cell, as a session prints it, also if a verification stops the call; empty if no cell has the name."""
         text, status = self.ask("serve", self.list, "-", "-", self.household, given=f"why {cell}\n".encode("utf-8", "surrogateescape"))
         lines = text.decode("latin-1").split("\n")
         if status != 0 or len(lines) < 3 or lines[-2] != "." or lines[-3].split(" ")[0] != cell:

@@ -1,5 +1,5 @@
 """What cases reach of a rule base and its driver: each household is computed by the functions of calculation.py, which count, and by the program. Where the
-two differ in a value, a note or a stop, nothing is said of coverage."""
+two differ in a value, a note or a stop, no coverage is reported."""
 from __future__ import annotations
 
 import os
@@ -15,7 +15,7 @@ VALUES = 2_000_000  # the most values of a batch, so that its answer has room in
 
 
 class Differs(Exception):
-    """A household of which the program says something else than the functions that count."""
+    """A household for which the program's answer differs from that of the functions that count."""
 
 
 class Told(NamedTuple):
@@ -89,7 +89,7 @@ class Coverage:
             return Told([], [], str(stopped))
 
     def compare_part(self, table: case_tables.CaseTable, rows: list[case_tables.Row], told: list[Told], first: int, text: bytes) -> None:
-        """Looks whether the program says the same of these households, of the cells from one on."""
+        """Checks that the program's answers for these households are equal, for the cells from one on."""
         answers = records.answers(iter(text.splitlines(keepends=True)))
         for row, own, (_, notes, pairs, stop) in zip(rows, told, answers, strict=True):
             where = f"{table.name} line {row.line}, {row.label}"

@@ -1,10 +1,10 @@
-"""The csv that `m_survey table` prints, as docs/SURVEY.md has it: its records, and those columns of it that are asked for."""
+"""The csv that `m_survey table` prints, as docs/SURVEY.md has it: its records, and its requested columns."""
 import operator
 import re
 
 from .records import AMOUNT, Strange, unquoted
 
-TOLD = [b"name", b"stop", b"notes"]  # what stands in the first columns
+TOLD = [b"name", b"stop", b"notes"]  # the names of the first columns
 NAME = rb"[A-Z0-9_]+(?:\[[0-9]{1,4}\])?"
 HEAD = re.compile(b",".join(TOLD) + rb"((?:," + NAME + rb")*)\n")
 LABEL = rb'("[^"\n]*(?:""[^"\n]*)*"|[^",\r\n]+)'
@@ -15,7 +15,7 @@ CELL = rb"(?:" + AMOUNT + rb"|over)?"
 
 
 def record_form(count):
-    """The form of the record of a household that has so many values: its label is the first group, its stop the second."""
+    """The form of the record of a household that has `count` values: its label is the first group, its stop the second."""
     return re.compile(LABEL + rb",(?:" + STOP + rb",%b|,%b(?:,%b){%d})\n" % (b"," * count, NOTES, CELL, count))
 
 
@@ -48,7 +48,7 @@ def names_of(head):
 
 
 def columns(head, only):
-    """The places of the columns that are asked for, of the head's; those that tell of the household are always there."""
+    """The places of the requested columns in the head; the first three columns are always included."""
     names = head.rstrip(b"\n").split(b",")
     places = dict(reversed([(name, k) for k, name in enumerate(names)]))
     missing = [name for name in only if name not in names[len(TOLD) :]]
@@ -58,6 +58,6 @@ def columns(head, only):
 
 
 def chosen(text, places, width):
-    """These columns of records that have so many. (A comma in a label is the only one in a field, so fields are counted from the right.)"""
+    """These columns of records that have `width`. (A comma in a label is the only one in a field, so fields are counted from the right.)"""
     pick = operator.itemgetter(*places)
     return b"".join([b",".join(pick(line.rsplit(b",", width - 1))) + b"\n" for line in text.split(b"\n")[:-1]])

@@ -13,7 +13,7 @@ if TYPE_CHECKING:
 
 
 def mapped(rules: Rules, frame: Any, words: dict[str, Any], meta: Any) -> Any:
-    """A frame of Dask with what the households of another one are told. The rules are one task of its own, which each worker gets once."""
+    """A frame of Dask with the answers for the households of another one. The rules are one task of its own, which each worker gets once."""
     if not hasattr(frame, "map_partitions"):
         raise TypeError(f"map takes a frame of Dask, and not {type(frame).__name__}: batch takes one of pandas")
     from dask.delayed import delayed
@@ -25,7 +25,7 @@ def mapped(rules: Rules, frame: Any, words: dict[str, Any], meta: Any) -> Any:
 
 
 def told(part: pandas.DataFrame, rules: Rules, words: dict[str, Any], made: tuple[str, str]) -> pandas.DataFrame:
-    """What the households of a partition are told. A worker has the program of the others, or none."""
+    """The answers for the households of a partition. A worker has the program of the others, or none."""
     found: pandas.DataFrame = rules.batch(part, **words)
     if digests(found) != made:
         raise Broken("the program of this worker is another one than that with which the frame was made")

@@ -1,7 +1,7 @@
 """Which command of a driver gave a cell its value, and from what: the driver is followed command by command, and the program runs it as far as each.
 
 A run as far as a command is a driver of its own: the commands before it, with the branches that were taken and the bodies of functions written out, and the
-inputs of a partition deleted. So every value that is told is one that the program computed.
+inputs of a partition deleted. So every reported value is one that the program computed.
 """
 from __future__ import annotations
 
@@ -30,7 +30,7 @@ class Command:
 
 
 class Event(NamedTuple):
-    """A command that gave a cell a value: `before` is the run as far as it, `history` the event before it, `where` says how it was come to."""
+    """A command that gave a cell a value: `before` is the run as far as it, `history` the event before it, `where` is the way to it."""
 
     cell: str
     command: Command
@@ -119,7 +119,7 @@ class Trace:
         return self.values([*before, f"  {self.scratch} = {term}"], [self.scratch])[self.scratch] not in ("undefined", "= 0")
 
     def partition(self, command: Command, before: list[str], head: Event | None, where: str) -> Event | None:
-        """Follows a partition: its inputs are undefined there, and have their values again behind it."""
+        """Follows a partition: its inputs are undefined there, and have their values again after it."""
         inputs = self.inputs_of(command.text)
         inner = [*before, *(f"  del {name}" for name in inputs)]
         _, found = self.follow(command.block, inner, head, where + said("why.in_partition", line=command.number))

@@ -20,7 +20,7 @@ VALUE = "a value (a name, a number, (, present, cast or exists)"
 
 
 class Fault(NamedTuple):
-    """A fault of a driver: what the program calls it, the line from 1, the byte within it or none, what stands there, what could, and what may help."""
+    """A fault of a driver: what the program calls it, the line from 1, the byte within it or none, the token there, the expected ones, and hints."""
 
     what: str
     line: int
@@ -37,8 +37,8 @@ class Line(NamedTuple):
 
 
 class LineReader(grammar.Reader):
-    """What one line says: (`function`, name), (`if`,), (`else`,), (`partition`,), (`set`, cell), (`del`, cell) or (`call`, cells, name). `cells` and
-    `kinds` are those that stand anywhere in it."""
+    """The parse of one line: (`function`, name), (`if`,), (`else`,), (`partition`,), (`set`, cell), (`del`, cell) or (`call`, cells, name). `cells` and
+    `kinds` are those anywhere in it."""
 
     def __init__(self, tokens):
         super().__init__(tokens)
@@ -171,7 +171,7 @@ class LineReader(grammar.Reader):
 
 
 class Driver:
-    """The lines of a driver, what each says, and its faults in the order of the lines."""
+    """The lines of a driver, their parses, and its faults in the order of the lines."""
 
     def __init__(self, content):
         self.faults, self.said, self.kinds, self.functions, self.set, self.cells = [], [], [], [], [], []
@@ -246,7 +246,7 @@ class Driver:
         return said
 
     def look_for_blocks(self):
-        """Looks at indentations: what stands under what."""
+        """Checks indentations: which block each line belongs to."""
         opened = []
         for k, (line, said) in enumerate(self.said):
             before = self.said[k - 1] if k else None

@@ -15,7 +15,7 @@ OF_M = {"and": "et", "or": "ou", "==": "="}
 
 
 class Command(NamedTuple):
-    """A command: its line and what it says, the function that does it, its block and that of its `else`."""
+    """A command: its line and its parse, the function that runs it, its block and that of its `else`."""
 
     line: drivers.Line
     said: tuple
@@ -114,7 +114,7 @@ class Driver:
         blocks = blocks_of(content)
         self.functions = {name: self.block(commands) for name, commands in blocks.items()}
 
-    # ---- what a driver says, as functions
+    # ---- the commands of a driver, as functions
 
     def block(self, commands: list[Command]) -> list[Callable[..., None]]:
         return [self.command(command) for command in commands]

@@ -1,4 +1,4 @@
-"""How a command ends: what ends it, and how that is said."""
+"""How a command ends: its exceptions, messages and statuses."""
 from __future__ import annotations
 
 from typing import Callable
@@ -15,7 +15,7 @@ class Wrong(Exception):
 
 
 def ended(words: list[str], manual: str | None, work: Callable[[list[str]], int]) -> int:
-    """Does the work of a command over its words, or prints its manual where they ask for it. The status comes back; what ended the work is said before."""
+    """Does the work of a command over its words, or prints its manual for --help. Returns the status, after printing why the work ended."""
     if "--help" in words:
         print(manual, end="")
         return 0

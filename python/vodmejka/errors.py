@@ -1,4 +1,4 @@
-"""What can go wrong, each with what the program says of it."""
+"""The errors, each with the program's message."""
 from __future__ import annotations
 
 import re
@@ -15,10 +15,10 @@ class VodmejkaError(Exception):
 
 
 class Refused(VodmejkaError):
-    """The program takes an input not as it stands.
+    """The program rejected an input.
 
     `line` is what it printed. Of a fault in a rule file `file`, `row` (from 1) and `byte` (from 0) are its place; of one in a driver, requests, a household, a
-    list, a code file or a report `file` says which of these it is, and `row` its line. `hint` says what to mend, where there is a sentence for it.
+    list, a code file or a report `file` names which of these it is, and `row` its line. `hint` is a sentence on what to fix, if there is one.
     """
 
     def __init__(self, line: str):

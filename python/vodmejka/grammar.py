@@ -54,7 +54,7 @@ def no_function(word: str) -> str:
 
 
 class Reader:
-    """Takes tokens one after the other, and keeps what could stand in the place of the next one."""
+    """Takes tokens one after the other, and keeps what is expected in the place of the next one."""
 
     def __init__(self, tokens: list[source.Token]):
         self.tokens, self.at, self.hint = tokens, 0, ""
@@ -68,11 +68,11 @@ class Reader:
             return self.end
 
     def want(self, *what: str) -> None:
-        """Notes what could stand here; one word may be noted several times."""
+        """Notes what is expected here; one word may be noted several times."""
         self.wanted += what
 
     def wants(self) -> tuple[str, ...]:
-        """What could stand here, each once."""
+        """What is expected here, each once."""
         return tuple(dict.fromkeys(self.wanted))
 
     def step(self) -> source.Token:

@@ -1,6 +1,6 @@
 """What goes with this process, however it ends, also by SIGKILL: the programs that it started, and the folders of its files.
 
-A shell reads a pipe that this process alone holds open: each program and folder is told to it when it begins and when it is gone. At the end of the pipe it
+A shell reads a pipe that this process alone holds open: each program and folder is reported to it when it begins and when it is gone. At the end of the pipe it
 ends the programs and removes the folders that are left. A process that was forked has no part in that, and gets a shell of its own where it needs one.
 """
 from __future__ import annotations
@@ -57,7 +57,7 @@ class Guard:
         self._pipe: int | None = None
 
     def say(self, line: str) -> None:
-        """Tells the shell a line. Where it is gone, as where it was ended, nothing is guarded, and nothing else changes."""
+        """Sends a line to the shell. If the shell is gone, nothing is guarded, and nothing else changes."""
         if "\n" in line:
             return
         with self._lock, contextlib.suppress(OSError):

@@ -63,7 +63,7 @@ class Files:
 
 
 class Law:
-    """A rule base with its driver and requests, or with the names that are asked for."""
+    """A rule base with its driver and requests, or with the requested names."""
 
     def __init__(self, words, asked=None):
         with tempfile.TemporaryDirectory(prefix="page-") as room:
@@ -140,7 +140,7 @@ class Law:
         requests = self.files.put("all.txt", "\n".join([*self.places, *self.parts.names(), ""]).encode())
         return self.files.compiled(self.files.list_of(paths, "all.list"), "-", requests)
 
-    # ---- what the page is told
+    # ---- the data of the page
 
     def data(self):
         """All that the page holds of the law, for JSON."""

@@ -114,7 +114,7 @@ def read_amount(text: str) -> int:
 
 
 def spelled(value: Value) -> str:
-    """A value as the program prints it behind a name and a blank."""
+    """A value as the program prints it after a name and a blank."""
     if value is None or value is OVER:
         return "undefined" if value is None else "over"
     whole, rest = divmod(abs(value), UNIT)  # type: ignore[arg-type]

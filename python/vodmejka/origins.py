@@ -1,4 +1,4 @@
-"""By which commands a driver sets a variable: for each one that is asked for, the lines that give it its value, and the calls that they go through."""
+"""By which commands a driver sets a variable: for each requested one, the lines that give it its value, and the calls that they go through."""
 from decimal import Decimal
 
 from . import drivers, source
@@ -8,7 +8,7 @@ RULES = "call_m"
 
 
 class Command:
-    """A command of a function: its line, what it says, the lines of the blocks round it."""
+    """A command of a function: its line, its parse, the lines of the blocks round it."""
 
     def __init__(self, line, said, text, blocks):
         self.line, self.said, self.text, self.blocks = line, said, text, blocks

@@ -20,11 +20,11 @@ MAIN = "main"
 
 
 class BadModule(Exception):
-    """A module of web/ that can't be joined as it stands."""
+    """A module of web/ that can't be joined as it is."""
 
 
 def folder():
-    """Where the sources of the page are: within the package, or beside it in the repository."""
+    """Where the sources of the page are: within the package, or next to it in the repository."""
     return next(path for path in FOLDERS if os.path.isdir(path))
 
 
@@ -35,7 +35,7 @@ def fetch(name):
 class Joined:
     """The modules that the page needs, each after those that it imports, in one scope.
 
-    So an import is a line of its own without other names, an export stands at a declaration, and no two modules declare one name."""
+    So an import is a line of its own without other names, an export is at a declaration, and no two modules declare one name."""
 
     def __init__(self):
         self.pieces, self.exports, self.owners = {}, {}, {}
@@ -71,7 +71,7 @@ class Joined:
 
 
 def in_script(data):
-    """JSON that may stand within an element `script`, whatever it says."""
+    """JSON that is safe within an element `script`, whatever its contents."""
     return json.dumps(data, ensure_ascii=False, separators=(",", ":")).replace("<", "\\u003c").replace("\u2028", "\\u2028").replace("\u2029", "\\u2029")
 
 

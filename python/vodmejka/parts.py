@@ -36,7 +36,7 @@ def begun(path):
 @contextlib.contextmanager
 def unfinished(path):
     """A file under a name that no other run has. It gets its own name by `os.replace`, and goes where something fails. It is locked for as long as it is
-    written, so that what killed runs left is told from what others write."""
+    written, so that what killed runs left is distinguished from what others write."""
     remove_dead(path)
     number, made = begun(path)
     try:
@@ -44,7 +44,7 @@ def unfinished(path):
         with os.fdopen(number, "wb") as out:
             yield out, made
     except OSError as fault:
-        # (a full disk tells no name)
+        # (the error of a full disk has no name)
         fault.filename = fault.filename or path
         raise
     finally:
@@ -89,7 +89,7 @@ READERS = {"lines": records.read_answer, "csv": csv_answers.read_csv}  # what lo
 
 
 class Made:
-    """What is noted of an answer: the digest of its source, that of the names of its values (`-` where nothing tells them), its own, its form, and how many
+    """The record of an answer: the digest of its source, that of the names of its values (`-` if they are unknown), its own, its form, and how many
     households it has and how many of them stopped."""
 
     def __init__(self, path):

@@ -32,7 +32,7 @@ def below(reference: Reference, name: str) -> list[tuple[str, str]]:
 
 
 def tree(reference: Reference, name: str, link: Callable[[str], str]) -> str:
-    """The tree as nested lists: a variable that was shown above stands again without what is below it."""
+    """The tree as nested lists: a variable that was shown above is repeated without what is below it."""
     left, seen = [MOST_NODES], {name}
 
     def items(one: str, depth: int) -> str:

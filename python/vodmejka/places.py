@@ -96,13 +96,13 @@ def records(content: bytes) -> list[tuple[int, list[Field]]]:
 
 
 def end_of(form: re.Pattern[bytes], content: bytes, at: int) -> int:
-    """The end of what stands at a byte."""
+    """The end of the match at a byte."""
     found = form.match(content, at)
     return at if found is None else found.end()
 
 
 def faulty_field(fields: Sequence[Field], what: str, heads: Iterable[Field]) -> int | None:
-    """Which field a fault of a record is about, where that can be said; `heads` are the fields of the first record."""
+    """Which field a fault of a record is about, if that is known; `heads` are the fields of the first record."""
     if what in ("unknown code", "code twice"):
         return fields[0][0] if len(fields) == 2 else None
     if what == "bad amount":

@@ -7,8 +7,8 @@ FORMULA, BRANCH, BOUND, CELL, VERIFICATION, COMMAND = KINDS = ("formula", "branc
 
 
 class Point(NamedTuple):
-    """Something that a case may reach: its kind, its name within the kind, the file, and the bytes where it stands. `why` is the key of the sentence that
-    says what no case did."""
+    """Something that a case may reach: its kind, its name within the kind, the file, and its bytes. `why` is the key of the sentence for
+    a point that no case reached."""
 
     kind: str
     name: str

@@ -5,7 +5,7 @@ import time
 
 
 def spell(seconds):
-    """So many seconds as people say them."""
+    """A number of seconds in words."""
     seconds = round(seconds)
     if seconds < 60:
         return f"{seconds} s"
@@ -15,8 +15,8 @@ def spell(seconds):
 
 
 class Progress:
-    """A line on standard error that is written anew with each part, where that is a terminal. `left` are the parts and the households that have no answer yet,
-    of so many parts."""
+    """A line on standard error that is rewritten with each part, if that is a terminal. `left` are the parts and the households that have no answer yet,
+    of all parts."""
 
     def __init__(self, parts, left_parts, left_households):
         self.parts, self.done, self.left, self.computed = parts, parts - left_parts, left_households, 0

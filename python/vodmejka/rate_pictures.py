@@ -30,7 +30,7 @@ def plain(value: Decimal) -> str:
 
 
 def ticks(low: Decimal, high: Decimal, most: int) -> Iterator[Decimal]:
-    """Round numbers that cut a range into at most so many parts."""
+    """Round numbers that cut a range into at most `most` parts."""
     span = max(high - low, Decimal(1) / 1000)
     part = Decimal(10) ** (span.adjusted() - 1)
     for factor in map(Decimal, ("1", "2", "2.5", "5", "10", "20", "25", "50", "100")):
@@ -101,7 +101,7 @@ def picture(amounts: Sequence[Decimal], curves: Sequence[Curve], code: str) -> s
 
 
 def said_of(curve: Curve, code: str) -> str:
-    """What the legend says of a curve."""
+    """The text of a curve in the legend."""
     return said("marginal.legend", name=curve.name, of=curve.of, code=code)
 
 

@@ -41,13 +41,13 @@ class Strange(Exception):
 
 
 def state(file: IO[bytes]) -> tuple[int, int] | None:
-    """What tells whether a file was changed while it was read; nothing of a pipe, which has no other state than what is read of it."""
+    """What changes when a file is changed while it is read; None of a pipe, which has no other state than what is read of it."""
     told = os.fstat(file.fileno())
     return (told.st_size, told.st_mtime_ns) if stat.S_ISREG(told.st_mode) else None
 
 
 def unquoted(field: bytes) -> bytes:
-    """What a field of a record says."""
+    """The content of a field of a record."""
     match = QUOTED.match(field)
     return match[1].replace(b'""', b'"') + field[match.end() :] if match else field
 
@@ -105,7 +105,7 @@ def records(source: IO[bytes], longest: int, is_whole: bool = True) -> Iterator[
 
 
 def households_of(lines: Iterable[bytes]) -> Iterator[Told]:
-    """What `answers` tells, without a look at the names."""
+    """The records of `answers`, without a look at the names."""
     label: bytes | None = None
     notes: list[Pair] = []
     pairs: list[Pair] = []
@@ -164,7 +164,7 @@ def whole_form(names: Sequence[bytes]) -> re.Pattern[bytes]:
 
 
 def strange(text: Text, at: int) -> Strange:
-    """Says at which line an answer is none: the first one at or behind this byte."""
+    """The error of an invalid answer, at the first line at or after this byte."""
     number = text[:at].count(b"\n") + 1
     line = text[at : at + 80].split(b"\n")[0].decode("utf-8", "replace")
     return Strange(f"line {number} or one of the same household isn't what batch prints there: {line}")
@@ -215,7 +215,7 @@ def read_answer(path: str, names: list[bytes] | None = None) -> tuple[list[bytes
 
 
 def names_at(text: Text, at: int) -> list[bytes]:
-    """The names of the lines of values that stand here."""
+    """The names of the lines of values here."""
     names = []
     while found := NAMED.match(text, at):
         names.append(found[1])

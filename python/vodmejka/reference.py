@@ -1,4 +1,4 @@
-"""What a rule base says of each of its variables, for a reference: declarations with comments, formulas with the letters of loops filled in, who reads whom."""
+"""The entries of a reference, one for each variable of a rule base: declarations with comments, formulas with letters of loops filled in, who reads whom."""
 from __future__ import annotations
 
 import bisect
@@ -87,7 +87,7 @@ class Reference:
                 self.checks.append(Check(found.rule, item.error, pieces, file.name, file.lines.number(item.byte), comments, reads))
 
     def add(self, file: source.RuleFile, passage: passages.Passages, found: placed.Placed) -> None:
-        """Adds the instances of a formula. Of one of a whole table the first cell stands for all."""
+        """Adds the instances of a formula. For one of a whole table the first cell represents all."""
         item = found.item
         _, line, _, comments = passage.formula(item.byte)
         for letters in loops.instances(item.loops, ["".join(letter for header in item.loops for letter, _ in header)]):
@@ -158,7 +158,7 @@ class Reference:
 
 
 def described(variable: source.Variable) -> str:
-    """What a declaration says, in one line."""
+    """The text of a declaration, in one line."""
     return "" if variable.kind == "const" else " ".join(places.decode(variable.told.encode("latin-1")).split())
 
 

@@ -1,4 +1,4 @@
-"""The reserved words of rule files and drivers, which stand in files beside this package, or with it in an archive."""
+"""The reserved words of rule files and drivers, which are in files of this package, or with it in an archive."""
 from __future__ import annotations
 
 import pkgutil

@@ -73,7 +73,7 @@ class Read(NamedTuple):
 
 
 def whole(text, least=0):
-    """A whole number of a file: where something stands, or how many times."""
+    """A whole number of a file: a position, or a count."""
     number = int(text) if re.fullmatch("[0-9]{1,9}", text) else -1
     if number < least:
         raise ValueError(text)
@@ -148,7 +148,7 @@ def chosen(sheets, wanted):
 
 
 def unescaped(text):
-    """A text in which `_x000D_` stands for the character with that number."""
+    """A text in which `_x000D_` denotes the character with that number."""
     return ESCAPE.sub(lambda match: chr(int(match[1], 16)), text)
 
 
@@ -195,7 +195,7 @@ class Xlsx(Book):
         kinds = []
         for form in (form for forms in below(tree, "cellXfs") for form in forms):
             number = told(form, "numFmtId") or "0"
-            # (what stands in brackets is a colour or a condition, or hours, minutes or seconds of a time that passed)
+            # (the text in brackets is a colour or a condition, or hours, minutes or seconds of a time that passed)
             code = re.sub(r'"[^"]*"|\\.|\[(?![hms]+\])[^][]*\]', "", codes.get(number) or "", flags=re.IGNORECASE)
             is_date = int(number) in DATE_FORMATS or re.search("[ymdhs]", code, re.IGNORECASE) and "General" not in code
             is_percent = int(number) in PERCENT_FORMATS or "%" in code

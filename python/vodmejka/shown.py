@@ -22,11 +22,11 @@ def table(heads: Sequence[str], rows: Sequence[Sequence[object]]) -> str:
 
 
 def section(lines: Iterable[object], inner: str = "") -> str:
-    """Lines of text, the first of them bold, and what stands below them."""
+    """Lines of text, the first of them bold, and what is below them."""
     first, *rest = [cell(line) for line in lines if line not in (None, "")]
     return f"<div><b>{first}</b>{''.join(f'<br>{line}' for line in rest)}{inner}</div>"
 
 
 def short(digest: str) -> str:
-    """As many letters of a digest as tell two apart for a person."""
+    """As many letters of a digest as distinguish two for a person."""
     return digest[:12]

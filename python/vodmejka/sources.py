@@ -10,7 +10,7 @@ from .program import digest_of
 
 
 def fetched(name: str, longest: int = FILE_BYTES) -> bytes:
-    """The bytes of a file, of one that is too long so many that the program says so."""
+    """The bytes of a file; of one that is too long, enough for the program to reject it."""
     try:
         with open(name, "rb") as file:
             return file.read(longest + 1)

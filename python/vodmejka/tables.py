@@ -27,8 +27,8 @@ class Tables:
     """Writes tables of some thousand households at a time, each labelled `~`.
 
     Most households are dicts with few different lists of codes. For each such list there is a form of its row, with a place for each amount, and some hundred
-    rows are filled at once, by what runs without the interpreter. What is written of whole numbers, texts and None is an amount as it stands, and so is a
-    decimal without an exponent: a row then has, beside digits, points and signs, its label and a comma for each code, and nothing else. Where lists are many,
+    rows are filled at once, by functions written in C. What is written of whole numbers, texts and None is an amount unchanged, and so is a
+    decimal without an exponent: a row then has its label, a comma for each code, and otherwise only digits, points and signs. Where lists are many,
     or in no one order, or something isn't plain, columns are put together in their place.
     """
 
@@ -109,7 +109,7 @@ class Tables:
 def are_whole(amounts: Sequence[Amount]) -> bool:
     """Whether amounts are whole numbers of the type int, or of a type below it: their sum is, which takes less time than to look at each type.
 
-    A truth is one too, and any of these may be written in a way of its own, so what is written is to be looked at.
+    A truth is one too, and any of these may have a text of its own, so the text has to be checked.
     """
     if set(map(type, amounts[:FIRST])) != {int}:
         return False

@@ -1,4 +1,4 @@
-"""What the tools say to people, in English and French: each sentence whole, by its key. What the program says stays as it is.
+"""The messages of the tools, in English and French: each sentence whole, by its key. The program's own messages are left unchanged.
 
 The language is the one that `--lang` names, or the one of messages on this machine (LC_ALL, LC_MESSAGES or LANG).
 """
@@ -250,7 +250,7 @@ TEXTS = {
 
 
 class Language:
-    """The language of what is said."""
+    """The language of the messages."""
 
     name = ENGLISH
 

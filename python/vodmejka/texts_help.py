@@ -1,4 +1,4 @@
-"""What a reading of rules and drivers says of the token at which it can't go on, in English and French: what stands there, what could, and what may help.
+"""The messages on the token at which parsing of rules and drivers fails, in English and French: the token, the expected ones, and hints.
 A phrase without a value in it is its own key, so that the reading can note it as it is."""
 
 PHRASES = {

@@ -26,7 +26,7 @@ def varied(
 
 
 def bytes_of(text: Text, before: bytes) -> bytes:
-    """The bytes of a text that stands in the place of another one, in whose encoding it is: UTF-8, or Latin-1 where that isn't UTF-8."""
+    """The bytes of a text that replaces another one, in whose encoding it is: UTF-8, or Latin-1 where that isn't UTF-8."""
     if isinstance(text, bytes):
         return text
     try:

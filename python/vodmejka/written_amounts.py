@@ -38,7 +38,7 @@ BY_THOUSANDS = {sign: form(Signs(OTHER[sign], sign)) for sign in OTHER}
 
 
 class Amounts:
-    """Reads amounts, and holds them to one decimal sign in a file. `doubtful` has the signs that may stand between thousands where no word says so."""
+    """Reads amounts, and holds them to one decimal sign in a file. `doubtful` has the signs that may separate thousands if no option decides that."""
 
     def __init__(self, doubtful: str, signs: Signs):
         self.sign, self.doubtful, self.signs, self.form = None, "" if signs.decimal else doubtful, signs, form(signs)

@@ -1,4 +1,4 @@
-# What Spark's `RDD.pipe` does to a command, by a stand-in: Spark itself isn't run. One executor is lost; what it had begun goes on without it, while another
+# What Spark's `RDD.pipe` does to a command, by a stub: Spark itself isn't run. One executor is lost; what it had begun goes on without it, while another
 # one begins the same part.
 . "$ENGINES/common"
 needs xargs

@@ -1,4 +1,4 @@
-"""Prints a table of so many made-up households for examples/impot2023: table.py HOUSEHOLDS
+"""Prints a table of HOUSEHOLDS made-up households for examples/impot2023: table.py HOUSEHOLDS
 
 One is named `name`, some have labels with commas, quotes, or letters of Latin-1 or UTF-8. Some have amounts at which the rules note or stop.
 """

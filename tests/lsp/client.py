@@ -69,7 +69,7 @@ class Client:
         return message
 
     def settle(self, seconds=0.3):
-        """Takes in what comes until nothing has for so many seconds."""
+        """Reads messages until none has come for this many seconds."""
         while True:
             try:
                 self.receive(seconds)

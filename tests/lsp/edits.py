@@ -1,4 +1,4 @@
-"""Edits a rule base at random in a server, and compares what it tells and answers with what a server says that was started on the same texts.
+"""Edits a rule base at random in a server, and compares its messages and replies with those of a server that was started on the same texts.
 edits.py ROOT COUNT SEED"""
 import collections
 import glob
@@ -43,7 +43,7 @@ class Silent:
 
 
 class Session:
-    """A server with what it was told and has told."""
+    """A server with the messages that it received and sent."""
 
     def __init__(self, folder):
         self.server, self.told = Server(Silent()), {}

@@ -1,5 +1,5 @@
-"""Compares the faults that the server tells with those of the reference implementation, of rule files that are changed at random: where this tells none the
-server tells none, and where it tells one the server tells that one too. Cycles and sizes are left to the program. faults.py ROOT COUNT SEED"""
+"""Compares the faults that the server reports with those of the reference implementation, of rule files that are changed at random: where this reports none,
+the server reports none, and where it reports one, so does the server. Cycles and sizes are left to the program. faults.py ROOT COUNT SEED"""
 import glob
 import os
 import random
@@ -56,7 +56,7 @@ def changed(content, chance):
 
 
 def reference(content):
-    """The byte and the name of the fault that the reference implementation tells, or nothing."""
+    """The byte and the name of the fault that the reference implementation reports, or None."""
     try:
         Rules(Source(b"iliad", [(b"a.m", content)], None, None))
     except Refused as fault:
@@ -66,7 +66,7 @@ def reference(content):
 
 
 def told(workspace, text, content):
-    """The faults that the server tells."""
+    """The faults that the server reports."""
     workspace.take(text, content, "latin-1")
     while workspace.step():
         pass
@@ -80,7 +80,7 @@ def agree(wanted, found):
     if wanted[1] == "syntax":
         return any(what == "syntax" and byte >= wanted[0] or what != "syntax" for byte, what in found)
     if wanted[1].startswith("unknown error "):
-        return wanted[1] in [what for _, what in found]  # (the program tells it at its check)
+        return wanted[1] in [what for _, what in found]  # (the program reports it at its check)
     return wanted in found
 
 

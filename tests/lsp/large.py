@@ -73,7 +73,7 @@ def main():
 
 
 def keys(client, uri, lines):
-    """Types a name into a formula letter by letter, and asks what an editor asks."""
+    """Types a name into a formula letter by letter, and sends the requests that an editor sends."""
     line = next(number for number, text in enumerate(lines) if number > len(lines) * 0.7 and text.startswith("V") and " = si " in text)
     at, version, worst = lines[line].index(" = si ") + 6, 2, {}
     for letter in KEYS:

@@ -103,7 +103,7 @@ class Script:
         print(what, " ".join(found))
 
     def diagnostics(self, what):
-        """What is told of all texts after the last change."""
+        """The diagnostics of all texts after the last change."""
         self.client.request("workspace/symbol", query="")
         self.client.settle()
         print(what)

@@ -1,4 +1,4 @@
-"""A client whose server runs the program: what is told when files are saved. saved.py ROOT, in an empty folder, with M_TAX"""
+"""A client whose server runs the program: what is reported when files are saved. saved.py ROOT, in an empty folder, with M_TAX"""
 import os
 import sys
 import time
@@ -40,7 +40,7 @@ class Saved:
         self.text = RULES
 
     def wait(self, found):
-        """Waits until the server has told what a test waits for."""
+        """Waits until the server has sent what a test waits for."""
         until = time.monotonic() + 300
         while not found():
             try:

@@ -1,13 +1,13 @@
 """Compares the reference implementation with the worked rows, and with a program on changed rows.
 
-    python3 compare.py                           the rows of crates/rows/data by the reading alone, but those that a mishap befalls
-    python3 compare.py PROGRAM [COUNT [SEED]]    these, and so many changed rows by the program and by the reading
+    python3 compare.py                           the rows of crates/rows/data by the reference alone, but those with failing calls
+    python3 compare.py PROGRAM [COUNT [SEED]]    these, and COUNT changed rows by the program and by the reference
 
-The rows whose names begin with `survey_` are those of `m_survey`. A program is the path of one that takes the words of `m_tax`, as `out/m_tax` does. Its text and its status must be those
-of the reading, byte by byte; of several cycles or recursions it may show another true one, `compile` may print any code
-file of the source, and the lines of a reason may stand in any order in which each stands after those that it reads. Each row
-in which they differ is kept in a folder of its own, in the form of crates/rows/data, with what the reading says;
-the program's answer stands in `program_text` and `program_status`. The status is 0 where nothing differs.
+The rows whose names begin with `survey_` are those of `m_survey`. A program is the path of one that takes the words of `m_tax`, as `out/m_tax` does.
+Its text and its status must be those of the reference, byte by byte; of several cycles or recursions it may show another true one, `compile` may print any code
+file of the source, and the lines of a reason may be in any order in which each comes after those that it reads. Each row
+in which they differ is kept in a folder of its own, in the form of crates/rows/data, with the reference's answer;
+the program's answer is in `program_text` and `program_status`. The status is 0 where nothing differs.
 """
 
 import collections
@@ -38,7 +38,7 @@ SECONDS = 60
 
 
 class Folder:
-    """The files below a folder, each read where it is asked for, as the program reads them."""
+    """The files below a folder, each read when it is requested, as the program reads them."""
 
     def __init__(self, path):
         self.path = os.fsencode(path)
@@ -69,7 +69,7 @@ def read_folder(path):
 
 
 def names_of_rows(program=b"m_tax"):
-    """The names of a program's worked rows that nothing befalls, and how many others there are: those whose calls fail or whose files are changed."""
+    """The names of a program's worked rows, but those whose calls fail or whose files are changed; and the number of these."""
     names = [name for name in sorted(os.listdir(os.path.join(DATA, "rows"))) if program_of(name) == program]
     plain = [name for name in names if not os.path.exists(os.path.join(DATA, "rows", name, "mishaps"))]
     return plain, len(names) - len(plain)
@@ -81,7 +81,7 @@ def program_of(name):
 
 
 def read_rows(program=b"m_tax"):
-    """Each worked row of a program that nothing befalls by its name, with the text and the status that it wants."""
+    """Each worked row of a program without failing calls by its name, with the text and the status that it expects."""
     shared = read_folder(os.path.join(DATA, "shared"))
     rows = {}
     for name in names_of_rows(program)[0]:
@@ -130,7 +130,7 @@ def answer_kind(said):
 
 
 def program_answer(program, row, folder):
-    """What a program prints for a row whose files stand in a folder, and its status."""
+    """What a program prints for a row whose files are in a folder, and its status."""
     words = [program] + [os.fsdecode(word) for word in row.words]
     try:
         done = subprocess.run(words, cwd=folder, input=row.typed, stdout=subprocess.PIPE, timeout=SECONDS, check=False)
@@ -149,7 +149,7 @@ def write_files(files, folder):
 
 
 def keep(name, row, said, text, status):
-    """Keeps a row in which program and reading differ, and says where."""
+    """Keeps a row in which program and reference differ, and prints where."""
     folder = os.path.join(KEPT, name)
     own = {b"words": b" ".join(row.words) + b"\n", b"typed": row.typed}
     wanted = {b"text": said.text, b"status": b"%d\n" % said.status}
@@ -159,7 +159,7 @@ def keep(name, row, said, text, status):
 
 
 def compare_changed(program, rows, count, seed):
-    """How many of so many changed rows the program answers otherwise, and how many answers of each kind there are."""
+    """How many of `count` changed rows the program answers otherwise, and how many answers of each kind there are."""
     pool = [(row, status) for name, (row, _, status, size) in rows.items() if size <= MOST_BYTES and name not in SLOW]
     good = [row for row, status in pool if status in (0, 6)]
     bad = [row for row, status in pool if status not in (0, 6)]

@@ -23,7 +23,7 @@ def said_by(program, words, top, typed=b"", statuses=(0,)):
 
 
 def answers_of_tables(program, source, top, households, room, rows):
-    """What `batch` prints for each household (its amounts by their codes), in tables of so many rows at most."""
+    """What `batch` prints for each household (its amounts by their codes), in tables of at most `rows` rows."""
     answers = []
     for first in range(0, len(households), rows):
         some = households[first:first + rows]

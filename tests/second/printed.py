@@ -39,14 +39,14 @@ CODE_LINE = re.compile(
 
 
 def stop_lines(lines, at):
-    """How many lines from one on tell a stop, or 0. The text of a failed verification is in the rules, and any line may stand in it."""
+    """How many lines from one on report a stop, or 0. The text of a failed verification comes from the rules and may contain any line."""
     if at < len(lines) and STOP_OF_ONE_LINE.match(lines[at]):
         return 1
     return 2 if at < len(lines) and HEAD_OF_FAILED.match(lines[at]) else 0
 
 
 def is_answer(lines):
-    """Whether lines are notes, each with a text of any lines, and then values; or a stop. A text may have any lines behind its first."""
+    """Whether lines are notes, each with a text of any lines, and then values; or a stop. A text may have any lines after its first."""
     in_text = False
     for line in lines:
         if HEAD_OF_NOTE.match(line):
@@ -72,7 +72,7 @@ def is_code(lines):
 
 
 def are_replies(lines):
-    """Whether lines are the replies of a session. What stands behind a stop, up to the next `.`, is its text."""
+    """Whether lines are the replies of a session. What follows a stop, up to the next `.`, is its text."""
     in_text = False
     for line in lines:
         if in_text or REPLY.match(line) or VALUE.match(line) or STOP_OF_ONE_LINE.match(line):

@@ -1,8 +1,8 @@
-"""A folder in which a program is run on one row after another, which costs little beside the program itself.
+"""A folder in which a program is run on one row after another, which costs little compared with the program itself.
 
-Of a row only the files stand there that its words or its list name, and those that stand there already aren't written again. The program is started without
+It has only the files of a row that its words or its list name, and those that are there already aren't written again. The program is started without
 a copy of this process; what is typed waits for it in a pipe, and the limit on memory is this process's own while the program is being started, which inherits
-it. Its seconds are those of processors, since on a machine that is busy the clock says little; the clock ends only what waits.
+it. Its seconds are those of processors, since on a busy machine the clock is unreliable; the clock ends only what waits.
 """
 import contextlib
 import os
@@ -21,7 +21,7 @@ CLOCK = 30
 
 class Room:
     """A folder for one program, within limits on its seconds (of processors; by the clock it is CLOCK times as many) and on its bytes of addresses.
-    This process stands in it until it is closed."""
+    This process has it as its working folder until it is closed."""
 
     def __init__(self, program, seconds, memory):
         self.program, self.seconds, self.memory = program, seconds, memory
@@ -43,7 +43,7 @@ class Room:
         shutil.rmtree(self.top, ignore_errors=True)
 
     def put(self, row):
-        """Lets the files stand here that a run of the row can reach, and none that it has not."""
+        """Puts the files here that a run of the row can reach, and no others."""
         wanted = reachable(row)
         for name in [name for name in self.standing if name not in row.files]:
             os.remove(name)
@@ -55,7 +55,7 @@ class Room:
                 self.standing[name] = text
 
     def said(self, row):
-        """What the program prints on the row whose files stand here, and its status; a status below 0 is a signal, and None that it took too long."""
+        """What the program prints on the row whose files are here, and its status; a status below 0 is a signal, and None that it took too long."""
         typed = pipe_with(row.typed)
         if typed is None:
             return self.said_to_much(row)

@@ -1,5 +1,5 @@
 """Compares the grammars of tools/ with the reference implementation: of files that are changed at random both reject the same, and where tokens are at fault at
-the same place; a fault of grammar is told by the tools at the reference's place or farther on. agree.py ROOT COUNT SEED"""
+the same place; a fault of grammar is reported by the tools at the reference's place or farther on. agree.py ROOT COUNT SEED"""
 import glob
 import random
 import re
@@ -47,7 +47,7 @@ def reference(read):
 
 
 def agree(wanted, faults):
-    """Whether these faults, as places with what they are, are right where the reference tells one or none."""
+    """Whether these faults, as places with what they are, are right if the reference reports one or none."""
     if wanted is None or not faults:
         return wanted is None and not faults
     if wanted[1] == "syntax":

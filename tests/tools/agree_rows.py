@@ -51,7 +51,7 @@ def main():
                 if not any(fault.what == match[3].strip() or fault.byte >= int(match[2]) for fault in faults):
                     differ += 1
                     print(f"{row}: {match[0]}, but {[(fault.byte, fault.what) for fault in faults[:3]]}")
-                break  # (the program says nothing of the files after it)
+                break  # (the program reports nothing of the files after it)
             accepted += 1
             if faults:
                 differ += 1

@@ -1,5 +1,5 @@
 # needs the program
-# The tables of cases of both examples: the households that are worked out by hand, and 1,000 of the check's with what the second calculation says; both
+# The tables of cases of both examples: the households that are worked out by hand, and 1,000 of the check's with the second calculation's results; both
 # tables are still those of the steps and of that calculation; one of the cases with another expectation, and a step that is wrong.
 cd "$ROOT" || exit 1
 year="examples/impot2023/rules.list examples/impot2023/driver.mpp examples/impot2023/all.txt"

@@ -19,7 +19,7 @@ printf 'main():\n  IRN <- call_m()\n  IRN = IRN + 1\n' >driver.mpp
 (cd d && find . -type f | sort)
 grep -v '^version: ' d/claims.txt | sed "s/$(sha256sum <"$M_TAX" | cut -d' ' -f1)/THE PROGRAM'S/"
 "$dossier" --verify d; echo "status $?"
-# The instructions, as they stand in the folder.
+# The instructions, as they are in the folder.
 ln -s "$M_TAX" bin/m_tax
 sed -n 's/^[1-7]\. [^:]*: *\(sha256sum -c.*\|m_tax.*\|grep.*\|tail.*\)$/\1/p' d/HOW.txt >how
 wc -l <how

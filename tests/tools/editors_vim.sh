@@ -1,5 +1,5 @@
 # needs vim
-# Vim takes a file *.m for M by what it has, and an empty one where a list stands beside it or above it.
+# Vim takes a file *.m for M by what it has, and an empty one where a list is in its folder or above it.
 mkdir -p 'base one/more' other
 printf 'iliad\n' >'base one/rules.list'
 printf 'batch\n' >other/other.list

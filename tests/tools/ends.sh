@@ -1,7 +1,7 @@
 # What programs, files and outputs can do wrong to the tools that compute one household or change rules.
 tools=$ROOT/tools
 stand_in() { printf '#!/bin/sh\n%s\n' "$1" >stand_in; chmod +x stand_in; }
-# What marginal asks of the program before its batch: code, and the household as it stands.
+# What marginal requests of the program before its batch: code, and the unchanged household.
 answers='case $1 in
     compile) printf "mcode 1\nslots 0\ninput 1AJ\ninput 1BJ\noutput IRN\ncode\n"; exit ;;
     exec) echo "IRN = 1"; exit ;;

@@ -1,4 +1,4 @@
-# Errors with a place: Latin-1, tabs, carriage returns, a long line, a file that changed, and files that stand in options.
+# Errors with a place: Latin-1, tabs, carriage returns, a long line, a file that changed, and files named in options.
 explain=$ROOT/tools/explain
 printf 'A :\tconst = 1 ; # \351t\351\r\n\tB : const = 2 ; "\351\351" ?\r\n' >latin.m
 printf 'refused latin.m line 2 byte 45: bad byte\n' | "$explain"

@@ -1,4 +1,4 @@
-# Each line of docs/REFUSALS.md has its sentence: what isn't explained is printed. A name stands for each capital letter or "..".
+# Each line of docs/REFUSALS.md has its sentence: what isn't explained is printed. Each capital letter or ".." is replaced by a name.
 sed -n 's/^| `\(.*\)` | .*/\1/p' "$ROOT/docs/REFUSALS.md" | sed 's/` | .*//; s/`, `/\n/g' |
     sed 's/ line [L.]*\(:\| byte\)/ line 1\1/; s/ byte \.\.:/ byte 0:/; s/\\|/|/g' | grep -E '^(usage|unreadable|refused)' >lines
 "$ROOT/tools/explain" <lines >explained

@@ -1,4 +1,4 @@
-# The token at which a refused item or line can't go on, and what could stand there: rules and drivers; marks and carriage returns; places for editors.
+# The token at which a refused item or line can't go on, and what could be there: rules and drivers; marks and carriage returns; places for editors.
 explain=$ROOT/tools/explain
 RULE='regle 1 : application : iliad ; '
 for formula in 'A = 1\nB = 2 ;' 'A = (1 + 2 ;' 'A = si B == 1 alors 2 finsi ;' 'A = 0,30 ;' 'A = max(1,2,3) ;' 'A = max(1) ;' \

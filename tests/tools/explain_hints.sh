@@ -1,5 +1,5 @@
 # needs the program
-# What helps with what people mistook: words and signs of other languages, letters with accents, names that are nearly right, where the first of two stands.
+# Hints on frequent mistakes: words and signs of other languages, letters with accents, names that are nearly right, the place of the first of two.
 cat >top.m <<'M'
 REV : saisie revenu classe = 0 alias 1AJ : "s" ;
 REVV : calculee : "n" ;
@@ -11,7 +11,7 @@ IRN : calculee restituee : "n" ;
 A20 : anomalie : "A" : "20" : "00" : "t" ;
 M
 printf 'code,amount\n1AJ,5\n' >h.csv
-# last TEXT: the last line of what explain says of a rule that has this text.
+# last TEXT: the last line that explain prints for a rule that has this text.
 last() {
     { cat top.m; printf 'regle 10 : application : iliad ;\n%b\n' "$1"; } >base.m
     printf 'iliad\nbase.m\n' >base.list

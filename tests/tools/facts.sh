@@ -1,5 +1,5 @@
 # needs the program
-# By intervals XA - XA lies from -10 to 10, and in each tenth of its range from -1 to 1. R is XA where YB is above 5, else YB; in the parts of YB either.
+# By intervals XA - XA is from -10 to 10, and in each tenth of its range from -1 to 1. R is XA where YB is above 5, else YB; in the parts of YB either.
 [ -n "${M_SURVEY-}" ] || export M_SURVEY="$ROOT/out/m_survey"
 cat > two.m <<'END'
 XA : saisie revenu classe = 0 alias 2AA : "x" ;

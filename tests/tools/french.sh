@@ -1,5 +1,5 @@
 # slips and what a reading of rules and drivers can't take, in French; FILE line L byte B stays as it is, for programs that read it. What is the same in both
-# languages, apart from the words, is told at the same places.
+# languages, apart from the words, is reported at the same places.
 cat >a.m <<'M'
 REV : saisie revenu avfisk = 1 alias 1AJ : "s" type REELLE ;
 SEUIL : const = 1000 ;

@@ -1,4 +1,4 @@
-# Without a program the comparison of the real year says what is missing.
+# Without a program the comparison of the real year reports what is missing.
 cd "$ROOT" || exit 1
 M_TAX=nowhere/m_tax python3 examples/impot2023/check.py
 echo "status $?"

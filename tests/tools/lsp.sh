@@ -1,2 +1,2 @@
-# The language server and a recorded client: the protocol, what is told, shown, found, renamed, completed and mended; lists that go and come.
+# The language server and a recorded client: the protocol, diagnostics, hovers, references, renaming, completion and fixes; lists that are removed and added.
 python3 -B "$ROOT/tests/lsp/recorded.py" "$ROOT"

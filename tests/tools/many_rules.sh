@@ -1,4 +1,4 @@
-# What explain, slips and why take on a base of 20,000 rules. The program stands in: each value is 1, and rules with a fault are refused at the last one.
+# What explain, slips and why take on a base of 20,000 rules. The program is a stub: each value is 1, and rules with a fault are rejected at the last one.
 cat >stand_in <<'P'
 #!/bin/sh
 case $1 in

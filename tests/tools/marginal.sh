@@ -15,7 +15,7 @@ cat here.list >list &
 cat rules/driver.mpp >driver &
 "$ROOT/tools/marginal" list driver rules/households/single.csv 1AJ 20000 30000 10000 --of TOTAL --csv; echo "status $?"
 # Where what is kept falls, before and after a reform: a tax below 61 isn't collected, so that at 19,041 60 less is kept, and with 100 in its place 99 less where
-# the tax comes to 100. Two rule bases and two households by each other: a couple has two parts.
+# the tax is 100. Two rule bases and two households by each other: a couple has two parts.
 "$ROOT/tools/variant" here.list RECOUV=100 after > /dev/null
 couple=rules/households/couple.csv
 printf 'code,amount\n0AM,1\n1AJ,30000\n' > "$couple"

@@ -1,5 +1,5 @@
 # needs the program
-# A new rule base in both languages: its own check passes as it stands; a folder that isn't free is left as it is.
+# A new rule base in both languages: its own check passes unchanged; an existing folder is left as it is.
 mkdir bin && printf '#!/bin/sh\nname=$1\nshift\nexec "%s/tools/$name" "$@"\n' "$ROOT" >bin/vodmejka && chmod +x bin/vodmejka
 PATH=$PWD/bin:$PATH
 "$ROOT/tools/new" base --lang en; echo "status $?"

@@ -1,3 +1,3 @@
-# The operators of the package give what the worked rows of the program's operators have; of a value that is wrong, it is said.
+# The operators of the package give what the worked rows of the program's operators have; a wrong value is reported.
 python3 "$ROOT/tests/tools/operators.py"
 echo "status $?"

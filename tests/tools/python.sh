@@ -1,5 +1,5 @@
 # needs the program
-# The package: its tests, the blocks of its page as they stand, and what pip installs, which computes too.
+# The package: its tests, the blocks of its page unchanged, and what pip installs, which computes too.
 here=$PWD
 cd "$ROOT" || exit 1
 python=python3

@@ -1,4 +1,4 @@
-# A stand-in, which is both programs, computes IRN = amount times the rate that the rules have; what a table, its columns, the program and signals can do wrong.
+# A stub of both programs computes IRN = amount times the rate that the rules have; faults of tables, columns and programs, and signals.
 reform=$ROOT/tools/reform
 cat >stand_in <<'END2'
 #!/bin/sh

@@ -1,8 +1,8 @@
-"""Compares the figures of a report of tools/reform with those of the files beside it: python3 report_page.py FOLDER [--step STEP]
+"""Compares the figures of a report of tools/reform with those of the files next to it: python3 report_page.py FOLDER [--step STEP]
 
-The bytes of report.html are parsed; and where a headless Chromium is found (BROWSER names it, or one of these stands on the path:
+The bytes of report.html are parsed; and where a headless Chromium is found (BROWSER names it, or one of these is on the path:
 chromium-headless-shell, chromium, google-chrome), the document as that browser has opened it too, with a look that nothing failed to load.
-What is compared: the sums in the text; each cell of the table with summary.csv; and each bar of the pictures, which are computed here anew
+What is compared: the sums in the text; each cell of the table with summary.csv; and each bar of the pictures, which are computed here again
 of households.csv. Prints a line; on standard error whether a browser opened the page.
 """
 import csv
@@ -74,7 +74,7 @@ def gain_bars(households, whole):
 
 
 def tenth_bars(summary):
-    """The mean gain of each tenth: what its line of the summary says, the other way round."""
+    """The mean gain of each tenth: that of its line of the summary, negated."""
     bars = []
     for row in summary[2:]:
         line = dict(zip(summary[0], row))

@@ -1,5 +1,5 @@
 # needs the program
-# Each figure of a reform's page is that of the files beside it, in the bytes and, where there is one, in a browser; a figure that is changed
+# Each figure of a reform's page is that of the files next to it, in the bytes and, where there is one, in a browser; a figure that is changed
 # in one of them is found.
 cd "$ROOT" || exit 1
 sh examples/reform2023/make.sh "$OLDPWD/made" 500 >/dev/null; echo "status $?"

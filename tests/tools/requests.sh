@@ -1,4 +1,4 @@
-# All variables, kinds, patterns of names and of cells, and what can't be asked for.
+# All variables, kinds, patterns of names and of cells, and what can't be requested.
 requests=$ROOT/tools/requests
 (cd "$ROOT" && tools/requests examples/loops/rules.list | tr '\n' ' ' && echo &&
     tools/requests examples/impots/rules.list '*T' 'TMI[?]' 'T*B' --computed | tr '\n' ' ')

@@ -1,5 +1,5 @@
 # needs the program
-# What is listed can be asked for, of each example: as many lines are printed as were asked for.
+# What is listed can be requested, for each example: as many lines are printed as were requested.
 cd "$ROOT" || exit 1
 for base in first loops impots impot2023; do
     household=$(ls examples/$base/household.csv examples/$base/households/single.csv 2>/dev/null)

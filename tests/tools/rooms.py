@@ -24,7 +24,7 @@ def script(name, text):
 
 
 def said(room, row):
-    """What the program of a room says on a row."""
+    """What the program of a room prints for a row."""
     room.put(row)
     return room.said(row)
 
@@ -52,7 +52,7 @@ def refused(call, *words):
 
 
 def files():
-    """Which files stand there."""
+    """Which files are there."""
     row = Row(RUN, FILES, b"")
     tell("files of a row", sorted(reachable(row)), [b"a.m", b"b.m", b"d.txt", b"h.csv", b"l.txt"])
     tell("files where the list isn't there", reachable(Row([b"run", b"x/l.txt", b"-", b"-", b"h.csv"], FILES, b"")), FILES)

@@ -1,4 +1,4 @@
-# A stand-in: IRN is the factor that the first rule file has where A1 is above 0, else 0. It takes what the program takes: short tables, amounts that are some.
+# A stub: IRN is the factor that the first rule file has where A1 is above 0, else 0. It takes what the program takes: short tables, amounts that are some.
 same=$ROOT/tools/same
 cat >stand_in <<'END'
 #!/bin/sh

@@ -1,4 +1,4 @@
-# Cuts, runs and joins with a program that stands in: it fails where a file says so, and loses or doubles households where one does.
+# Cuts, runs and joins with a stub: it fails if the file `stop` is there, and loses or doubles the household that `lose` or `twice` has.
 scale=$ROOT/tools/scale
 cat >stand_in <<'END'
 #!/bin/sh

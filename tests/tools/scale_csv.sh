@@ -1,8 +1,8 @@
-# Parts that are computed as csv, by rules and by a code file: joined, whole or some columns, killed and begun again, answers that are none. Programs stand in.
+# Parts that are computed as csv, by rules and by a code file: joined, whole or some columns, killed and begun again, invalid answers. The programs are stubs.
 scale=$ROOT/tools/scale
 cat >survey <<'P'
 #!/bin/sh
-# table LIST DRIVER REQUESTS TABLE, or table CODEFILE TABLE. What `before` and `behind` beside it say is done, too.
+# table LIST DRIVER REQUESTS TABLE, or table CODEFILE TABLE. The commands of `before` and `behind` in its folder are run, too.
 here=$(dirname "$0")
 for table in "$@"; do :; done
 [ ! -e "$here/before" ] || . "$here/before"

@@ -1,8 +1,8 @@
-# What befalls long runs: rules that change meanwhile, a run that is killed and begun again, lines that are no answers, line ends and heads of all kinds.
+# Mishaps of long runs: rules that change meanwhile, a run that is killed and begun again, invalid answers, line ends and heads of all kinds.
 scale=$ROOT/tools/scale
 cat >stand_in <<'END'
 #!/bin/sh
-# IRN is the amount times the rate that the first rule file says. What `before` and `behind` beside it say is done, too.
+# IRN is the amount times the rate of the first rule file. The commands of `before` and `behind` in its folder are run, too.
 here=$(dirname "$0")
 rate=$(sed -n 's/^# rate //p' "$(sed -n 2p "$2")")
 [ ! -e "$here/before" ] || . "$here/before"

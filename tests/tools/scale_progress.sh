@@ -1,4 +1,4 @@
-# How far a run is, on a terminal; what a killed run leaves; verify; a batch that takes too long. The program stands in.
+# How far a run is, on a terminal; what a killed run leaves; verify; a batch that takes too long. The program is a stub.
 scale=$ROOT/tools/scale
 cat >stand_in <<'P'
 #!/bin/sh

@@ -1,7 +1,7 @@
 # What would alter a household without a word: thousands commas, amounts as labels, cells that nothing computed, letters and labels that come out otherwise,
 # and what a spreadsheet hides.
 in=$ROOT/tools/table-in
-# A comma may stand between thousands or before decimals, in a table by tabs and in a text of a sheet; words say which.
+# A comma may separate thousands or decimals, in a table by tabs and in a text of a sheet; options decide which.
 printf 'n\t1AJ\nd\t1,234\n' >tabs.csv
 "$in" tabs.csv; echo "status $?"
 for words in --french '--decimal ,' '--decimal .' '--thousands ,' '--thousands .'; do

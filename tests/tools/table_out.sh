@@ -63,7 +63,7 @@ echo "status $?"
 "$out" <notes; echo "status $?"
 printf 'household a\nnoted 2000 A20 discordance\n' | "$out"; echo "status $?"
 printf 'household a\nIRN = 1\nnoted 2000 A20 discordance\nt\n' | "$out"; echo "status $?"
-# The line of a fault is counted over texts; values behind a stop; no output to write to.
+# The line of a fault is counted over texts; values after a stop; no output to write to.
 printf 'household a\nnoted 7 A1 informative\nx\nIRN = 1\nIRN = x\n' | "$out"; echo "status $?"
 printf 'household a\nover driver line 3\nIRN = 1\n' | "$out"; echo "status $?"
 "$out" <many >&-; echo "status $?"

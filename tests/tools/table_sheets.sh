@@ -58,7 +58,7 @@ ods("household.ods", [row(cell("code"), cell("montant")) + row(cell("1AJ"), numb
 ods("covered.ods", [HEAD + row(cell("d"), '<table:table-cell table:number-columns-spanned="2" office:value-type="float" office:value="7"/>',
                                "<table:covered-table-cell/>")])
 ods("date.ods", [HEAD + row(cell("d"), '<table:table-cell office:value-type="date" office:date-value="2023-01-01"><text:p>x</text:p></table:table-cell>')])
-# Values that stand in no paragraph, and formulas that nobody has computed.
+# Values that are in no paragraph, and formulas that nobody has computed.
 bare = {"formula": '<table:table-cell table:formula="of:=[.A1]"/>', "shown": '<table:table-cell table:formula="of:=[.A1]"><text:p/></table:table-cell>',
         "nothing": '<table:table-cell table:formula="of:=[.A1]" office:value-type="string" office:string-value=""/>',
         "text": '<table:table-cell office:value-type="string" office:string-value="77"/>',

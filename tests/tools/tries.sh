@@ -1,3 +1,3 @@
-# Each wrong body of tests/tries stands in its crate: what it replaces is there once.
+# Each mutant of tests/tries fits its crate: the text that it replaces occurs there once.
 python3 "$ROOT/tests/tries.py" --stands
 echo "status $?"

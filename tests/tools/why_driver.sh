@@ -1,5 +1,5 @@
 # needs the program
-# Why a cell has its value behind a driver. By hand: without the gift of 40 the tax is 100, with it 60, so the gain is 40; REV is 1,000 and the rate 0.1.
+# Why a cell has its value after a driver. By hand: without the gift of 40 the tax is 100, with it 60, so the gain is 40; REV is 1,000 and the rate 0.1.
 # B is 5, which the driver sets, so TOT is 5 + 60; the else branch isn't taken.
 cat >a.m <<'M'
 REV : saisie revenu classe = 0 alias 1AJ : "wages" ;

@@ -1,5 +1,5 @@
 # needs the program
-# Letters filled in, cells and branches that were taken, comments beside constants, a page that is open, what differs for another household, a stop.
+# Letters filled in, cells and branches that were taken, comments next to constants, a page that is open, what differs for another household, a stop.
 # By hand: 2,500 is above 1,000, so the rate is that of cell 1, 0.2, and IRV is 2,500 * 0.2 = 500; of 500 it is that of cell 0, 0.1, and 500 * 0.1 = 50.
 cat >a.m <<'M'
 REVV : saisie revenu classe = 0 alias 1AJ : "wages" ;

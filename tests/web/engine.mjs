@@ -1,4 +1,4 @@
-// The modules of web/ beside the program: see tests/web/engine.
+// The modules of web/ against the program: see tests/web/engine.
 import { execFileSync } from 'node:child_process';
 import { existsSync, mkdtempSync, readFileSync, readdirSync, rmSync, writeFileSync } from 'node:fs';
 import { tmpdir } from 'node:os';
@@ -72,7 +72,7 @@ function drawing(seed) {
   };
 }
 
-// A file of a row; an empty text, and the status 0, stand in no file.
+// A file of a row; an empty text, and the status 0, are in no file.
 function partOf(row, file, otherwise) {
   const path = join(ROWS, row, file);
   return existsSync(path) ? readFileSync(path, 'latin1') : otherwise;

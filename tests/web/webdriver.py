@@ -111,11 +111,11 @@ class Browser:
         return base64.b64decode(self.command("Page.printToPDF", {"printBackground": True, "preferCSSPageSize": False})["data"])
 
     def messages(self):
-        """What stands in the console."""
+        """The messages of the console."""
         return [entry["message"] for entry in self.call("POST", "/se/log", {"type": "browser"})]
 
     def requests(self):
-        """The addresses that were asked for since the last question, and those of documents and data left out."""
+        """The addresses that were requested since the last call, without those of documents and data."""
         found = []
         for entry in self.call("POST", "/se/log", {"type": "performance"}):
             message = json.loads(entry["message"])["message"]

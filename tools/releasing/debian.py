@@ -1,4 +1,4 @@
-"""The package for Debian and what is made of it: what stands where, and what dpkg must know."""
+"""The package for Debian and what is made of it: the paths of its files, and what dpkg must know."""
 from __future__ import annotations
 
 import hashlib
@@ -22,7 +22,7 @@ No licence is given yet for the program, the Python package, the rules and the
 documents: choosing one is for their owner. Until then nothing is permitted
 beyond what the law permits by itself.
 
-What the program links of other works, and their licences, stands in
+What the program links of other works, and their licences, are in
 /usr/share/doc/vodmejka/THIRD_PARTY.md.
 """
 COMMAND = b"""#!/usr/bin/python3
@@ -81,7 +81,7 @@ def documents(release: Release) -> Tree:
 
 
 def changelog(release: Release) -> str:
-    """Debian's changelog, of the one version. CHANGELOG.md says what it has."""
+    """Debian's changelog, of the one version. CHANGELOG.md describes it."""
     day = time.strftime("%a, %d %b %Y %H:%M:%S +0000", time.gmtime(release.epoch))
     return f"vodmejka ({VERSION}) unstable; urgency=medium\n\n  * See CHANGELOG.md.\n\n -- {MAINTAINER}  {day}\n"
 

@@ -21,7 +21,7 @@ ELSEWHERE = (
 
 @dataclass
 class Entry:
-    """A term that stands indented in a help, and what is said of it."""
+    """An indented term of a help text, and its description."""
     term: str
     said: list[str] = field(default_factory=list)
 
@@ -41,7 +41,7 @@ def pages(epoch: int, programs: list[str]) -> dict[str, str]:
 
 
 def help_of(name: str) -> str:
-    """What a command says of itself, as it is in a package."""
+    """A command's help text, as it is in a package."""
     text = importlib.import_module(f"vodmejka.commands.{name.replace('-', '_')}").__doc__ or ""
     for pattern, instead in ELSEWHERE:
         text = re.sub(pattern, instead, text)
@@ -77,7 +77,7 @@ def command_page(name: str, text: str, day: str) -> str:
 
 
 def split_at_terms(block: str) -> Iterator[str | list[Entry]]:
-    """A paragraph, where there is one, and what stands indented below its lines without a blank line between."""
+    """A paragraph, where there is one, and what is indented below its lines without a blank line between."""
     kept = block.splitlines()
     at = next((number for number, line in enumerate(kept) if line.startswith("    ")), len(kept))
     if at > 0:
@@ -87,7 +87,7 @@ def split_at_terms(block: str) -> Iterator[str | list[Entry]]:
 
 
 def entries_of(block: str) -> list[Entry]:
-    """Terms, each with what is said of it two or more blanks further on, and on the lines below in the same column."""
+    """Terms, each with its description two or more blanks further on, and on the lines below in the same column."""
     made: list[Entry] = []
     lines = textwrap.dedent(block).splitlines()
     column = next((found.end() for line in lines if (found := re.match(r"\S.*? {2,}(?=\S)", line))), None)
@@ -126,6 +126,6 @@ def line_of(text: str) -> str:
 
 
 def escaped(text: str) -> str:
-    """A text whose bytes roff prints as they stand."""
+    """A text whose bytes roff prints unchanged."""
     text = text.replace("\\", "\\e").replace("-", "\\-").replace("'", "\\(aq").replace("`", "\\(ga").replace("^", "\\(ha").replace("~", "\\(ti")
     return text

@@ -31,7 +31,7 @@ class Release:
 
 
 def release(gate: str | None) -> Release:
-    """The release of the repository as it stands. `gate` names a log of the gate."""
+    """The release of the repository as it is. `gate` names a log of the gate."""
     if changed := said("git", "status", "--porcelain"):
         raise Refused(f"the repository has changes that no commit has: {changed.splitlines()[0].strip()}")
     commit = said("git", "rev-parse", "HEAD")
@@ -43,7 +43,7 @@ def release(gate: str | None) -> Release:
 
 
 def proved_programs() -> dict[str, bytes]:
-    """The programs that ./build or the gate made of the sources as they stand."""
+    """The programs that ./build or the gate made of the current sources."""
     built = os.path.join(TOP, "out", "built")
     if not os.path.exists(os.path.join(TOP, "out", "m_tax")) or not os.path.exists(built):
         raise Refused("out has no program that ./build or .ci/run proved and built")
@@ -72,7 +72,7 @@ def newer_source(moment: int) -> str | None:
 
 
 def proof_text(programs: dict[str, bytes], commit: str, gate: str | None) -> str:
-    """What says where the programs come from. The line of the gate is the last one of its proofs: so many passed, none failed."""
+    """The text on the programs' provenance. The line of the gate is the last one of its proofs: how many passed, none failed."""
     lines = [f"version {VERSION}", f"commit {commit}", f"crates {said('git', 'rev-parse', 'HEAD:crates')}"]
     if gate is None:
         lines += ["kit not said", "gate not said: the program is the one in out, which ./build or .ci/run makes once its proofs passed"]

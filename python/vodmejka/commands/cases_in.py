@@ -5,11 +5,11 @@
                                               of a spreadsheet, .xlsx or .ods: a sheet of households as tools/table-in reads it, and a sheet of the same
                                               households with what is expected, below the names of variables
     --only NAME                               the values of this name alone; may be given several times
-    --labels HEAD                             as of tools/table-in: the labels of the sheet of households stand below this head, though they look like amounts
+    --labels HEAD                             as of tools/table-in: the labels of the sheet of households are below this head, though they look like amounts
 
 Of ANSWERS each value is expected as it was printed: an amount, `undefined` or `over`; of a household whose run stopped each value is `stop`. Of a sheet an
-empty field expects nothing. Both parts must have the same households in the same order. Nothing is printed where a part is refused. The status is 0, 1 where
-a part is refused, 2 for wrong words, 3 where a file can't be read, and 4 where the output is closed or full.
+empty field expects nothing. Both parts must have the same households in the same order. Nothing is printed if a part is rejected. The status is 0, 1 where
+a part is rejected, 2 for wrong words, 3 where a file can't be read, and 4 where the output is closed or full.
 """
 import csv
 import io

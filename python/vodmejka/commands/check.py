@@ -1,9 +1,9 @@
-"""Says what a report proves of a value that is claimed, and what it doesn't prove.
+"""Prints what a report proves of a claimed value, and what it doesn't prove.
 
     check LIST HOUSEHOLD REPORT --claims "NAME = AMOUNT" [--driver DRIVER]
 
-REPORT has the lines that `tools/why --report` or `why` of a session printed. The program's own `check` says of them that each follows from those above it,
-and no more. This says what that means for the claim, and looks at what `check` doesn't: a report may be empty, may end in another cell, a verification may
+REPORT has the lines that `tools/why --report` or `why` of a session printed. The program's own `check` verifies that each follows from those above it,
+and no more. This command applies that to the claim, and looks at what `check` doesn't: a report may be empty, may end in another cell, a verification may
 stop the call of the rules, and a driver may give the cell another value. A claim may also be "NAME undefined" or "NAME over"; --claims may be given several
 times.
 
@@ -13,7 +13,7 @@ times.
     not proved  the report is sound, and doesn't have what is claimed
     stopped     a verification or a condition of the driver stops the run
     differs     the driver's run gives another value
-    not said    what none of this says
+    not said    what none of this proves
 
 The status is 0 where all that is claimed is proved, no verification stops the call, and the driver, where one is given, gives the same; 1 where not, or where
 the program refuses a file; 2 for wrong words; and 3 where a file can't be read.

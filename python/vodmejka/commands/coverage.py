@@ -1,9 +1,9 @@
-"""Says which formulas, branches, cells, verifications and commands of a driver no case reaches.
+"""Reports which formulas, branches, cells, verifications and commands of a driver no case reaches.
 
     coverage LIST DRIVER CASES.. [--least PERCENT] [--except FILE] [--page FILE] [--lcov FILE] [--lang en|fr] [--here]
 
 LIST and DRIVER are those of `m_tax run`; CASES are tables of cases or of households. Each household is computed by the program, with all variables requested,
-and by a reading of the rules here that counts; where the two differ in a value, nothing is said of coverage. What counts:
+and by an interpreter here that counts; where the two differ in a value, no coverage is reported. What counts:
 
     formula         of a variable: its value is a number other than 0 in a case; without a variable in it, it is computed
     branch          of a conditional: it is taken. Without sinon the condition is 0 in a case
@@ -15,14 +15,14 @@ and by a reading of the rules here that counts; where the two differ in a value,
 Instances of loops count one by one, and what one `somme` repeats counts once. What no case reaches is printed with its place, and then how much is reached.
 
     --least PERCENT     the status is 1 where less is reached
-    --except FILE       what needn't be reached, a line each, as it is printed: cell TAUX[0]. A line of what is reached, or doesn't exist, is refused
+    --except FILE       what needn't be reached, a line each, as it is printed: cell TAUX[0]. A line of what is reached, or doesn't exist, is rejected
     --page FILE         writes a page with the sources, coloured by what is reached
     --lcov FILE         writes what LCOV and what reads its files take
-    --lang en|fr        the language of what is said, else that of the machine
+    --lang en|fr        the language of the messages, else that of the machine
     --here              the names in LIST count from its folder
 
-It doesn't look at what cases expect: `cases` does. The status is 0, 1 where the program refuses or less than --least is reached, 2 for wrong words, 3 where a
-file can't be read, and 4 where one can't be written. The program is ./m_tax of this repository, or the one that M_TAX names.
+It doesn't look at what cases expect: `cases` does. The status is 0, 1 where the program rejects a file or less than --least is reached, 2 for wrong words,
+3 where a file can't be read, and 4 where one can't be written. The program is ./m_tax of this repository, or the one that M_TAX names.
 """
 from __future__ import annotations
 
@@ -83,7 +83,7 @@ def told(followed: coverage.Coverage, point: Point) -> str:
 
 
 def is_enough(reached: int, of: int, least: str | None) -> bool:
-    """Whether so many of a hundred are reached, exactly."""
+    """Whether this percentage is reached, exactly."""
     if least is None:
         return True
     whole, _, decimals = least.partition(".")

@@ -2,7 +2,7 @@
 
     doc LIST [DRIVER] --into FOLDER [--title TEXT] [--articles PATTERN=URL].. [--lang en|fr] [--here]
 
-The pages stand by themselves, without a network; `index.html` is the first, with a search. FOLDER is made, or replaced where it is an earlier reference.
+The pages need no other files and no network; `index.html` is the first, with a search. FOLDER is made, or replaced where it is an earlier reference.
 
     --title TEXT            the title, else the name of LIST
     --articles PATTERN=URL  what matches the regular expression in comments and descriptions leads to URL, in which \\1 is its first group:
@@ -57,7 +57,7 @@ def may_be_replaced(folder: str) -> bool:
 
 
 def write(pages: Iterator[tuple[str, str]], folder: str) -> int:
-    """Writes the pages into a folder beside, which then takes the place of the one that stood there; how many they are."""
+    """Writes the pages into a temporary folder, which then replaces the former one; returns their number."""
     room, count = tempfile.mkdtemp(prefix=".doc-", dir=os.path.dirname(os.path.abspath(folder))), 0
     try:
         whole = os.path.join(room, "new")

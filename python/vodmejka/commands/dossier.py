@@ -1,7 +1,7 @@
 """Puts together what a court needs to judge a value, in one folder, and verifies such a folder.
 
     dossier LIST DRIVER HOUSEHOLD --of NAME --into FOLDER       makes the folder, which must not be there; `-` is no driver
-    dossier --verify FOLDER                                     looks that all of it is so
+    dossier --verify FOLDER                                     checks all of it
 
 FOLDER gets
     claims.txt       what is claimed: the value by a run, and the value that the report proves; the program and its digest
@@ -13,8 +13,8 @@ FOLDER gets
     HOW.txt          how to verify each of these without this tool
 
 A household whose run stops has no value, and no folder is made. `--verify` prints a line for each thing that it looked at. Where the program here is another
-one than the dossier's it says so and goes on: what it computes is compared all the same. The status is 0; 1 where the program refuses, something isn't as
-the folder says, or FOLDER is there already; 2 for wrong words; and 3 where a file can't be read or written.
+one than the dossier's, it reports this and goes on: what it computes is compared all the same. The status is 0; 1 where the program rejects a file, something
+isn't as the folder claims, or FOLDER is there already; 2 for wrong words; and 3 where a file can't be read or written.
 """
 from __future__ import annotations
 
@@ -80,7 +80,7 @@ def digest_of_program() -> str:
 
 
 def version() -> str:
-    """The version of the program, as far as the repository tells it."""
+    """The version of the program, as far as the repository has it."""
     if not os.path.realpath(runs.program_path()).startswith(TOP + os.sep):
         return "not known, since the program isn't of the repository of this tool"
     try:

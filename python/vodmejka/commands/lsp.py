@@ -2,19 +2,19 @@
 
     lsp
 
-An editor starts it; docs/EDITORS.md has the settings. For rule files (.m) and drivers (.mpp) it tells faults while one types, shows what a word stands for,
+An editor starts it; docs/EDITORS.md has the settings. For rule files (.m) and drivers (.mpp) it reports faults while one types, shows what a word denotes,
 finds where it is declared, set and read, gives it another name, and lays files out. The list is `rules.list` in the folder of the file or the nearest above.
 
 The initialization options, or the settings of `vodmejka`, may name other files, counted from the folder that the editor opened:
 
     list        the list
     folder      the folder from which the names in the list count
-    driver      the driver; `-` for none. Without it the only .mpp beside the list
+    driver      the driver; `-` for none. Without it the only .mpp in the list's folder
     requests    the requests of the driver
     household   a household, whose values are shown
     program     the program, in place of m_tax of the path and of the one that M_TAX names
 
-The status is 0 where the client shut it down and said `exit`, and 1 where the client is gone.
+The status is 0 where the client shut it down and sent `exit`, and 1 where the client is gone.
 """
 import sys
 

@@ -33,7 +33,7 @@ def is_free(folder: str) -> bool:
 
 
 def make(folder: str) -> None:
-    """Writes the files into a new folder beside, which then takes the name: a folder that stands there is whole."""
+    """Writes the files into a temporary folder, which is then renamed: a folder of the name is complete."""
     parent = os.path.dirname(os.path.abspath(folder))
     room = tempfile.mkdtemp(prefix=".new-", dir=parent)
     try:

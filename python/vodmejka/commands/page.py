@@ -2,20 +2,20 @@
 
     page LIST DRIVER [REQUESTS] [--reform LIST2 DRIVER2] [--title T] [--lang fr|en] [--groups FILE] > page.html
 
-LIST, DRIVER and REQUESTS are those of `m_tax run`; without REQUESTS the page has all variables with `restituee`. --reform puts a second rule base beside
-the first, to be compared on one household; it has the same inputs, and perhaps more. --lang is the language of the page, fr where nothing is said.
+LIST, DRIVER and REQUESTS are those of `m_tax run`; without REQUESTS the page has all variables with `restituee`. --reform adds a second rule base,
+to be compared with the first on one household; it has the same inputs, and perhaps more. --lang is the language of the page, fr by default.
 --groups names a file that orders the form and gives units:
 
     group Situation du foyer          the title of a group of boxes, whose codes follow
     0AM 0CF
     unit €                            a unit, of the variables or boxes whose names follow; % shows 0.3 as 30 %
     IINET TOTAL 1AJ
-    main IINET                        the value that stands above the others
+    main IINET                        the value that is shown above the others
 
-Boxes that no group has stand in a last one. Without a file the groups are those of the first attribute of each input. Lines after a # are comments.
+Boxes without a group are in a last one. Without a file the groups are those of the first attribute of each input. Lines after a # are comments.
 
 The page opens in any browser of the last years, from disk. It has the code file of the rules, the formulas with their places and comments, and the digests
-of all files. docs/PAGE.md says what it shows, and how its calculation is tested.
+of all files. docs/PAGE.md describes what it shows, and how its calculation is tested.
 
 The status is 0, 1 where the program rejects the rules, 2 for wrong words, 3 where a file can't be read, and 4 where the output is closed or full. The program
 is ./m_tax of this repository, or the one that M_TAX names.
@@ -54,7 +54,7 @@ def options(words):
 
 
 class Layout:
-    """Groups, units and the main value, as a file says them."""
+    """Groups, units and the main value, as a file has them."""
 
     def __init__(self, law, language):
         self.law, self.language = law, language

@@ -1,4 +1,4 @@
-"""Says whether two rule bases give every household the same answer.
+"""Reports whether two rule bases give every household the same answer.
 
     same LIST1 DRIVER1 LIST2 DRIVER2 REQUESTS [--tries COUNT] [--seed SEED]
     same --code CODE1 LIST2 DRIVER2 REQUESTS      `--code FILE` in the place of a list and a driver: a code file, which has its requests in it
@@ -7,13 +7,13 @@
 Both are compiled. Where the two code files have the same bytes it prints `same`, and then the answers are the same for all households: a code file is what
 gives the answers. Else it looks for a household in which they differ, among COUNT made-up ones (20,000, and 500 where a side is a code file, which computes
 one household at a time) whose amounts are near the numbers that the rules have, makes it small, and prints it as a household's
-file with both answers; or it says that it found none, which proves nothing.
+file with both answers; or it reports that it found none, which proves nothing.
 
-List, rule files, drivers and requests are read once, so that rules that are edited meanwhile have no part in it. `-` is a driver or requests that there are
-none of.
+List, rule files, drivers and requests are read once, so edits of the rules meanwhile have no effect. `-` means no driver or no
+requests.
 
 The status is 0 where they are the same, 1 where they differ, 5 where no difference was found, 2 for wrong words, 3 where a file can't be read, and 6 where
-one of the two is refused or the program fails. The program is ./m_tax of this repository, or the one that M_TAX names.
+one of the two is rejected or the program fails. The program is ./m_tax of this repository, or the one that M_TAX names.
 """
 import csv
 import io
@@ -198,7 +198,7 @@ def sides_of(words, room):
 
 
 def compare(words, tries, seed, room):
-    """Prints what there is to say, and answers the status."""
+    """Prints the result, and returns the status."""
     sources = sides_of(words, room)
     one, other = (compiled(*origin) for origin in sources)
     if one == other:

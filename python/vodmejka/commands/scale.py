@@ -3,36 +3,36 @@
     scale cut TABLE FOLDER [--rows N] [--once]  cuts the table into parts of at most N rows (100,000), FOLDER/part-000001.csv and so on
     scale list FOLDER                           names the parts that have no answer yet, a number in each line
     scale one FOLDER NUMBER SOURCE              one batch: computes a part, unless it has its answer
-    scale run FOLDER SOURCE [--memory MB] [--jobs N]  computes all parts on this machine; on a terminal it shows how far it is
+    scale run FOLDER SOURCE [--memory MB] [--jobs N]  computes all parts on this machine; on a terminal it shows the progress
     scale join FOLDER > ANSWERS                 the answers of all parts, as one batch of the whole table would print them
-    scale join FOLDER --csv [--only NAMES] > CSV  the same of csv; NAMES, with commas between, are the values that are kept, in their order
-    scale verify FOLDER [SOURCE]                looks, as join does, that all is as it was checked, also the parts, and that it was made of this source
-    scale drop FOLDER                           removes the answers, also those that were begun, and leaves the parts, as for other rules
+    scale join FOLDER --csv [--only NAMES] > CSV  the same of csv; NAMES, separated by commas, are the values to keep, in their order
+    scale verify FOLDER [SOURCE]                checks, as join does, that answers and parts are as they were checked, and of this source
+    scale drop FOLDER                           removes all answers, also unfinished ones, and keeps the parts, as for other rules
     scale pipe HEADER SOURCE                    rows on the standard input, without the table's first line, which is HEADER; answers without one too
     scale source SOURCE                         the digest of a source
-    scale source LIST DRIVER REQUESTS --code FILE  writes the code file of a source, which is a source of its own, and tells its digest
+    scale source LIST DRIVER REQUESTS --code FILE  writes the code file of a source, which is a source of its own, and prints its digest
 
-SOURCE is LIST DRIVER REQUESTS, computed by `m_tax batch`, or with --csv by `m_survey table`, which prints csv; or a code file, computed by `m_survey
-table`. One of a code file needs no other file, and no folder from where names count. --of DIGEST refuses another source than the one with this digest.
+SOURCE is LIST DRIVER REQUESTS, computed by `m_tax batch`, or with --csv by `m_survey table`, which prints csv; or a code file, computed by
+`m_survey table`. A code file needs no other file, and no folder that names are relative to. --of DIGEST rejects a source with another digest.
 
-A batch computes its part on all processors, so `run` doesn't count these: it starts as many batches at once as have 256 MB each in the memory that is free
-(or in MB megabytes), four at the most, so that one computes while others are read, written and looked at. N says how many itself.
+A batch computes its part on all processors, so `run` doesn't count these: it starts as many batches at once as the free memory (or MB megabytes) has room for at
+256 MB each, at most four, so that one computes while others are read, written and checked. N sets the number.
 
-List, rule files, driver and requests are read once, and every batch of a command runs on a copy of what was read, so rules that are edited meanwhile
-have no part in it. A program that was built anew meanwhile is refused.
+List, rule files, driver and requests are read once, and every batch of a command runs on a copy of what was read, so edits of the rules meanwhile
+have no effect. A program that was rebuilt meanwhile is rejected.
 
---timeout SECONDS ends a batch of one, run or pipe that takes longer; the part has no answer then, and the same words begin it again.
+--timeout SECONDS ends a batch of one, run or pipe that takes longer; the part then has no answer, and the same words compute it again.
 
-A part is written under a name of its own until it is whole and checked, so a run that was stopped or killed is begun again by the same words and goes
-on; what it had begun of a part is removed then.
+A part is written under a name of its own until it is whole and checked, so a run that was stopped or killed is continued by the same words;
+unfinished parts of it are then removed.
 
-`one` and `run` look that an answer has the part's labels, each once and in their order, and for each household one line for each request or a stop.
-`join` looks that every part has its answer as it was checked, that all answers together have the labels of the table in their order, and that all were
-made of one source (program, list, rule files, driver, requests). So no household is lost or doubled. `cut --once` also refuses a label that stands twice.
+`one` and `run` check that an answer has the part's labels, each once and in their order, and for each household one line for each request or a stop.
+`join` checks that every part has its answer as it was checked, that all answers together have the labels of the table in their order, and that all were
+made of one source (program, list, rule files, driver, requests). So no household is lost or doubled. `cut --once` also rejects a label that occurs twice.
 
 A table is cut between its records, as the program reads them: at line feeds, carriage returns or both, outside of quotes. The status is 0, 1 where a
-check fails or a batch refuses its part, 2 for wrong words, 3 where a file can't be read or written, and 4 where the output was closed. The programs are
-./m_tax and ./m_survey of this repository, or those that M_TAX and M_SURVEY name; without the latter it is the m_survey beside the former.
+check fails or a batch rejects its part, 2 for wrong words, 3 where a file can't be read or written, and 4 where the output was closed. The programs are
+./m_tax and ./m_survey of this repository, or those that M_TAX and M_SURVEY name; without the latter, the m_survey next to the former.
 """
 import argparse
 import collections
@@ -282,7 +282,7 @@ def join_only(paths, notes, only, out):
 
 
 def part_only(path, noted, only, with_head):
-    """The columns of a part that are asked for."""
+    """The requested columns of a part."""
     with open(path, "rb") as file:
         text = file.read()
     if hashlib.sha256(text).hexdigest() != noted:

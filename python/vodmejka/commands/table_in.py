@@ -6,7 +6,7 @@
     --sheet NAME                   the sheet, where several have something
     --labels HEAD                  the first column, which has this head, is that of the labels, though it looks like one of amounts
     --decimal SIGN                 the sign before decimals, `,` or `.`; --french is --decimal ,
-    --thousands SIGN               the sign between thousands, `,` or `.`; the other one stands before decimals
+    --thousands SIGN               the sign between thousands, `,` or `.`; the other one is that before decimals
     --table, --household           what the file is, where it isn't clear
 
 Read are of a csv: a byte order mark, carriage returns, `;`, tabs or commas between fields, fields in quotes, decimal commas, blanks between thousands
@@ -14,7 +14,7 @@ Read are of a csv: a byte order mark, carriage returns, `;`, tabs or commas betw
 sheets are read as the others are, and named on standard error.
 
 The first line has the heads: the column of labels, whatever its head is but a code, and codes. A first column below a head in capital letters, or with
-amounts alone, is one of labels only where its head is `name` or --labels says so. Where the first line has two and the first is `code`, the file is a
+amounts alone, has labels only if its head is `name` or it is named by --labels. Where the first line has two and the first is `code`, the file is a
 household, with a code and an amount in each line. Lines and columns without anything are left out, and a line of a household without an amount too.
 Line ends within a label become blanks.
 
@@ -68,13 +68,13 @@ def lines_of(text):
 
 
 def delimiter_of(text):
-    """What stands most often in the first line, outside of quotes; of as many, `;` first."""
+    """The separator that occurs most often in the first line, outside of quotes; of equally frequent ones, `;` first."""
     head = re.sub(r'"[^"]*"', "", lines_of(text.lstrip("\r\n"))[0])
     return max(";\t,", key=head.count)
 
 
 class Grid:
-    """The rows of a file that have something, each with its number; `doubtful` are the signs that a thousand may hide behind, and `hidden` says what of it
+    """The rows of a file that have something, each with its number; `doubtful` are the signs that may separate thousands, and `hidden` lists what of it
     a spreadsheet hides."""
 
     def __init__(self, content, sheet):
@@ -167,7 +167,7 @@ def household(grid, codes, signs):
 
 
 def look_at_labels(grid, codes, labels):
-    """Refuses a first column that may be one of amounts, unless a word says that it has the labels."""
+    """Rejects a first column that may be one of amounts, unless an option declares that it has the labels."""
     number, heads = grid.rows[0]
     place, what_helps = f"{grid.line} {number}", f"put one with labels before it, or say --labels '{heads[0]}'"
     if labels is not None:

@@ -6,12 +6,12 @@ The columns are `name`, the requests in their order, `undefined` and `over` (the
 are empty), `notes` (the verifications that were noted, as `2000 A20`, with `; ` between), `stop` (the line of the verification or condition that stopped
 the run; all other fields are empty) and `text` (the error's text). All is UTF-8; labels and texts that aren't are taken as Latin-1.
 
-    --of TABLE           looks that the output has the households of the table, each once and in their order: else one that was cut off between two households
-                         can't be told from a whole one
+    --of TABLE           checks that the output has the households of the table, each once and in their order: else one that was cut off between two households
+                         can't be distinguished from a whole one
     --french             for French Excel and LibreOffice: `;` between fields, decimal commas, carriage returns, and a byte order mark
     --bare               leaves labels and texts as they are, for programs; else one that begins with = + - @ has a ' before it, since spreadsheets
                          take it as a formula
-    --requests FILE      the columns are those of this request file; --list LIST: the returned variables of this list. The first answer tells them
+    --requests FILE      the columns are those of this request file; --list LIST: the returned variables of this list. The first answer has them
                          too, so this is for outputs in which all households stopped
 
 The status is 0; 1 where the input is no whole output of `batch`, as an error line, one that was cut off, one without households or one of another table; 2
@@ -84,7 +84,7 @@ def held_to(found, path):
 
 
 def names_of(words):
-    """The columns that the words tell, if any."""
+    """The columns that the options give, if any."""
     if "--requests" in words:
         return [line for line in re.split(rb"\r?\n", source.fetch(words["--requests"])) if line]
     if "--list" not in words:

@@ -3,12 +3,12 @@
     variant LIST NAME=VALUE.. FOLDER
 
 NAME is a constant (`DEC_SEUL : const = 873 ;`), or a variable or a table's cell whose only formula is a number (`SEUIL[2] = 28797 ;`). VALUE is
-spelled as rules spell numbers, `-` in front for one below zero. All else of the files stays as it is, byte by byte. The copy's list is
+spelled as rules spell numbers, with `-` in front if negative. All else of the files stays as it is, byte by byte. The copy's list is
 FOLDER/rules.list; it names the copy's files as they are seen from where this command is run, which is where the program is to be started.
 
-A line is printed for each change: NAME, its value before and now, and the place. Nothing is written where a name isn't there, stands more
+A line is printed for each change: NAME, its value before and now, and the place. Nothing is written where a name isn't there, occurs more
 than once, is computed, has the value already, or has it by a rule of another application or a chained one, or where a value is no number of rules: these
-are told on standard error, with the status 1. FOLDER must not exist, and have a name that a list may have; it has its name only once all files stand in it.
+are reported on standard error, with the status 1. FOLDER must not exist, and its name must be valid in a list; it gets its name once all files are written.
 The status is 2 for wrong words, 3 where a file can't be read or written, and 4 where the output is closed.
 """
 import os
@@ -22,7 +22,7 @@ from ..limits import FILE_NAME_BYTES
 
 
 def copy_names(files):
-    """A name for each file in the copy: its own, and a number behind it where an earlier one has that name."""
+    """A name for each file in the copy: its own, and a number after it if an earlier one has that name."""
     names, used = [], set()
     for file in files:
         stem, kind = os.path.splitext(os.path.basename(file.name))
@@ -48,7 +48,7 @@ def line_of_list(path):
 
 
 def write_copy(base, pieces, folder):
-    """Writes the files with their pieces replaced, and the list, under the folder's name once all stand."""
+    """Writes the files with their pieces replaced, and the list; the folder gets its name once all are written."""
     names = copy_names(base.files)
     lines = [line_of_list(os.path.join(folder, name)) for name in names]
     parent = os.path.dirname(os.path.abspath(folder))

@@ -1,4 +1,4 @@
-"""Edits that mend what a diagnostic tells: a sign that is missing, a comma for a decimal point, a name that is nearly another."""
+"""Edits that fix a diagnostic: a sign that is missing, a comma for a decimal point, a name that is nearly another."""
 from __future__ import annotations
 
 import re
@@ -26,19 +26,19 @@ def code_actions(context: Context, params: dict[str, Any]) -> list[dict[str, Any
     begin, end = range_of(text, params)
     context.workspace.look_at_text(text, context.tick)
     found = []
-    for told in diagnostics.of_text(context.workspace, text):
-        if "data" in told and text.byte(told["range"]["start"]) <= end and text.byte(told["range"]["end"]) >= begin:
+    for reported in diagnostics.of_text(context.workspace, text):
+        if "data" in reported and text.byte(reported["range"]["start"]) <= end and text.byte(reported["range"]["end"]) >= begin:
             context.tick()
-            for title, edits in mended(context, text, told):
+            for title, edits in mended(context, text, reported):
                 changes = [{"range": text.range(first, last), "newText": new} for first, last, new in edits]
-                shown = {name: value for name, value in told.items() if name != "data"}
+                shown = {name: value for name, value in reported.items() if name != "data"}
                 found.append({"title": title, "kind": "quickfix", "diagnostics": [shown], "edit": {"changes": {text.uri: changes}}})
     return found
 
 
-def mended(context: Context, text: Text, told: Diagnostic) -> Iterator[tuple[str, list[Edit]]]:
+def mended(context: Context, text: Text, reported: Diagnostic) -> Iterator[tuple[str, list[Edit]]]:
     """What mends a diagnostic: a title with edits, the likeliest first."""
-    data, begin, end = told["data"], text.byte(told["range"]["start"]), text.byte(told["range"]["end"])
+    data, begin, end = reported["data"], text.byte(reported["range"]["start"]), text.byte(reported["range"]["end"])
     what = data["what"]
     if what.startswith(("unknown name ", "unknown error ", "unknown ")):
         yield from other_names(context, text, data, begin, end)
@@ -80,7 +80,7 @@ def other_names(context: Context, text: Text, data: dict[str, Any], begin: int, 
 
 
 def in_rules(text: RuleText, data: dict[str, Any], begin: int, end: int) -> Iterator[tuple[str, list[Edit]]]:
-    """What mends a fault of grammar, by the tokens round it and by what could stand there."""
+    """The fixes of a fault of grammar, by the tokens round it and by the expected ones."""
     before, after = tokens_round(text, begin)
     wanted, found = data["wanted"], data["found"]
     yield from third_argument(text, found, before, after, begin)
@@ -113,7 +113,7 @@ def in_rules(text: RuleText, data: dict[str, Any], begin: int, end: int) -> Iter
 
 
 def tokens_round(text: RuleText, begin: int) -> tuple[list[source.Token], list[source.Token]]:
-    """The tokens before a byte, from the piece before its own on, and those behind the token at it, to the end of the next piece."""
+    """The tokens before a byte, from the piece before its own on, and those after the token at it, to the end of the next piece."""
     number = text.at(begin)
     first, last = max(0, number - 1), min(len(text.pieces) - 1, number + 1)
     tokens: list[source.Token] = []

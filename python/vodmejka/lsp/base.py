@@ -40,8 +40,8 @@ class Place:
 
 
 class Base:
-    """A list with its files; `is_alone` is a file that no list names, by itself. `fault` says why the list can't be read, and `missing` are the files that
-    can't; `todo` are the pieces whose faults of names are to be looked for, and those in `now` come first."""
+    """A list with its files; `is_alone` is a file that no list names, by itself. `fault` is why the list can't be read, and `missing` are the files that
+    can't; `todo` are the pieces still to be checked for faults of names, and those in `now` come first."""
 
     def __init__(self, path: str, is_alone: bool = False) -> None:
         self.path, self.uri, self.is_alone = path, uri_of(path), is_alone
@@ -77,7 +77,7 @@ class Base:
     # ---- what a piece adds
 
     def entries(self, piece: Piece) -> Iterator[tuple[Place, Any]]:
-        """The places and names under which a piece stands."""
+        """The indexes and names under which a piece is kept."""
         item = piece.item
         if isinstance(item, items.Declaration):
             yield (self.errors if item.kind in items.KINDS_OF_ERRORS else self.variables), item.name
@@ -134,7 +134,7 @@ class Base:
         self.now.update(dict.fromkeys(new))
 
     def next(self) -> Piece:
-        """Takes the piece that is to be looked at next."""
+        """Takes the piece to check next."""
         piece = next(iter(self.now or self.todo))
         self.now.pop(piece, None)
         self.todo.pop(piece, None)
@@ -144,7 +144,7 @@ class Base:
         self.todo.update((piece, None) for text in self.texts for piece in text.pieces if piece.item is not None)
 
     def resting_on(self, kind: str, name: str) -> list[Piece]:
-        """The pieces whose faults may be others where what is said of a name is."""
+        """The pieces whose faults may change with the declaration of a name."""
         if kind == "code":
             return self.codes.of(name)
         if kind == "error":
@@ -202,7 +202,7 @@ def targets_of(formula: Formula) -> list[str]:
 
 
 def names_of(word: str, round_it: list[Any]) -> list[str]:
-    """The names that a word in loops stands for, each once."""
+    """The names that a word in loops denotes, each once."""
     if not round_it or word.isupper():
         return [word]
     return list(dict.fromkeys(loops.replaced(word, letters) for letters in loops.instances(round_it, [word])))

@@ -17,7 +17,7 @@ ERROR, WARNING, INFORMATION, HINT = 1, 2, 3, 4
 
 
 class Finding(NamedTuple):
-    """What is told of some bytes, which count from the begin of a piece: how grave it is, what the program calls it, and a token that stands for it."""
+    """A finding at some bytes, counted from the begin of a piece: its severity, the program's name of it, and a token that identifies it."""
 
     begin: int
     end: int
@@ -80,48 +80,48 @@ class Checker(faults.Names):
     def __init__(self, base: Base, set_by_driver: set[Cell] | None = None, in_driver: set[str] | None = None) -> None:
         self.base, self.variables, self.errors, self.files = base, Declared(base), base.errors, self
         self.set_by_driver, self.in_driver = set_by_driver or set(), in_driver or set()
-        self.told: list[tuple[int, str]] = []
+        self.reported: list[tuple[int, str]] = []
 
     def findings(self, piece: Piece) -> list[Finding]:
         """The faults of a piece, and where it has none its slips."""
-        self.told, item = [], piece.item
+        self.reported, item = [], piece.item
         slipped: list[Finding] = []
         if isinstance(item, items.Declaration):
             self.look_at_declaration(piece, item)
-            slipped = [] if self.told else list(self.slips_of_declaration(piece, item))
+            slipped = [] if self.reported else list(self.slips_of_declaration(piece, item))
         elif isinstance(item, (Formula, Check)) and self.base.counts(piece):
             if piece.has_bad_header:
-                self.told += faults_of_headers(piece)
-            self.told += [(byte, "unknown name X") for byte in piece.loose]
+                self.reported += faults_of_headers(piece)
+            self.reported += [(byte, "unknown name X") for byte in piece.loose]
             if isinstance(item, Formula):
                 self.done = Done(self.base, piece)
                 self.look_at_target("", b"", item)
             elif item.error not in self.errors and item.error not in self.base.maybe and not self.base.missing:
-                self.told.append((item.error_byte, f"unknown error {item.error}"))
+                self.reported.append((item.error_byte, f"unknown error {item.error}"))
             self.look_at_reads(piece)
-            slipped = [] if self.told else [*slips_of_reads(self.base, piece), *slips_of_letters(piece), *self.slips_of_check(piece, item)]
+            slipped = [] if self.reported else [*slips_of_reads(self.base, piece), *slips_of_letters(piece), *self.slips_of_check(piece, item)]
         elif isinstance(item, Head):
             slipped = list(self.slips_of_head(piece, item))
-        return [self.finding(piece, byte, what) for byte, what in self.told] + slipped
+        return [self.finding(piece, byte, what) for byte, what in self.reported] + slipped
 
     def finding(self, piece: Piece, byte: int, what: str) -> Finding:
         return Finding(byte, byte + token_length(piece, byte), ERROR, what)
 
     def add(self, _name: str, _content: bytes, byte: int, what: str) -> None:
-        """What the library tells of a piece. That a name is unknown isn't sure where a piece with faults may declare it, or a file can't be read."""
+        """Adds what the library reports of a piece. That a name is unknown isn't sure where a piece with faults may declare it, or a file can't be read."""
         if what.startswith("unknown name ") and (self.base.missing or what.split(" ")[2] in self.base.maybe):
             return
-        self.told.append((byte, what))
+        self.reported.append((byte, what))
 
     def look_at_declaration(self, piece: Piece, item: items.Declaration) -> None:
         base = self.base
         of_kind = base.errors if item.kind in items.KINDS_OF_ERRORS else base.variables
         if base.first(of_kind.of(item.name)) is not piece:
-            self.told.append((item.byte, f"declared twice {item.name}"))
+            self.reported.append((item.byte, f"declared twice {item.name}"))
         elif item.code is not None and base.first(base.codes.of(item.code)) is not piece:
-            self.told.append((item.byte, f"alias twice {item.code}"))
+            self.reported.append((item.byte, f"alias twice {item.code}"))
         elif item.size is not None and not 1 <= item.size <= TABLE_CELLS:
-            self.told.append((item.byte, "table size"))
+            self.reported.append((item.byte, "table size"))
 
     def look_at_reads(self, piece: Piece) -> None:
         for word, index, byte, round_it in piece.reads:
@@ -223,7 +223,7 @@ def is_returned(item: items.Declaration) -> bool:
 
 
 def applications_of(head: Piece) -> tuple[str, ...]:
-    """The applications of a rule or verification: what stands behind its head is of them."""
+    """The applications of a rule or verification: the items after its head belong to them."""
     pieces = head.text.pieces
     number = head.text.at(head.begin)
     return pieces[number + 1].state.applications if number + 1 < len(pieces) else ()
@@ -231,13 +231,13 @@ def applications_of(head: Piece) -> tuple[str, ...]:
 
 def slips_of_letters(piece: Piece) -> Iterator[Finding]:
     """A letter that is bound again within its own loop; each letter once."""
-    told: set[str] = set()
+    reported: set[str] = set()
     for word, _, byte, round_it in [*piece.reads, *(("", None, piece.item.byte, loops_of) for loops_of in [getattr(piece.item, "loops", [])])]:
         bound: set[str] = set()
         for header in round_it:
             own = {letter for letter, _ in header}
-            for letter in sorted((own & bound) - told):
-                told.add(letter)
+            for letter in sorted((own & bound) - reported):
+                reported.add(letter)
                 what = f"the letter {letter} is bound again within its own loop, and means the inner one there"
                 yield Finding(byte, byte + max(1, len(word)), WARNING, what)
             bound |= own

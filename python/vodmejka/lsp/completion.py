@@ -1,4 +1,4 @@
-"""What may stand at a place: the grammar is asked for it, and for names the base."""
+"""What may come at a place: by the grammar, and for names by the base."""
 from __future__ import annotations
 
 import heapq
@@ -30,7 +30,7 @@ Item = dict[str, Any]
 
 
 def completion(context: Context, params: dict[str, Any]) -> dict[str, Any]:
-    """At most MOST items that begin as the word at the place does; where there are more the client asks again."""
+    """At most MOST items that begin as the word at the place does; if there are more, the client requests again."""
     text = text_of(context.workspace, params)
     context.workspace.finish(None, context.tick)
     byte = byte_of(text, params)
@@ -53,11 +53,11 @@ def completion(context: Context, params: dict[str, Any]) -> dict[str, Any]:
     return {"isIncomplete": len(found) > MOST, "items": best}
 
 
-# ---- what may stand at a place
+# ---- what may come at a place
 
 
 def wanted_in_rules(text: RuleText, begin: int) -> list[str]:
-    """What the grammar wants behind the tokens of the piece that end before a byte. Within texts and comments it wants nothing."""
+    """What the grammar expects after the tokens of the piece that end before a byte. Within texts and comments it expects nothing."""
     number = max(0, text.at(max(0, begin - 1)) - 1)
     start, state = (text.pieces[number].begin, text.pieces[number].state) if text.pieces else (0, START)
     if is_within(text, start, begin):
@@ -74,7 +74,7 @@ def wanted_in_rules(text: RuleText, begin: int) -> list[str]:
 
 
 def at_begin(reader: PieceReader) -> list[str]:
-    """What may stand where a piece begins."""
+    """What may come where a piece begins."""
     found = ["regle", "verif", "application", "enchaineur", "a declaration (NAME :)"]
     if reader.inside == "regle":
         found += ["pour", "a name, whose formula follows"]
@@ -82,7 +82,7 @@ def at_begin(reader: PieceReader) -> list[str]:
 
 
 def is_within(text: RuleText, start: int, begin: int) -> bool:
-    """Whether a byte stands within a text or a comment."""
+    """Whether a byte is within a text or a comment."""
     rest = text.content[start:begin]
     at = 0
     for match in re.finditer(rb'"[^"\n]*"?|#[^\n]*', rest):
@@ -107,7 +107,7 @@ def wanted_in_driver(text: DriverText, begin: int) -> list[str]:
 
 
 def items_for(wanted: list[str], base: Base | None, text: Any, prefix: str) -> Iterator[Item]:
-    """The items of what may stand at a place that begin with a prefix, in any case of letters."""
+    """The items that may come at a place and begin with a prefix, in any case of letters."""
     lowered = prefix.lower()
     words: dict[str, None] = {}
     for what in wanted:

@@ -15,7 +15,7 @@ if TYPE_CHECKING:
 
 
 class Context(NamedTuple):
-    """What is known, a call that ends cancelled work, and what the program told."""
+    """What is known, a call that ends cancelled work, and the program's results."""
 
     workspace: Workspace
     tick: Callable[[], None]
@@ -46,7 +46,7 @@ def byte_of(text: Text, params: dict[str, Any]) -> int:
 
 
 def symbol(context: Context, params: dict[str, Any]) -> Symbol | None:
-    """What stands at the place that the parameters name; all files are read before."""
+    """The symbol at the place that the parameters name; all files are read before."""
     text = text_of(context.workspace, params)
     context.workspace.finish(None, context.tick)
     return symbol_at(text, byte_of(text, params))

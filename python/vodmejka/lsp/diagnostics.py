@@ -1,4 +1,4 @@
-"""What is told of a text: faults of its bytes, tokens and grammar, of names and loops, and slips; and what the program told when it was saved."""
+"""The diagnostics of a text: faults of its bytes, tokens and grammar, of names and loops, and slips; and what the program reported when it was saved."""
 from __future__ import annotations
 
 import re
@@ -17,8 +17,8 @@ from .texts import Text
 from .workspace import DriverText, Workspace
 
 MOST = 500
-UNREADABLE = "\ufffd".encode()  # what stands for a letter that an editor can't read
-NEAR = 40  # within so many bytes after a bad byte a fault of grammar says nothing new
+UNREADABLE = "\ufffd".encode()  # the replacement of a letter that an editor can't read
+NEAR = 40  # within this many bytes after a bad byte a fault of grammar adds nothing
 
 Diagnostic = dict[str, Any]
 
@@ -26,15 +26,15 @@ Diagnostic = dict[str, Any]
 def diagnostic(text: Text, begin: int, end: int, severity: int, what: str, mend: str = "", **more: Any) -> Diagnostic:
     """A diagnostic of some bytes: `what` is what the program calls it, `mend` a sentence on what to do, and `more` is what code actions rest on."""
     code = re.sub(r" [^ ]*[A-Z0-9_][^ ]*$", "", what)
-    told = {"range": text.range(begin, max(begin, min(end, len(text.content)))), "severity": severity, "source": "vodmejka", "code": code}
-    told["message"] = f"{what}\n{mend}" if mend else what
+    found = {"range": text.range(begin, max(begin, min(end, len(text.content)))), "severity": severity, "source": "vodmejka", "code": code}
+    found["message"] = f"{what}\n{mend}" if mend else what
     if more:
-        told["data"] = {"what": what, **more}
-    return told
+        found["data"] = {"what": what, **more}
+    return found
 
 
 def of_text(workspace: Workspace, text: Text) -> list[Diagnostic]:
-    """All that is told of a text, in its order."""
+    """All diagnostics of a text, in its order."""
     if isinstance(text, DriverText):
         found = list(of_driver(workspace, text))
     elif isinstance(text, RuleText):
@@ -70,10 +70,10 @@ def of_rules(workspace: Workspace, text: RuleText) -> Iterator[Diagnostic]:
 
 def of_grammar(text: RuleText) -> Iterator[Diagnostic]:
     """The faults of bytes and tokens, and of grammar."""
-    told = sorted(((piece.begin + fault.byte, fault, piece) for piece in text.pieces if piece.faults for fault in piece.faults), key=lambda one: one[0])
-    bad = [byte for byte, fault, _ in told if fault.what not in ("syntax", "too deep")]
+    all_faults = sorted(((piece.begin + fault.byte, fault, piece) for piece in text.pieces if piece.faults for fault in piece.faults), key=lambda one: one[0])
+    bad = [byte for byte, fault, _ in all_faults if fault.what not in ("syntax", "too deep")]
     is_deep = False
-    for byte, fault, piece in told[: 4 * MOST]:
+    for byte, fault, piece in all_faults[: 4 * MOST]:
         if fault.what == "syntax" and (any(0 <= byte - other < NEAR for other in bad) or text.is_cut and piece.is_odd):
             continue
         if fault.what == "too deep":
@@ -105,12 +105,12 @@ def cut_text(piece: Piece) -> tuple[int, int] | None:
 
 def strange_applications(text: RuleText, known: set[str]) -> Iterator[Diagnostic]:
     """Applications of rules and verifications that no list has, each at its first place."""
-    told: set[str] = set()
+    reported: set[str] = set()
     for number, piece in enumerate(text.pieces[:-1]):
         if isinstance(piece.item, Head):
             for application in text.pieces[number + 1].state.applications:
-                if application not in known and application not in told:
-                    told.add(application)
+                if application not in known and application not in reported:
+                    reported.add(application)
                     match = re.search(rb"\b%s\b" % application.encode(), text.content[piece.begin + piece.item.byte : piece.end])
                     begin = piece.begin + piece.item.byte + (match.start() if match else 0)
                     yield diagnostic(text, begin, begin + len(application), INFORMATION, f"application {application} is of no list that is known")
@@ -129,16 +129,16 @@ def of_driver(workspace: Workspace, text: DriverText) -> Iterator[Diagnostic]:
     variables = Declared(bases[0]) if bases and not bases[0].missing and not bases[0].maybe and all(file.is_whole for file in bases[0].texts) else None
     for fault in faults.faults_of_driver(text.path, text.driver, variables):
         begin, end = place_in_driver(text, fault)
-        told = fault.fault
-        mend = could_stand(told) if told is not None and told.found else sentence(DRIVER, fault.what)
-        data = {"found": told.found, "wanted": list(told.wanted)} if told is not None else {}
+        token_fault = fault.fault
+        mend = could_stand(token_fault) if token_fault is not None and token_fault.found else sentence(DRIVER, fault.what)
+        data = {"found": token_fault.found, "wanted": list(token_fault.wanted)} if token_fault is not None else {}
         yield diagnostic(text, begin, end, ERROR, fault.what, mend, token=text.decoded(text.content[begin:end]), **data)
     for base in bases if not text.driver.faults else []:
         yield from kinds_of_no_input(text, base)
 
 
 def place_in_driver(text: DriverText, fault: faults.Found) -> tuple[int, int]:
-    """The bytes of a fault: of a name that it tells, of a token, or of a whole line."""
+    """The bytes of a fault: of a name that it has, of a token, or of a whole line."""
     start, line = text.starts[fault.line - 1], text.line(fault.line - 1)
     if fault.byte is not None:
         found = drivers.TOKEN.match(line, fault.byte)
@@ -162,7 +162,7 @@ def kinds_of_no_input(text: DriverText, base: Base) -> Iterator[Diagnostic]:
 
 
 def of_bytes(text: Text) -> Iterator[Diagnostic]:
-    """What is told of the bytes: a byte order mark that the client hides, carriage returns, and letters that the client could not read."""
+    """The diagnostics of the bytes: a byte order mark that the client hides, carriage returns, and letters that the client could not read."""
     if text.on_disk is not None and text.on_disk.startswith(source.MARK) and not text.content.startswith(source.MARK):
         yield diagnostic(text, 0, 0, ERROR, "bad byte", marked())
     alone = re.search(rb"\r(?!\n)", text.content)
@@ -175,7 +175,7 @@ def of_bytes(text: Text) -> Iterator[Diagnostic]:
 
 
 def of_list(workspace: Workspace, base: Base) -> list[Diagnostic]:
-    """What is told of a list: that it can't be read, files that can't, and slips of the whole base."""
+    """The diagnostics of a list: that it can't be read, files that can't, and slips of the whole base."""
 
     def at(line: int, severity: int, what: str) -> Diagnostic:
         place = {"line": line, "character": 0}
@@ -184,11 +184,11 @@ def of_list(workspace: Workspace, base: Base) -> list[Diagnostic]:
     if base.fault:
         line = re.search(r" line ([0-9]+): ", base.fault)
         return [at(int(line[1]) - 1 if line else 0, ERROR, base.fault)]
-    told = [at(line, ERROR, f"unreadable {name}: names count from {base.folder}") for line, name in base.missing]
+    found = [at(line, ERROR, f"unreadable {name}: names count from {base.folder}") for line, name in base.missing]
     if all(text.is_whole for text in base.texts) and not base.missing:
         if not base.counted:
-            told.append(at(0, WARNING, f"no rule is of the application {base.application}"))
+            found.append(at(0, WARNING, f"no rule is of the application {base.application}"))
         if not base.returned:
-            told.append(at(0, WARNING, "no variable has restituee: without requests nothing is printed"))
-        told += [at(0, INFORMATION, what.split(": ", 1)[1]) for what in slips.slips_of_folder(base.path, [text.path for text in base.texts])]
-    return told
+            found.append(at(0, WARNING, "no variable has restituee: without requests nothing is printed"))
+        found += [at(0, INFORMATION, what.split(": ", 1)[1]) for what in slips.slips_of_folder(base.path, [text.path for text in base.texts])]
+    return found

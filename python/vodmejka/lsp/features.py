@@ -1,4 +1,4 @@
-"""The requests that the server answers, and what it says that it can."""
+"""The requests that the server answers, and its capabilities."""
 from __future__ import annotations
 
 from collections.abc import Callable

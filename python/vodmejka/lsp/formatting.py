@@ -13,7 +13,7 @@ from .workspace import DriverText
 
 
 def formatting(context: Context, params: dict[str, Any]) -> list[dict[str, Any]]:
-    """The edits that bring a text into the layout. A text with faults of tokens or grammar is left as it is, and the fault told."""
+    """The edits that bring a text into the layout. A text with faults of tokens or grammar is left as it is, and the fault reported."""
     text = read_text(context, params)
     try:
         made = laid_out(text.content, isinstance(text, DriverText))
@@ -34,7 +34,7 @@ def range_formatting(context: Context, params: dict[str, Any]) -> list[dict[str,
     begin, end = pieces[0].begin, pieces[-1].end
     made = joined(rows_of(pieces), text.content)
     if begin > 0:
-        # (the piece before stands as it is: its comment, the end of its line and a blank line)
+        # (the piece before stays as it is: its comment, the end of its line and a blank line)
         gap = text.content[begin:end]
         feed = gap.find(b"\n")
         kept = gap[: feed + 1] if feed >= 0 and not gap[:feed].strip(b" \t\r") else b""

@@ -33,8 +33,8 @@ def hover(context: Context, params: dict[str, Any]) -> Any:
             pieces = [variable(context, base, name) for name in names[:MOST_NAMES]]
             if len(names) > MOST_NAMES:
                 pieces.insert(0, f"{found.word} stands for {len(names)} variables: {', '.join(names[:12])}{' ..' if len(names) > 12 else ''}")
-    told = "\n\n---\n\n".join(piece for piece in pieces if piece)
-    return {"contents": {"kind": "markdown", "value": told}, "range": found.text.range(found.begin, found.end)} if told else None
+    contents = "\n\n---\n\n".join(piece for piece in pieces if piece)
+    return {"contents": {"kind": "markdown", "value": contents}, "range": found.text.range(found.begin, found.end)} if contents else None
 
 
 def letter(found: Symbol) -> list[str]:
@@ -108,14 +108,14 @@ def formula_text(piece: Piece, letters: dict[str, str]) -> str:
 
 def values(context: Context, base: Base, item: items.Declaration) -> list[str]:
     """What the program computed of a variable for the household of the settings."""
-    told, household = context.runs.values(base), context.workspace.settings.household
-    if told is None or not household:
+    outcome, household = context.runs.values(base), context.workspace.settings.household
+    if outcome is None or not household:
         return []
     when = "" if context.runs.is_current(base) else ", before the changes that were made since"
-    if told.stop:
-        return [f"{os.path.basename(household)}{when}: {plain(told.stop)}"]
+    if outcome.stop:
+        return [f"{os.path.basename(household)}{when}: {plain(outcome.stop)}"]
     names = [item.name] if item.size is None else [f"{item.name}[{cell}]" for cell in range(min(item.size, MOST_CELLS))]
-    found = [f"{name} {told.values[name]}" for name in names if name in told.values]
+    found = [f"{name} {outcome.values[name]}" for name in names if name in outcome.values]
     more = " .." if item.size is not None and item.size > MOST_CELLS else ""
     return [f"`{', '.join(found)}{more}` for {os.path.basename(household)}{when}"] if found else []
 
@@ -127,8 +127,8 @@ def facts_within(context: Context, base: Base, item: items.Declaration) -> list[
         return []
     when = "" if context.runs.is_current(base, "facts") else ", before the changes that were made since"
     names = [item.name] if item.size is None else [f"{item.name}[{cell}]" for cell in range(min(item.size, MOST_CELLS))]
-    told = [f"{name}: {found[name]}" for name in names if name in found]
-    return [f"`{', '.join(told)}` for households within {os.path.basename(ranges)}{when}"] if told else []
+    facts = [f"{name}: {found[name]}" for name in names if name in found]
+    return [f"`{', '.join(facts)}` for households within {os.path.basename(ranges)}{when}"] if facts else []
 
 
 def readers(base: Base, name: str) -> list[str]:

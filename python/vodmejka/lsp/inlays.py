@@ -1,4 +1,4 @@
-"""The values of a household beside the formulas: those that the program computed of the files as they are."""
+"""The values of a household, shown at the formulas: those that the program computed of the files as they are."""
 from __future__ import annotations
 
 from typing import Any
@@ -11,20 +11,20 @@ MOST = 4
 
 
 def inlay_hints(context: Context, params: dict[str, Any]) -> list[dict[str, Any]]:
-    """A hint behind each formula of a range. None are given where a file was changed since the program computed."""
+    """A hint after each formula of a range. None are given where a file was changed since the program computed."""
     text = read_text(context, params)
     begin, end = range_of(text, params)
     if not isinstance(text, RuleText):
         return []
     base = next((base for base in context.workspace.bases_of(text) if context.runs.is_current(base)), None)
-    told = context.runs.values(base) if base is not None else None
-    if base is None or told is None or told.stop:
+    outcome = context.runs.values(base) if base is not None else None
+    if base is None or outcome is None or outcome.stop:
         return []
     found = []
     for number in pieces_in(text, begin, end):
         piece = text.pieces[number]
         if isinstance(piece.item, Formula) and base.counts(piece):
-            label = label_of(piece, told.values)
+            label = label_of(piece, outcome.values)
             if label and begin <= piece.end <= end:
                 found.append({"position": text.position(piece.end), "label": label, "paddingLeft": True})
     return found

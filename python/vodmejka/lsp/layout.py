@@ -18,7 +18,7 @@ STEP = "  "
 
 
 class Row(NamedTuple):
-    """A line: its code with its indentation, and the comment behind it or alone. Both are Latin-1 letters that stand for the file's bytes."""
+    """A line: its code with its indentation, and the comment after it or alone. Both are the file's bytes as Latin-1 letters."""
 
     code: str = ""
     comment: str = ""
@@ -33,7 +33,7 @@ def laid_out(content: bytes, is_driver: bool) -> bytes:
 
 
 def meaning(content: bytes, is_driver: bool) -> object:
-    """The tokens and the comments of a file; of a driver also what stands under what."""
+    """The tokens and the comments of a file; of a driver also the nesting of its lines."""
     if is_driver:
         driver = drivers.Driver(content)
         lines = [line.split(b"#", 1) for line in source.lines_of(content)]
@@ -112,7 +112,7 @@ class Rows:
 
 
 class Spacing:
-    """Where blanks stand between the tokens of a piece. `round_it` has what each open bracket is, from the outside: the header of a `pour` or of a `somme`,
+    """Decides on blanks between the tokens of a piece. `round_it` has what each open bracket is, from the outside: the header of a `pour` or of a `somme`,
     its `values`, or nothing of these."""
 
     def __init__(self, is_head: bool) -> None:
@@ -126,7 +126,7 @@ class Spacing:
         return max(1, 1 + self.depth - closes)
 
     def before(self, token: source.Token) -> bool:
-        """Whether a blank stands before a token."""
+        """Whether there is a blank before a token."""
         text, last, inside = token.text if token.kind != "text" else '"', self.last, self.round_it[-1]
         if text in (")", "]", "[", "..") or last in ("(", "[", "..") or self.is_sign:
             return False
@@ -173,9 +173,9 @@ def laid_out_driver(content: bytes) -> bytes:
     for number, line in enumerate(source.lines_of(content), 1):
         comment = line.split(b"#", 1)[1].decode("latin-1").strip(" \t\r") if b"#" in line else None
         if number in levels:
-            level, said = levels[number]
+            level, parsed = levels[number]
             rows += [Row(STEP * level if one else "", one) for one in pending]
-            rows.append(Row(STEP * level + driver_line(said.tokens), "" if comment is None else f"# {comment}".strip()))
+            rows.append(Row(STEP * level + driver_line(parsed.tokens), "" if comment is None else f"# {comment}".strip()))
             pending = []
         elif comment is not None:
             pending.append(f"# {comment}".strip())
@@ -212,7 +212,7 @@ def driver_line(tokens: list[source.Token]) -> str:
 
 
 def joined(rows: list[Row], content: bytes) -> bytes:
-    """The lines as bytes, with comments behind code in one column where such lines stand together, and the line ends of the file."""
+    """The lines as bytes, with comments after code in one column where such lines are consecutive, and the line ends of the file."""
     encoding = encoding_of(content)
     lines: list[str] = []
     at = 0

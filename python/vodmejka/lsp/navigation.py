@@ -23,7 +23,7 @@ def location(place: Occurrence) -> dict[str, Any]:
 
 
 def declaration(context: Context, params: Params) -> Any:
-    """The declarations of all that a word stands for."""
+    """The declarations of all names that a word denotes."""
     found = symbol(context, params)
     return [location(place) for place in declared(context, found)] if found else None
 
@@ -104,7 +104,7 @@ def renamed(context: Context, params: Params) -> Symbol:
 
 
 def rename(context: Context, params: Params) -> Any:
-    """The edits that give a name to what has another one. Where words with letters of loops stand for it, nothing is changed."""
+    """The edits that rename a symbol. If words with letters of loops denote it, nothing is changed."""
     found, new = renamed(context, params), params.get("newName")
     if not isinstance(new, str):
         raise ResponseError(INVALID_PARAMS, "newName is a text")

@@ -1,4 +1,4 @@
-"""What stands at a byte of a text, and where else it stands: variables and errors, through the loops that words stand in, letters of loops, functions."""
+"""The symbol at a byte of a text, and its occurrences: variables and errors, through the loops that words are in, letters of loops, functions."""
 from __future__ import annotations
 
 import re
@@ -19,7 +19,7 @@ VARIABLE, ERROR, CODE, LETTER, FUNCTION, APPLICATION, RULE = "variable", "error"
 
 
 class Symbol(NamedTuple):
-    """What stands at some bytes: a word of a kind, with the names that it stands for; `headers` are the loops round it, and `index` that of a table."""
+    """The symbol at some bytes: a word of a kind, with the names that it denotes; `headers` are the loops round it, and `index` that of a table."""
 
     kind: str
     word: str
@@ -33,7 +33,7 @@ class Symbol(NamedTuple):
 
 
 class Occurrence(NamedTuple):
-    """Where a name stands: `is_exact` says that the word is the name, and not one with letters of loops."""
+    """An occurrence of a name: `is_exact` means that the word is the name, and not one with letters of loops."""
 
     text: Text
     begin: int
@@ -51,7 +51,7 @@ def tokens_in(piece: Piece) -> list[source.Token]:
 
 
 def symbol_at(text: Text, byte: int) -> Symbol | None:
-    """What stands at a byte, or ends there."""
+    """The symbol at a byte, or one that ends there."""
     if isinstance(text, DriverText):
         return symbol_of_driver(text, byte)
     if not isinstance(text, RuleText) or not text.pieces:
@@ -70,7 +70,7 @@ def symbol_at(text: Text, byte: int) -> Symbol | None:
 
 
 def symbol_of(piece: Piece, tokens: list[source.Token], number: int) -> Symbol | None:
-    """What a token of a piece stands for."""
+    """The symbol of a token of a piece."""
     token, item = tokens[number], piece.item
     before = tokens[number - 1].text if number else ""
 
@@ -120,7 +120,7 @@ def words_of_driver(text: DriverText, number: int) -> Iterator[tuple[str, int, i
             yield word, text.starts[number] + match.start(), text.starts[number] + match.end(), after is not None and after[0] == b"("
 
 
-# ---- where a name stands
+# ---- the occurrences of a name
 
 
 def declarations(base: Base, kind: str, name: str) -> list[Occurrence]:
@@ -162,7 +162,7 @@ def in_driver(text: DriverText | None, name: str, is_called: bool) -> Iterator[O
 
 
 def everywhere(workspace: Workspace, symbol: Symbol, with_declarations: bool) -> list[Occurrence]:
-    """All places of what a symbol stands for, each once."""
+    """All places of a symbol's names, each once."""
     if symbol.kind == LETTER and symbol.piece is not None:
         return letters_of(symbol)
     if symbol.kind == FUNCTION and isinstance(symbol.text, DriverText):
@@ -184,7 +184,7 @@ def is_function_line(place: Occurrence) -> bool:
 
 
 def letters_of(symbol: Symbol) -> list[Occurrence]:
-    """The places of a letter of a loop in its piece: where the letter stands alone, and in words."""
+    """The places of a letter of a loop in its piece: where the letter is alone, and in words."""
     piece, found = symbol.piece, []
     assert piece is not None
     for token in tokens_in(piece):

@@ -1,7 +1,7 @@
-"""Rule files piece by piece: a head of a rule, a formula, a check or a declaration, each with what stands before it. After an edit only the pieces that it can
+"""Rule files piece by piece: a head of a rule, a formula, a check or a declaration, each with what precedes it. After an edit only the pieces that it can
 change are read again.
 
-The pieces of a file lie end to end. How a piece is read depends on its bytes, on a few tokens behind it, and on the state in which the reading comes to it.
+The pieces of a file lie end to end. How a piece is read depends on its bytes, on a few tokens after it, and on the state of the reader at its begin.
 """
 from __future__ import annotations
 
@@ -16,7 +16,7 @@ from ..limits import BRACKET_DEPTH
 from .texts import Text
 
 BLOCK = 1_000  # how many tokens are taken in at once
-AHEAD = 4  # how many tokens behind a piece may say how it is read
+AHEAD = 4  # how many tokens after a piece may decide how it is read
 BEHIND = 4  # how many pieces before an edit it may change
 RECURSION = 20_000  # calls within calls, for brackets within brackets
 AT_ONCE = 2_000  # how many pieces are read again before an edit is answered; the others follow
@@ -25,7 +25,7 @@ DEEPER = {"(": 1, "[": 1, "si": 1, ")": -1, "]": -1, "finsi": -1, "erreur": -1}
 
 
 class State(NamedTuple):
-    """Where a reading stands between two pieces: within a rule or a verification of which applications, and whether a formula or check is due. (That brackets
+    """The state of a reader between two pieces: within a rule or a verification of which applications, and whether a formula or check is due. (That brackets
     of earlier pieces are open is left out: then these have a fault of their own.)"""
 
     inside: str | None = None
@@ -66,7 +66,7 @@ class Check(NamedTuple):
 
 class Piece:
     """A piece of a file. Bytes in it count from its own begin. `faults` are those of its bytes and tokens, `reads` what its term reads, `maybe` the names
-    that a piece with faults seems to declare, `loose` where X stands that is no cell's number; `is_odd` says that a text in it goes over a line's end or is cut
+    that a piece with faults seems to declare, `loose` where X is no cell's number; `is_odd` means that a text in it goes over a line's end or is cut
     there."""
 
     __slots__ = ("text", "begin", "size", "state", "item", "reads", "faults", "maybe", "loose", "has_bad_header", "is_odd")
@@ -167,7 +167,7 @@ class PieceReader(items.RuleReader):
             self.faults[-1] = items.deep_fault(self.peek())
 
     def next(self) -> Piece:
-        """The next piece. The last one has what stands behind all tokens."""
+        """The next piece. The last one has what follows all tokens."""
         while True:
             first, state = self.at, self.state()
             self.forget()
@@ -227,8 +227,8 @@ class PieceReader(items.RuleReader):
 
 
 class RuleText(Text):
-    """A rule file with its pieces. `is_whole` says that all of it was read; until then `pieces` are the first ones. `is_cut` says that a text is never closed:
-    then each text ends in its line, so that the rest can be read."""
+    """A rule file with its pieces. `is_whole` means that all of it was read; until then `pieces` are the first ones. `is_cut` means that a text isn't
+    closed: then each text ends in its line, so that the rest can be read."""
 
     def __init__(self, path: str, uri: str | None = None) -> None:
         super().__init__(path, uri)
@@ -243,7 +243,7 @@ class RuleText(Text):
         self.pieces, self.reader, self.is_whole, self.goes_on = [], None, False, (0, START)
 
     def read(self, count: int) -> list[Piece]:
-        """Reads so many pieces on, and answers them."""
+        """Reads `count` further pieces, and returns them."""
         if self.reader is None:
             self.reader = PieceReader(self, *self.goes_on)
         fresh: list[Piece] = []
@@ -277,7 +277,7 @@ class RuleText(Text):
         return self.read_again(tail, end, len(bytes_) - (end - begin), least)
 
     def read_again(self, tail: list[Piece], end: int, shift: int, least: int) -> tuple[list[Piece], list[Piece]]:
-        """Reads until a piece begins behind an edit, and behind so many pieces, as one began before the edit."""
+        """Reads until a piece begins after an edit, and after `least` pieces, where one began before the edit."""
         known = {piece.begin + shift: number for number, piece in enumerate(tail) if piece.begin >= end and number >= least}
         reader = PieceReader(self, *self.goes_on)
         fresh: list[Piece] = []

@@ -1,4 +1,4 @@
-"""Messages of JSON-RPC 2.0 behind headers, as the Language Server Protocol has them, over two file descriptors. Knows nothing of M."""
+"""Messages of JSON-RPC 2.0 with headers, as the Language Server Protocol has them, over two file descriptors. Knows nothing of M."""
 from __future__ import annotations
 
 import json
@@ -126,7 +126,7 @@ def params_of(message: dict[str, Any]) -> dict[str, Any]:
 
 
 def length_of(header: bytes) -> int | None:
-    """The length that a header tells, or nothing."""
+    """The length in a header, or None."""
     for line in header.split(b"\r\n"):
         name, _, value = line.partition(b":")
         if name.strip().lower() == b"content-length" and value.strip().isdigit() and len(value) < 20:

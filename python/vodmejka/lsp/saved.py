@@ -1,5 +1,5 @@
 """What the programs report of the files as they were saved: the fault, the findings of `lint`, the facts that hold for all households within the ranges that a
-setting names, and the values of a household. They run beside the server, one run at a time."""
+setting names, and the values of a household. They run in parallel with the server, one run at a time."""
 from __future__ import annotations
 
 import contextlib
@@ -25,7 +25,7 @@ Key = tuple[Any, ...]
 
 
 class Job(NamedTuple):
-    """A run of m_tax, or of m_survey for `facts`: `words` behind its name, and the contents of the files as they were when it began."""
+    """A run of m_tax, or of m_survey for `facts`: `words` after its name, and the contents of the files as they were when it began."""
 
     base: Base
     kind: str
@@ -34,8 +34,8 @@ class Job(NamedTuple):
     contents: dict[Text, bytes]
 
 
-class Told(NamedTuple):
-    """What a run told, by text with the content that it is about, of the list, and of a household."""
+class Outcome(NamedTuple):
+    """The results of a run, by text with the content that they are about, of the list, and of a household."""
 
     key: Key
     contents: dict[Text, bytes] = {}
@@ -55,7 +55,7 @@ class Runs:
         self.child: subprocess.Popen[bytes] | None = None
         self.requests: int | None = None
         self.output = b""
-        self.results: dict[tuple[str, str], Told] = {}
+        self.results: dict[tuple[str, str], Outcome] = {}
 
     # ---- runs
 
@@ -70,11 +70,11 @@ class Runs:
         return None if program.is_trial(found) else found
 
     def begin(self) -> None:
-        """Starts what the files as they are on the disk ask for, and ends what others asked for."""
+        """Starts the runs that the files on the disk need, and ends those that are no longer needed."""
         wanted = [job for base in self.workspace.bases.values() if not base.is_alone for job in self.jobs_of(base)]
         if self.at_hand is not None and not any(self.at_hand.key == job.key for job in wanted):
             self.end()
-        keys = {told.key for told in self.results.values()} | ({self.at_hand.key} if self.at_hand else set())
+        keys = {outcome.key for outcome in self.results.values()} | ({self.at_hand.key} if self.at_hand else set())
         self.jobs = [job for job in wanted if job.key not in keys]
         self.next()
 
@@ -127,7 +127,7 @@ class Runs:
         return [self.child.stdout.fileno()] if self.child is not None and self.child.stdout is not None else []
 
     def take_in(self) -> bool:
-        """Takes in what the run at hand prints, without waiting; whether it has ended and told something."""
+        """Reads what the run at hand prints, without waiting; returns whether it has ended and reported something."""
         import select
 
         ended = False
@@ -149,10 +149,10 @@ class Runs:
         lines = output.decode("utf-8", "surrogateescape").split("\n")[:-1]
         if job.kind == "facts":
             lint = self.results.get((job.base.path, "lint"))
-            told = told_by_facts(job, status, lines, lint.never if lint is not None else frozenset())
+            outcome = outcome_of_facts(job, status, lines, lint.never if lint is not None else frozenset())
         else:
-            told = (told_by_lint if job.kind == "lint" else told_by_run)(job, status, lines)
-        self.results[job.base.path, job.kind] = told
+            outcome = (outcome_of_lint if job.kind == "lint" else outcome_of_run)(job, status, lines)
+        self.results[job.base.path, job.kind] = outcome
         self.workspace.dirty.update(dict.fromkeys(self.workspace.texts.values()))
 
     def forget(self) -> None:
@@ -170,26 +170,26 @@ class Runs:
             self.child.wait()
         self.forget()
 
-    # ---- what was told
+    # ---- the results
 
-    def told(self, text: Text) -> list[dict[str, Any]]:
-        """What the program told of a text, where it is still the one that was saved."""
-        return [one for told in self.results.values() if told.contents.get(text) == text.content for one in told.texts.get(text, [])]
+    def diagnostics_of(self, text: Text) -> list[dict[str, Any]]:
+        """What the program reported of a text, if it is still the one that was saved."""
+        return [one for outcome in self.results.values() if outcome.contents.get(text) == text.content for one in outcome.texts.get(text, [])]
 
-    def told_of_list(self, base: Base) -> list[dict[str, Any]]:
-        return [one for (path, _), told in self.results.items() if path == base.path for one in told.of_list]
+    def diagnostics_of_list(self, base: Base) -> list[dict[str, Any]]:
+        return [one for (path, _), outcome in self.results.items() if path == base.path for one in outcome.of_list]
 
-    def values(self, base: Base) -> Told | None:
+    def values(self, base: Base) -> Outcome | None:
         return self.results.get((base.path, "values"))
 
     def facts(self, base: Base) -> Facts | None:
-        told = self.results.get((base.path, "facts"))
-        return told.facts if told is not None else None
+        outcome = self.results.get((base.path, "facts"))
+        return outcome.facts if outcome is not None else None
 
     def is_current(self, base: Base, kind: str = "values") -> bool:
         """Whether the values or the facts are those of the texts as they are now."""
-        told = self.results.get((base.path, kind))
-        return told is not None and told.key == next((job.key for job in self.jobs_of(base) if job.kind == kind), None) and all(
+        outcome = self.results.get((base.path, kind))
+        return outcome is not None and outcome.key == next((job.key for job in self.jobs_of(base) if job.kind == kind), None) and all(
             text.is_saved for text in base.texts
         )
 
@@ -216,40 +216,40 @@ class Findings:
         self.job = job
         self.texts: dict[Text, list[dict[str, Any]]] = {}
 
-    def tell(self, piece: Piece | None, begin: int, length: int, severity: int, what: str, **more: Any) -> None:
+    def add(self, piece: Piece | None, begin: int, length: int, severity: int, what: str, **more: Any) -> None:
         if piece is not None and self.job.contents.get(piece.text) == piece.text.content:
-            told = {**diagnostic(piece.text, piece.begin + begin, piece.begin + begin + length, severity, what), **more}
-            self.texts.setdefault(piece.text, []).append(told)
+            added = {**diagnostic(piece.text, piece.begin + begin, piece.begin + begin + length, severity, what), **more}
+            self.texts.setdefault(piece.text, []).append(added)
 
 
-def told_by_lint(job: Job, status: int, lines: list[str]) -> Told:
+def outcome_of_lint(job: Job, status: int, lines: list[str]) -> Outcome:
     found, of_list = Findings(job), list[dict[str, Any]]()
     texts = found.texts
     if status == 0:
         for line in lines:
-            tell_finding(job.base, line, found.tell)
+            add_finding(job.base, line, found.add)
     elif lines and status in (1, 3):
-        text, told = fault_of(job, lines[0])
+        text, fault = fault_of(job, lines[0])
         if text is None:
-            of_list.append(told)
+            of_list.append(fault)
         else:
-            texts[text] = [told]
+            texts[text] = [fault]
     never = frozenset((words[2], words[3]) for words in (line.split(" ") for line in lines) if words[:2] == ["never", "stops"] and len(words) == 4)
-    return Told(job.key, job.contents, texts, of_list, never=never)
+    return Outcome(job.key, job.contents, texts, of_list, never=never)
 
 
-def tell_finding(base: Base, line: str, tell: Any) -> None:
-    """Tells a line of `lint` at the place that it is about."""
+def add_finding(base: Base, line: str, add: Any) -> None:
+    """Reports a line of `lint` at the place that it is about."""
     words = line.split(" ")
     if line.startswith("never defined "):
         piece = base.first(base.variables.of(words[2].split("[")[0]))
-        tell(piece, piece.item.byte if piece else 0, len(words[2].split("[")[0]), INFORMATION, f"{line}: read, and never set by a rule or a household")
+        add(piece, piece.item.byte if piece else 0, len(words[2].split("[")[0]), INFORMATION, f"{line}: read, and never set by a rule or a household")
     elif line.startswith("unused input "):
         piece = base.first(base.codes.of(words[2]))
-        tell(piece, piece.item.byte if piece else 0, len(piece.item.name) if piece else 0, HINT, f"{line}: whatever it is, the answer is the same", tags=[1])
+        add(piece, piece.item.byte if piece else 0, len(piece.item.name) if piece else 0, HINT, f"{line}: whatever it is, the answer is the same", tags=[1])
     elif line.startswith("never stops "):
         piece = verification(base, words[2], words[3])
-        tell(piece, piece.item.error_byte if piece else 0, len(words[3]), INFORMATION, f"{line}: whatever a household says, it neither stops nor is noted")
+        add(piece, piece.item.error_byte if piece else 0, len(words[3]), INFORMATION, f"{line}: whatever a household says, it neither stops nor is noted")
 
 
 def verification(base: Base, number: str, error: str) -> Piece | None:
@@ -257,29 +257,29 @@ def verification(base: Base, number: str, error: str) -> Piece | None:
     return next((piece for piece in base.raisers.of(error) if (head := head_of(piece)) and head.item.number == number), None)
 
 
-def told_by_facts(job: Job, status: int, lines: list[str], known: frozenset[tuple[str, str]]) -> Told:
+def outcome_of_facts(job: Job, status: int, lines: list[str], known: frozenset[tuple[str, str]]) -> Outcome:
     """What holds for all households within the ranges: values that may overflow, and verifications that never stop, without those that `lint` knows. A fault of
-    the source is `lint`'s to report, one of the ranges stands at the list."""
+    the source is `lint`'s to report, one of the ranges is reported at the list."""
     if status != 0:
         faults = [line for line in lines[:1] if "ranges" in line]
-        return Told(job.key, job.contents, of_list=[diagnostic(None, 0, 0, ERROR, line) for line in faults])
+        return Outcome(job.key, job.contents, of_list=[diagnostic(None, 0, 0, ERROR, line) for line in faults])
     try:
         facts = facts_of("".join(line + "\n" for line in lines), ("", ""))
     except Broken as fault:
-        return Told(job.key, job.contents, of_list=[diagnostic(None, 0, 0, ERROR, str(fault))])
+        return Outcome(job.key, job.contents, of_list=[diagnostic(None, 0, 0, ERROR, str(fault))])
     base, found, within = job.base, Findings(job), f"for households within {os.path.basename(job.words[-1])}"
     for name, fact in facts.items():
         piece = base.first(base.variables.of(name.split("[")[0]))
         if fact.over and piece is not None:
-            found.tell(piece, piece.item.byte, len(piece.item.name), INFORMATION, f"{name} may overflow {within}: {fact}")
+            found.add(piece, piece.item.byte, len(piece.item.name), INFORMATION, f"{name} may overflow {within}: {fact}")
     for number, error in (one for one in facts.never_stops if one not in known):
         piece = verification(base, number, error)
-        found.tell(piece, piece.item.error_byte if piece else 0, len(error), INFORMATION, f"never stops {number} {error} {within}")
-    return Told(job.key, job.contents, found.texts, facts=facts)
+        found.add(piece, piece.item.error_byte if piece else 0, len(error), INFORMATION, f"never stops {number} {error} {within}")
+    return Outcome(job.key, job.contents, found.texts, facts=facts)
 
 
 def head_of(piece: Piece) -> Piece | None:
-    """The head of the rule or verification in which a piece stands."""
+    """The head of the rule or verification in which a piece is."""
     pieces = piece.text.pieces
     at = piece.text.at(piece.begin)
     while at >= 0 and not isinstance(pieces[at].item, Head):
@@ -288,7 +288,7 @@ def head_of(piece: Piece) -> Piece | None:
 
 
 def fault_of(job: Job, line: str) -> tuple[Text | None, dict[str, Any]]:
-    """The fault that the program tells, at its text where it has one."""
+    """The fault that the program reports, at its text if it has one."""
     match = re.fullmatch(r"refused (.*) line ([0-9]+) byte ([0-9]+): (.*)", line)
     text: Text | None
     if match:
@@ -315,9 +315,10 @@ def fault_of(job: Job, line: str) -> tuple[Text | None, dict[str, Any]]:
     return None, diagnostic(None, 0, 0, ERROR, line, mend)
 
 
-def told_by_run(job: Job, status: int, lines: list[str]) -> Told:
+def outcome_of_run(job: Job, status: int, lines: list[str]) -> Outcome:
     """The values of a household, or what stops it."""
     if status != 0:
-        return Told(job.key, job.contents, stop=lines[0] if lines else f"the program ended with status {status}")
+        return Outcome(job.key, job.contents, stop=lines[0] if lines else f"the program ended with status {status}")
     values = [line.split(" ", 1) for line in lines if not line.startswith("noted ")]
-    return Told(job.key, job.contents, values={pair[0]: pair[1] for pair in values if len(pair) == 2 and re.fullmatch(r"= -?[0-9.]+|undefined|over", pair[1])})
+    amounts = {pair[0]: pair[1] for pair in values if len(pair) == 2 and re.fullmatch(r"= -?[0-9.]+|undefined|over", pair[1])}
+    return Outcome(job.key, job.contents, values=amounts)

@@ -29,7 +29,7 @@ class Server:
         self.at_hand: Any = None
         self.polled = 0.0
         self.published: dict[str, list[Any]] = {}
-        self.is_told_early = False  # whether texts were told of, and not yet their lists
+        self.is_published_early = False  # whether texts were published, and not yet their lists
         self.runs = saved.Runs(self.workspace)
         self.workspace.log = self.log
         self.requests = features.REQUESTS
@@ -89,7 +89,7 @@ class Server:
         if isinstance(message, Malformed):
             self.answer_error(None, message.code, message.message)
         elif "method" not in message:
-            return  # (an answer to what the server asked, which is nothing)
+            return  # (an answer to a request of the server, which is ignored)
         elif "id" in message:
             self.request(message)
         else:
@@ -158,7 +158,7 @@ class Server:
         if os.environ.get("VODMEJKA_TRACE"):
             traceback.print_exception(fault, file=sys.stderr)
 
-    # ---- what the client tells
+    # ---- the client's notifications
 
     def initialize(self, params: Message) -> Message:
         folders = params.get("workspaceFolders") or []
@@ -171,7 +171,7 @@ class Server:
         return {"capabilities": features.CAPABILITIES, "serverInfo": {"name": "vodmejka"}}
 
     def configure(self, options: Any) -> None:
-        """Takes settings by their names. Those that aren't known, or aren't names, are told."""
+        """Takes settings by their names. Those that aren't known, or aren't names, are reported."""
         if isinstance(options, dict) and isinstance(options.get("vodmejka"), dict):
             options = options["vodmejka"]
         if not isinstance(options, dict):
@@ -224,33 +224,33 @@ class Server:
     # ---- diagnostics
 
     def publish_early(self) -> None:
-        """What is told of a text that was opened or edited, as far as it is known, while others are still to be read or looked at."""
+        """Publishes what is known of texts that were opened or edited, while others are still to be read or checked."""
         workspace = self.workspace
         for text in [text for text in workspace.dirty if text.is_open and (text in workspace.edited or text.uri not in self.published)]:
             is_due = isinstance(text, RuleText) and any(base.now for base in workspace.bases_of(text) if all(other.is_whole for other in base.texts))
             if getattr(text, "is_whole", True) and not is_due:
                 del workspace.dirty[text]
-                self.is_told_early = True
+                self.is_published_early = True
                 workspace.edited.pop(text, None)
-                self.publish(text.uri, diagnostics.of_text(workspace, text) + self.runs.told(text), text.version)
+                self.publish(text.uri, diagnostics.of_text(workspace, text) + self.runs.diagnostics_of(text), text.version)
 
     def publish_all(self) -> None:
         dirty, self.workspace.dirty, self.workspace.edited = self.workspace.dirty, {}, {}
         for text in dirty:
             if self.workspace.text(text.uri) is text:
-                self.publish(text.uri, diagnostics.of_text(self.workspace, text) + self.runs.told(text), text.version)
-        bases = self.workspace.bases.values() if dirty or self.is_told_early else []
-        self.is_told_early = False
+                self.publish(text.uri, diagnostics.of_text(self.workspace, text) + self.runs.diagnostics_of(text), text.version)
+        bases = self.workspace.bases.values() if dirty or self.is_published_early else []
+        self.is_published_early = False
         for base in bases:
             if not base.is_alone:
-                self.publish(base.uri, diagnostics.of_list(self.workspace, base) + self.runs.told_of_list(base))
+                self.publish(base.uri, diagnostics.of_list(self.workspace, base) + self.runs.diagnostics_of_list(base))
         known = {text.uri for text in self.workspace.texts.values()} | {base.uri for base in self.workspace.bases.values()}
-        for uri in [uri for uri, told in self.published.items() if told and uri not in known]:
+        for uri in [uri for uri, found in self.published.items() if found and uri not in known]:
             self.publish(uri, [])
 
-    def publish(self, uri: str, told: list[Any], version: int | None = None) -> None:
-        """Tells what is to be told of an open text, and of another one where that isn't what was told before."""
-        if version is not None or self.published.get(uri, []) != told:
-            params: Message = {"uri": uri, "diagnostics": told}
+    def publish(self, uri: str, found: list[Any], version: int | None = None) -> None:
+        """Publishes the diagnostics of an open text, and of another one if they changed."""
+        if version is not None or self.published.get(uri, []) != found:
+            params: Message = {"uri": uri, "diagnostics": found}
             self.connection.notify("textDocument/publishDiagnostics", params if version is None else {**params, "version": version})
-        self.published[uri] = told
+        self.published[uri] = found

@@ -16,7 +16,7 @@ Position = dict[str, int]
 
 
 class Text:
-    """The content of a file. `version` is the client's, or nothing where the client hasn't opened it; then `signature` tells the file on the disk."""
+    """The content of a file. `version` is the client's, or nothing where the client hasn't opened it; then `signature` identifies the file on the disk."""
 
     def __init__(self, path: str, uri: str | None = None) -> None:
         self.path, self.uri = path, uri or uri_of(path)
@@ -94,7 +94,7 @@ def units(text: str) -> int:
 
 
 def prefix(text: str, count: int) -> str:
-    """The letters that end within so many UTF-16 units."""
+    """The letters that end within `count` UTF-16 units."""
     if text.isascii() or max(text) <= "\uffff":
         return text[:count]
     at = 0

@@ -30,7 +30,7 @@ class Settings(NamedTuple):
 
 
 class DriverText(Text):
-    """A driver, read when it is asked for."""
+    """A driver, read when it is first used."""
 
     def __init__(self, path: str, uri: str | None = None) -> None:
         super().__init__(path, uri)
@@ -134,7 +134,7 @@ class Workspace:
         return [base for base in self.bases.values() if text in base.texts]
 
     def belongs(self, text: RuleText) -> None:
-        """Finds the list of a rule file. One that no list names stands alone."""
+        """Finds the list of a rule file. One that no list names is a base of its own."""
         path = self.list_of(text)
         if path is not None and path not in self.bases:
             self.bases[path] = Base(path)
@@ -234,7 +234,7 @@ class Workspace:
         return True
 
     def driver_of(self, base: Base) -> DriverText | None:
-        """The driver of a base: the one of the setting, or the only one beside the list."""
+        """The driver of a base: the one of the setting, or the only one in the list's folder."""
         if self.settings.driver == "-" or base.is_alone or base.fault:
             return None
         path = self.path(self.settings.driver) if self.settings.driver else None

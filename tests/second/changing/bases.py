@@ -93,7 +93,7 @@ class Base:
         self.tables[name] = size
 
     def set(self, formula, reads):
-        """A rule with a formula; sometimes with one that doesn't count beside it."""
+        """A rule with a formula; sometimes with another one that doesn't count."""
         self.reads.update(reads)
         applications = self.draw.choice([b"iliad", b"iliad", b"batch , iliad"])
         self.statements.append(b"regle %d : application : %s ;\n%s" % (len(self.statements), applications, formula))
@@ -115,7 +115,7 @@ class Base:
 
 
 class Term:
-    """A term that is drawn, and what it reads. Letters of loops with their values may stand in it, and some cells of the table that it is for."""
+    """A term that is drawn, and what it reads. It may contain letters of loops with their values, and some cells of the table that it is for."""
 
     def __init__(self, base, letters=None, below=()):
         self.base, self.draw, self.letters, self.below = base, base.draw, dict(letters or {}), list(below)

@@ -57,7 +57,7 @@ class Draw(numbers.Random):
 
 
 def chance(random, percent):
-    """True in so many of a hundred cases."""
+    """True in `percent` of a hundred cases."""
     return random.randrange(100) < percent
 
 
@@ -98,7 +98,7 @@ def change_pieces(random, text, stock):
 
 def exchange(random, text, names):
     """A text of which a piece is exchanged for another of its sort: an operator, a number or a name of a source. In a
-    rule file it stands mostly behind the declarations."""
+    rule file it is mostly after the declarations."""
     pieces = PIECE.findall(text)
     solid = [at for at in solid_pieces(pieces) if pieces[at] != b"="]
     first = min((at for at in solid if pieces[at] in (b"regle", b"verif")), default=0)

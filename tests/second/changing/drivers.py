@@ -36,7 +36,7 @@ def new_driver(random, names):
 
 
 def double_often(random, text, names):
-    """A driver that calls the old one so often that it weighs too much, so that its weight is told."""
+    """A driver that calls the old one so often that it weighs too much, so that its weight is reported."""
     levels = random.choice([22, 23, 30, 70])
     received = some(random, names.inputs + names.computed, b"REV")
     functions = [text.replace(b"main()", b"twice0()")]

@@ -31,7 +31,7 @@ def change_household(random, text, names, wild):
 
 
 def change_field(random, text, stock):
-    """A text of which one field is replaced: mostly the last of a line behind the first."""
+    """A text of which one field is replaced: mostly the last of a line after the first."""
     lines = text.split(b"\n")
     at = random.randrange(len(lines))
     if not lines[at] or at == 0 and not chance(random, 10):
@@ -87,7 +87,7 @@ def new_report(random, names):
 
 
 def new_cases(random, names):
-    """A table of cases: codes and names of what is asked for, and a few rows."""
+    """A table of cases: codes and requested names, and a few rows."""
     codes = random.sample(names.codes, random.randrange(len(names.codes) + 1))
     outputs = [b"=" + requested(random, names) for _ in range(random.randrange(3))]
     header = random.sample(codes + outputs, len(codes + outputs))

@@ -23,7 +23,7 @@ def name_of(line):
 
 
 def amount_of(line):
-    """The amount of a line in millionths; None where it tells another value."""
+    """The amount of a line in millionths; None if it has another value."""
     return read_amount(line.split(b" = ", 1)[1]) if b" = " in line else None
 
 
@@ -77,7 +77,7 @@ def another_value(draw, report):
 
 
 def made_undefined(draw, report):
-    """A cell with a value is said to be undefined."""
+    """A cell with a value is stated to be undefined."""
     places = [at for at, line in enumerate(report.lines) if not line.endswith(b" undefined")]
     if not places:
         return None
@@ -86,7 +86,7 @@ def made_undefined(draw, report):
 
 
 def left_out(draw, report):
-    """A line is left out that a later one reads: the first such one stands no more behind what it reads."""
+    """A line is left out that a later one reads: the first such one then no longer follows what it reads."""
     places = [at for at in range(len(report.lines)) if readers(report, at)]
     if not places:
         return None
@@ -111,7 +111,7 @@ def exchanged(draw, report):
 
 
 def given_twice(draw, report):
-    """A line stands a second time, anywhere later."""
+    """A line occurs a second time, anywhere later."""
     first = draw.randrange(len(report.lines))
     at = draw.randrange(first + 1, len(report.lines) + 1)
     return Change(text_of(report.lines[:at] + [report.lines[first]] + report.lines[at:]), at)
@@ -207,7 +207,7 @@ def spelled_otherwise(draw, report, _other):
 
 
 def another_order(draw, report, _other):
-    """The lines stand in an order that is drawn, each after all that it reads."""
+    """The lines are in an order that is drawn, each after all that it reads."""
     left, lines, seen = list(range(len(report.lines))), [], set()
     while left:
         at = draw.choice([at for at in left if report.reads(at) <= seen])

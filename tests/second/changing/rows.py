@@ -86,7 +86,7 @@ def one_change(random, row, names, wild):
 
 
 def split_rules(random, files, list_name, name):
-    """Moves the last lines of a rule file into another one, which the list names behind the others."""
+    """Moves the last lines of a rule file into another one, which the list names after the others."""
     lines = files[name].split(b"\n")
     at = random.randrange(len(lines) + 1)
     other = b"s%d.m" % random.randrange(10)

@@ -10,7 +10,7 @@ INDEXES = [b"0", b"1", b"2", b"1.9", b"(- 1)", b"3", b"9"]
 
 
 def rule_term(random, names, depth, letters=()):
-    """A term of a rule, in which these letters of loops, and `X`, may stand."""
+    """A term of a rule, which may contain these letters of loops, and `X`."""
     if depth == 0 or chance(random, 25):
         return leaf(random, names, letters)
 

@@ -1,4 +1,4 @@
-"""The reference implementation: what the program does, in Python. It stands on the documents and on no code of the program.
+"""The reference implementation: what the program does, in Python. It is written from the documents and uses no code of the program.
 
 `commands.output(words, files, typed)` is what the program prints for the words of its command line, the files and what
 is typed into its input, and the number that it ends with. The modules, in the order in which a source meets them:
@@ -19,8 +19,8 @@ is typed into its input, and the number that it ends with. The modules, in the o
     driver_names    names of drivers to cells and functions
     driver_runs     the weight of a driver, and what it does
     files           lists, requests, households, tables           docs/FORMATS.md
-    sources         a whole source, and what it tells
-    code_files      code files, and what their code tells         docs/CODE.md
+    sources         a whole source, and its answers
+    code_files      code files, and the answers of their code     docs/CODE.md
     generated       the source of `large N`                       docs/SESSIONS.md
     commands        words, steps, what is printed                 docs/FORMATS.md, docs/SESSIONS.md
 

@@ -19,7 +19,7 @@ class Case(NamedTuple):
 
 
 def read_cases(text, inputs, types, names):
-    """The cases of a table, in order. `names` are those of what is asked for; a name stands for the first of its kind."""
+    """The cases of a table, in order. `names` are those of the requests; a name denotes the first of its kind."""
     records = records_of(text)
     if not records or records[0][0] != b"name":
         raise Refused(b"refused household: bad header")

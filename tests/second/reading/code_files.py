@@ -1,7 +1,7 @@
-"""Code files: what one says, or its first fault, and what its code tells a household.
+"""Code files: parsing with the first fault, and the answers of their code for a household.
 
 A text without a fault is the one spelling of its code, so nothing is written here. Whether a text is the code of a source is
-asked of its words, of what it puts aside, and of what it tells some households.
+decided by its words, by what it stores, and by its answers for some households.
 """
 
 import random
@@ -35,7 +35,7 @@ STAGES = {b"slots": 0, b"input": 1, b"label": 2, b"note": 3, b"output": 4, b"cod
 
 
 class NotDue(Exception):
-    """A line isn't of the form that is due, or a number can't stand where it does."""
+    """A line isn't of the expected form, or a number isn't valid in its place."""
 
 
 class ReadTooEarly(Exception):
@@ -74,7 +74,7 @@ def literal(word):
 
 
 class Code:
-    """A code file without a fault so far: what stands before the instructions, and these."""
+    """A code file without a fault so far: what comes before the instructions, and these."""
 
     def __init__(self):
         self.slots = None
@@ -120,7 +120,7 @@ class Code:
         self.types.append(words[1] if len(words) == 2 else b"")
 
     def read_label(self, words):
-        """What a check tells: of a verification, or of a line of the driver."""
+        """The label of a check: of a verification, or of a line of the driver."""
         if words[:1] == [b"driver"]:
             (line,) = exactly(words[1:], 1)
             self.labels.append((b"driver", whole(line, MOST_COUNTED + 1)))
@@ -131,7 +131,7 @@ class Code:
         self.labels.append((b"verif", number, error, kind, bytes.fromhex(text.decode())))
 
     def read_note(self, words):
-        """An output that tells a verification."""
+        """An output that reports a verification."""
         (number,) = exactly(words, 1)
         label = whole(number, len(self.labels))
         if self.labels[label][0] != b"verif":
@@ -220,7 +220,7 @@ class Code:
         self.given.add(read[1])
         return read
 
-    # ---- what it tells
+    # ---- what it prints
 
     def ran(self, amounts):
         """The lines of a household's stop or None, and the values of the outputs by their numbers. It is numbers of inputs with their amounts."""
@@ -247,7 +247,7 @@ class Code:
         return None, outputs
 
     def told(self, amounts):
-        """The lines that a household is told, and whether it was stopped."""
+        """The lines printed for a household, and whether it was stopped."""
         stop, outputs = self.ran(amounts)
         if stop is not None:
             return stop, True
@@ -264,7 +264,7 @@ class Code:
         return record_fields(None, [(label[1], label[2]) for label in told], values, len(names))
 
     def request_names(self):
-        """The names of what is asked for, in order."""
+        """The names of the requests, in order."""
         return [output[1] for output in self.outputs if output[0] == b"output"]
 
 
@@ -277,7 +277,7 @@ class Code:
         return told_label(b"failed", label)
 
     def output_line(self, output, value):
-        """The lines of an output: a note is told where its value is a number other than 0."""
+        """The lines of an output: a note is printed if its value is a number other than 0."""
         if output[0] == b"output":
             return value_line(output[1], value)
         return told_label(b"noted", self.labels[output[1]]) if is_told(value) else b""
@@ -305,14 +305,14 @@ LENGTHS = {b"in": (3,), b"lit": (3,), b"do": (4, 5, 6), b"st": (3,), b"ld": (3,)
 
 
 def exactly(words, count):
-    """These words, of which there are so many."""
+    """These words, if there are `count` of them."""
     if len(words) != count:
         raise NotDue
     return words
 
 
 def is_told(value):
-    """Whether a note with this value is told."""
+    """Whether a note with this value is printed."""
     return value is not UNDEFINED and value is not OVER and value != 0
 
 
@@ -345,7 +345,7 @@ TRIED = 4
 
 
 def why_not_of(text, compiled):
-    """Why a text isn't a code file of a source, or None. Its words are the source's, and so is what it tells some households; and it moves few values."""
+    """Why a text isn't a code file of a source, or None. Its words are the source's, and so are its answers for some households; and it has few moves."""
     try:
         code = read_code(text)
     except Refused as refusal:

@@ -30,7 +30,7 @@ MOST_GENERATED = 100_000
 class Output(NamedTuple):
     """What is printed, and the number that the program ends with; `ring` where a cycle or a recursion is shown, `compiled`
     where a code file of a source is due, which has several, `findings` where those of a source are due, and `replies` where a session
-    is asked why, whose reasons may stand in several orders."""
+    is asked for reasons, whose lines may be in several orders."""
 
     text: bytes
     status: int
@@ -99,7 +99,7 @@ def generated_number(word):
 
 
 def fetched(name, files, limit):
-    """The bytes of a file, which may have so many."""
+    """The bytes of a file, which has at most `limit` bytes."""
     if name not in files:
         raise Unreadable(name)
     if len(files[name]) > limit:
@@ -124,7 +124,7 @@ def gathered(names, files):
 
 
 def answer_run(compiled, household, _typed):
-    """The lines that a household is told."""
+    """The lines printed for a household."""
     lines, stopped = compiled.told(read_household(household, compiled.declared.inputs, compiled.declared.types))
     return lines, STOPPED if stopped else DONE
 
@@ -153,7 +153,7 @@ def answer_large(number):
 
 
 def answer_exec(code_file, household):
-    """The lines that a household is told by the code of a code file."""
+    """The lines printed for a household by the code of a code file."""
     code = read_code(code_file)
     lines, stopped = code.told(read_household(household, code.inputs, dict(zip(code.inputs, code.types))))
     return lines, STOPPED if stopped else DONE

@@ -66,7 +66,7 @@ class Declared:
         return [cell for name in returned for cell in self.cells_named(name)]
 
     def cells_of_kind(self, kind):
-        """The cells of the inputs whose attribute has one of some values. Of one that stands twice the last counts."""
+        """The cells of the inputs whose attribute has one of some values. If one occurs twice, the last counts."""
         attribute, values = kind
         inputs = (variable for variable in self.variables if variable.role == "input")
         return [self.first_cells[v.name] for v in inputs if dict(v.pairs).get(attribute) in values]

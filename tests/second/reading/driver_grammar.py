@@ -81,7 +81,7 @@ class Function(NamedTuple):
 
 
 def functions_of(lines):
-    """The functions of a driver. A fault is told at the first line behind the longest front that is a driver."""
+    """The functions of a driver. A fault is reported at the first line after the longest prefix that is a driver."""
     functions = []
     at = 0
     while at < len(lines):
@@ -96,7 +96,7 @@ def functions_of(lines):
 
 
 def said_by(line, read):
-    """What a whole line says by one form; nothing where it hasn't this form."""
+    """The parse of a whole line by one form; None if it hasn't this form."""
     cursor = Cursor(line.tokens)
     try:
         said = read(cursor)
@@ -106,7 +106,7 @@ def said_by(line, read):
 
 
 def block_under(lines, at):
-    """The commands under a line and the position behind them; no block where there is no whole first command."""
+    """The commands under a line and the position after them; no block if there is no whole first command."""
     commands = []
     outer = lines[at].indent
     at += 1
@@ -123,7 +123,7 @@ def block_under(lines, at):
 
 
 def command_at(lines, at):
-    """The command that begins at a line, and the position behind it; nothing where none does."""
+    """The command that begins at a line, and the position after it; None if none does."""
     line = lines[at]
     for read in (assignment_line, deletion_line, call_line):
         said = said_by(line, read)
@@ -241,7 +241,7 @@ def conjunction(cursor):
 
 
 def negation(cursor):
-    """A comparison, perhaps behind `not`."""
+    """A comparison, perhaps after `not`."""
     if cursor.take_if("key", b"not"):
         return Operation("not", [comparison(cursor)])
     return comparison(cursor)
@@ -265,7 +265,7 @@ def product(cursor):
 
 
 def factor(cursor):
-    """A primary, perhaps behind one `-`."""
+    """A primary, perhaps after one `-`."""
     if cursor.take_if("sign", b"-"):
         return Operation("neg", [primary(cursor)])
     return primary(cursor)

@@ -1,4 +1,4 @@
-"""The lines of a driver with their tokens, and how deep they stand."""
+"""The lines of a driver with their tokens, and how deep they are."""
 
 import re
 from typing import List, NamedTuple
@@ -44,7 +44,7 @@ def driver_lines(text):
 
 
 def tokens_of_line(number, line):
-    """The tokens of a line: only spaces stand between them, and a comment behind them."""
+    """The tokens of a line: only spaces are between them, and a comment after them."""
     tokens = []
     at = 0
     while at < len(line) and line[at:at + 1] != b"#":

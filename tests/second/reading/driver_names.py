@@ -8,7 +8,7 @@ RULES = b"call_m"
 
 
 class Driver:
-    """The blocks of functions over cells, by their names; those that a function calls stand before it in `order`."""
+    """The blocks of functions over cells, by their names; those that a function calls come before it in `order`."""
 
     def __init__(self, blocks, order):
         self.blocks = blocks
@@ -29,7 +29,7 @@ def driver_over_cells(functions, declared):
 
 
 def order_of_functions(blocks):
-    """The names of functions, each behind those that it calls, or the refusal of a ring."""
+    """The names of functions, each after those that it calls, or the error of a cycle."""
     names = list(blocks)
     numbers = {name: number for number, name in enumerate(names)}
 

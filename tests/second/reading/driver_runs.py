@@ -68,7 +68,7 @@ class Run:
         self.notes = []
 
     def run_main(self, environment):
-        """Does `main` over an environment, which it changes, and tells the labels that are noted, in order of occurrence."""
+        """Runs `main` over an environment, which it changes, and returns the noted labels, in order of occurrence."""
         self.notes = []
         self.run_block(self.driver.blocks[b"main"], environment)
         return self.notes

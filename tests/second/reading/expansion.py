@@ -75,7 +75,7 @@ def is_letter(point):
 
 
 def range_length(low, high):
-    """How many values stand from a point to a point."""
+    """How many values there are from a point to a point."""
     if low != high and is_whole(low) and is_whole(high):
         return max(0, int(high) - int(low) + 1)
     return len(range_values(low, high))
@@ -95,7 +95,7 @@ def instance_count(indexes):
 
 
 def bindings(indexes, letters):
-    """What the letters stand for in each instance; the first index goes slowest."""
+    """The values of the letters in each instance; the first index changes slowest."""
     if not indexes:
         yield letters
         return
@@ -103,7 +103,7 @@ def bindings(indexes, letters):
         yield from bindings(indexes[1:], {**letters, indexes[0].letter: value})
 
 
-# ---- faults of loops: of all the one with the first place is told
+# ---- faults of loops: of all the one with the first place is reported
 
 
 def look_for_loop_faults(items):
@@ -256,7 +256,7 @@ def replaced(word, letters):
 
 
 def instance(term, letters, cell):
-    """A term where letters stand for values, and `X` for the number of a cell if there is one."""
+    """A term where letters have values, and `X` for the number of a cell if there is one."""
     if isinstance(term, Number) or isinstance(term, Name) and is_name(term.word):
         return term
     if isinstance(term, Name):

@@ -1,9 +1,9 @@
 """What holds for all households within ranges: which values a cell may have, which verifications never stop, on which inputs a cell depends.
 
-A fact says whether a value may be undefined, whether it may be over, and between which numbers it lies. The program goes by the facts of what it has
+A fact states whether a value may be undefined, whether it may be over, and between which numbers it is. The program goes by the facts of what it has
 compiled and folded, which may be tighter than those of the rules as they are written. So what it prints must lie within these, and
-no household within the ranges may tell against it. A table that is read at an index that is no number is compiled to choices whose facts
-may be looser, and so are verifications under a condition of a driver: there nothing is due but that no household tells against it.
+no household within the ranges may refute it. A table that is read at an index that is no number is compiled to choices whose facts
+may be looser, and so are verifications under a condition of a driver: there it is only required that no household refutes it.
 """
 
 import random
@@ -155,7 +155,7 @@ def bounded(undefined, over, numbers):
 
 
 def of_numbers(operator, undefined, over, a, b):
-    """What an operator gives of numbers of two intervals, beside undefined and over."""
+    """What an operator gives of numbers of two intervals, apart from undefined and over."""
     if a is None or b is None:
         return Fact(undefined, over, None)
     return bounded(undefined, over, results(operator, a, b))
@@ -170,7 +170,7 @@ def of_one(operator, a):
 
 
 def of_two(operator, a, b):
-    """What an operator of two arguments gives; for some of them undefined counts as 0 beside a number."""
+    """What an operator of two arguments gives; for some of them undefined counts as 0 if the other is a number."""
     over = a.over or b.over
     if operator not in ("add", "sub", "or", "max", "min"):
         return of_numbers(operator, a.undefined or b.undefined, over, a.numbers, b.numbers)
@@ -398,11 +398,11 @@ class Facts:
         return not self.told_against(facts, silent, reads, at)
 
     def fact(self, name, line):
-        """The fact that a line says of a name."""
+        """The fact that a line states of a name."""
         return read_fact(line[len(name) + 1:]) if line.startswith(name + b" ") else None
 
     def reads(self, name, line):
-        """The codes that a line says of a name, in the order of declaration."""
+        """The codes that a line states of a name, in the order of declaration."""
         words = line.split(b" ")
         in_order = words[:2] == [b"depends", name] and stands_in_order(words[2:], list(self.compiled.declared.inputs))
         return words[2:] if in_order else None
@@ -428,7 +428,7 @@ class Facts:
         return amounts
 
     def told_against(self, facts, silent, reads, at):
-        """Whether a household within the ranges tells against what is printed."""
+        """Whether a household within the ranges refutes what is printed."""
         draw = random.Random(len(facts) + len(silent))
         cells = self.compiled.declared.inputs
         for _ in range(TRIED):

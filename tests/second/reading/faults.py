@@ -61,7 +61,7 @@ def at_driver_line(line, words):
 
 
 def order_or_ring(count, follows):
-    """So many members, each behind all that it needs; and a ring in which each needs the next, where there is one."""
+    """The members in an order in which each comes after all that it needs; and a cycle in which each needs the next, if there is one."""
     order = []
     done = set()
     for start in range(count):

@@ -1,4 +1,4 @@
-"""Files beside rules and drivers: the list, requests, households and tables."""
+"""Files other than rules and drivers: the list, requests, households and tables."""
 
 import re
 from typing import List, NamedTuple, Tuple
@@ -33,7 +33,7 @@ def read_list(text):
 
 
 def read_requests(text, declared):
-    """The cells that are asked for: by the lines of a file, or without one all that are returned."""
+    """The requested cells: by the lines of a file, or without one all that are returned."""
     if text is None:
         cells = declared.returned_cells()
     else:
@@ -91,7 +91,7 @@ def records_of(text):
 
 
 def field_at(text, at):
-    """The field that begins at a place, and the place behind it: a comma, the end of a line or of the text."""
+    """The field that begins at a place, and the place after it: a comma, the end of a line or of the text."""
     field = b""
     if text[at:at + 1] == b'"':
         match = QUOTED.match(text, at)

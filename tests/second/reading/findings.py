@@ -1,7 +1,7 @@
-"""Findings about a source: those that are due, and whether others are told against by some households.
+"""Findings about a source: those that are required, and whether some household refutes the others.
 
 Which verifications are found never to stop, and which inputs to be unused, depends on how well a program folds. So of these only
-the order is looked at, and that no household tells against them.
+the order is checked, and that no household refutes them.
 """
 
 import random
@@ -33,7 +33,7 @@ def never_defined(compiled):
 
 
 def stands_in_order(some, lines):
-    """Whether these lines stand among others, in their order."""
+    """Whether these lines are among others, in their order."""
     left = iter(lines)
     return all(line in left for line in some)
 
@@ -56,7 +56,7 @@ class Findings:
         return rest == b"" and in_order and not self.told_against(told, without)
 
     def told_against(self, silent, unused):
-        """Whether a household tells against verifications that are said never to stop, or inputs that are said to be unused."""
+        """Whether a household refutes that these verifications never stop, or that these inputs are unused."""
         declared = self.compiled.declared
         draw = random.Random(len(silent) + len(unused))
         for _ in range(TRIED):

@@ -5,7 +5,7 @@ from .texts import decimal
 
 
 def large_source(count):
-    """So many inputs and sums, a rule for each sum from the last on, a verification, and the last sum as request."""
+    """A number of inputs and sums, a rule for each sum from the last on, a verification, and the last sum as request."""
     lines = []
     for k in map(decimal, range(count)):
         lines.append(b"R" + k + b" : saisie revenu classe = 0 alias C" + k + b' : "r" ;')

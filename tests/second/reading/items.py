@@ -12,7 +12,7 @@ ERROR_KINDS = {kind: kind for kind in (b"anomalie", b"discordance", b"informativ
 
 
 def items_of(tokens):
-    """The items that the tokens of a file spell. A fault is told behind the longest front that is items."""
+    """The items that the tokens of a file spell. A fault is reported after the longest prefix that is items."""
     look_for_depth(tokens)
     cursor = Cursor(tokens)
     items = []
@@ -26,7 +26,7 @@ def items_of(tokens):
 
 
 def look_for_depth(tokens):
-    """Refuses the first token at which brackets and conditionals stand too deep."""
+    """Rejects the first token at which brackets and conditionals are nested too deep."""
     depth = 0
     for token in tokens:
         key = (token.kind, token.text)
@@ -82,7 +82,7 @@ def one_or_more(cursor, read):
 
 
 def head(cursor):
-    """What stands between `regle` or `verif` and formulas or checks: the number as it is spelled, applications."""
+    """What is between `regle` or `verif` and formulas or checks: the number as it is spelled, applications."""
     words(cursor)
     number = whole(cursor)
     cursor.sign(b":")
@@ -130,7 +130,7 @@ def formula(cursor):
 
 
 def check(cursor):
-    """`si REV < 0 alors erreur A20 ;`, with words without effect behind the first."""
+    """`si REV < 0 alors erreur A20 ;`, with words without effect after the first."""
     if cursor.ended():
         raise NotSpelled
     place = cursor.tokens[cursor.at].place
@@ -191,14 +191,14 @@ def attributes(cursor):
 
 
 def amount(cursor):
-    """A number, perhaps behind `-`."""
+    """A number, perhaps after `-`."""
     negative = cursor.take_if("sign", b"-")
     value = cursor.take("number").amount
     return -value if negative else value
 
 
 def description(cursor):
-    """`: "text" type REEL ;`: the word behind `type`, if there is one, which has an effect on an input alone."""
+    """`: "text" type REEL ;`: the word after `type`, if there is one, which has an effect on an input alone."""
     cursor.sign(b":")
     cursor.take("text")
     word = cursor.take("word").text if cursor.take_if("key", b"type") else None
@@ -207,7 +207,7 @@ def description(cursor):
 
 
 def error(cursor, place, name, kind):
-    """What stands behind the kind of an error: four texts or five."""
+    """What follows the kind of an error: four texts or five."""
     cursor.sign(b":")
     texts = cursor.separated(lambda c: c.take("text").text, "sign", b":")
     if len(texts) not in (4, 5):

@@ -7,7 +7,7 @@ from .trees import EVERY, Cell, CellNumber, Chain, Membership, Name, Number, Ope
 
 
 class Label(NamedTuple):
-    """What a check tells that ends a run: the number of its verification, and its error."""
+    """The label of a check that ends a run: the number of its verification, and its error."""
 
     verification: bytes
     error: bytes
@@ -63,7 +63,7 @@ def known(name, place, declared):
 
 
 def label_of(condition, declared):
-    """What a condition tells: the texts of its error joined by `:`, each byte below 32 as a blank."""
+    """The text of a condition: the texts of its error joined by `:`, each byte below 32 as a blank."""
     if condition.error not in declared.errors:
         raise at_place(condition.place, b"unknown error " + condition.error)
     error = declared.errors[condition.error]
@@ -95,7 +95,7 @@ def over_cells(term, declared):
 
 
 def membership(term, declared):
-    """A membership written out: `x = m ou x >= low et x <= high ..`, perhaps behind `non`."""
+    """A membership written out: `x = m ou x >= low et x <= high ..`, perhaps after `non`."""
     tested = over_cells(term.term, declared)
     tests = []
     for low, high in term.members:

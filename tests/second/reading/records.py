@@ -23,13 +23,13 @@ def value_field(value):
 
 
 def stop_field(lines):
-    """The field of a stop that is told by these lines: its words without the kind and the text of the error."""
+    """The field of a stop with these lines: its words without the kind and the text of the error."""
     words = lines.split(b"\n")[0].split(b" ")
     return b" ".join(words[:3] if words[0] == b"failed" else words)
 
 
 def record_fields(stop, notes, values, count):
-    """The fields after a label, where so many values are asked for: a stop by its lines or None, notes by their numbers and errors, and values."""
+    """The fields after a label, if `count` values are requested: a stop by its lines or None, notes by their numbers and errors, and values."""
     if stop is not None:
         return [stop_field(stop), b""] + [b""] * count
     return [b"", b"; ".join(number + b" " + error for number, error in notes)] + [value_field(value) for value in values]

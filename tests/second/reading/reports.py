@@ -72,7 +72,7 @@ def first_unsound(base, environment, lines):
 
 
 class Reason:
-    """The reason of a cell's value for a household: the lines of the cells that it needs, of which each stands after those that it
+    """The reason of a cell's value for a household: the lines of the cells that it needs, of which each comes after those that it
     reads. Where that leaves several orders, each is one."""
 
     def __init__(self, rules, environment, cell):
@@ -106,7 +106,7 @@ class Reason:
         return b"".join(value_line(names[line.cell], line.value) for line in self.lines()) + b".\n"
 
     def rest_of(self, text):
-        """What stands after the reason at the start of a text, in whatever order its lines are; None where none stands there."""
+        """The text after a reason at its start, in whatever order its lines are; None if it doesn't begin with one."""
         report, point, rest = text.partition(b"\n.\n")
         try:
             said = read_report(report + b"\n", self.rules.declared)

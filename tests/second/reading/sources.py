@@ -1,4 +1,4 @@
-"""A whole source: rule files, a driver and requests; and what it tells a household."""
+"""A whole source: rule files, a driver and requests; and its answer for a household."""
 
 from typing import List, NamedTuple, Optional, Tuple
 
@@ -82,12 +82,12 @@ class Compiled(Rules):
         return Driver({b"main": [Call(1, received, RULES)]}, [b"main"])
 
     def values(self, amounts):
-        """The values of what is asked for, or None where the run is stopped."""
+        """The requested values, or None if the run is stopped."""
         stop, _, values = self.parts(amounts)
         return values if stop is None else None
 
     def parts(self, amounts):
-        """What a household is told, in parts: the lines of its stop or None, the notes, and the values of what is asked for. It is cells of inputs with their amounts."""
+        """The answer for a household (cells of inputs with amounts), in parts: the lines of its stop or None, the notes, and the requested values."""
         environment = self.start(amounts)
         try:
             notes = self.run.run_main(environment)
@@ -96,7 +96,7 @@ class Compiled(Rules):
         return None, notes, [environment[cell] for cell in self.requests]
 
     def told(self, amounts):
-        """The lines that a household is told, and whether it was stopped."""
+        """The lines printed for a household, and whether it was stopped."""
         stop, notes, values = self.parts(amounts)
         if stop is not None:
             return stop, True

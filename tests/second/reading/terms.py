@@ -54,7 +54,7 @@ class Cursor:
             raise NotSpelled
 
     def one_of(self, kind, table):
-        """Takes a sign or reserved word of a table, and gives what that says of it; nothing where there is none."""
+        """Takes a sign or reserved word of a table, and gives its entry; None if there is none."""
         if self.ended() or self.tokens[self.at].kind != kind or self.tokens[self.at].text not in table:
             return None
         self.at += 1
@@ -168,7 +168,7 @@ def conjunction(cursor):
 
 
 def negation(cursor):
-    """A relation, perhaps behind `non`."""
+    """A relation, perhaps after `non`."""
     if cursor.take_if("key", b"non"):
         return Operation("not", [relation(cursor)])
     return relation(cursor)
@@ -202,7 +202,7 @@ def member(cursor):
 
 
 def signed_number(cursor):
-    """A number, perhaps behind `-`, which is an operator here too."""
+    """A number, perhaps after `-`, which is an operator here too."""
     negative = cursor.take_if("sign", b"-")
     number = Number(cursor.take("number").amount)
     return Operation("neg", [number]) if negative else number
@@ -219,7 +219,7 @@ def product(cursor):
 
 
 def factor(cursor):
-    """A primary, perhaps behind one `-`."""
+    """A primary, perhaps after one `-`."""
     if cursor.take_if("sign", b"-"):
         return Operation("neg", [primary(cursor)])
     return primary(cursor)
@@ -258,7 +258,7 @@ def read_or_name(cursor, token):
 
 
 def conditional(cursor):
-    """What stands behind `si`: without `sinon` the other branch is undefined."""
+    """What follows `si`: without `sinon` the other branch is undefined."""
     condition = expression(cursor)
     cursor.key(b"alors")
     first = expression(cursor)
@@ -268,7 +268,7 @@ def conditional(cursor):
 
 
 def called(cursor, word):
-    """What stands behind the word of a function, or behind `somme`."""
+    """What follows the word of a function, or `somme`."""
     cursor.sign(b"(")
     if word == b"somme":
         found = header(cursor)

@@ -15,7 +15,7 @@ def lines_of(text):
 
 
 def exact_lines_of(text):
-    """The lines as they stand: each ends at a line feed, and a carriage return is a byte as others; the last may lack its line feed."""
+    """The lines as they are: each ends at a line feed, and a carriage return is a byte as others; the last may lack its line feed."""
     lines = text.split(b"\n")
     return lines if lines[-1] else lines[:-1]
 

@@ -20,7 +20,7 @@ TOKEN = re.compile(
 
 
 class Place(NamedTuple):
-    """Where something stands: the file by its position in the list and its name, a line from 1, a byte from 0."""
+    """A place: the file by its position in the list and its name, a line from 1, a byte from 0."""
 
     file: int
     file_name: bytes

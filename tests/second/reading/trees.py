@@ -14,7 +14,7 @@ class Number(NamedTuple):
 
 
 class Name(NamedTuple):
-    """A word that stands for a variable."""
+    """A word that denotes a variable."""
 
     word: bytes
     place: Any
@@ -70,7 +70,7 @@ class Cell(NamedTuple):
 
 
 class Pick(NamedTuple):
-    """A table's cells from the first on, so many, of which an index picks one."""
+    """A number of a table's cells from the first on, of which an index picks one."""
 
     first: int
     size: int

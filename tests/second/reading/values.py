@@ -74,7 +74,7 @@ def term_weight(term):
 
 
 def order_of(base):
-    """The cells that have terms, each behind those that it reads, or the refusal of a cycle."""
+    """The cells that have terms, each after those that it reads, or the error of a cycle."""
 
     def reads(cell):
         found = set()
@@ -107,7 +107,7 @@ def rules_values(base, order, environment):
 
 
 def label_lines(word, label):
-    """The two lines of a verification behind a word."""
+    """The two lines of a verification after a word."""
     return b" ".join([word, label.verification, label.error, label.kind]) + b"\n" + label.text + b"\n"
 
 

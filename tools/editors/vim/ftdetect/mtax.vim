@@ -1,5 +1,5 @@
 " Other languages have files *.m too: one is M where it declares a variable or has a rule or a verification, and an empty one, or one of comments alone, where a
-" list stands beside it or rules.list above it.
+" list is in its folder or rules.list above it.
 function! s:IsM(folder) abort
   if search('^\s*\(regle\|verif\)\>\|:\s*\(saisie\|calculee\|const\|tableau\)\>', 'nw')
     return 1
