@@ -11,6 +11,7 @@ from .limits import AMOUNT
 Piece = tuple[int, int, str]
 """A piece of a file: its first byte, its end, and how what stands there is spelled."""
 Places = dict[str, list[tuple[source.RuleFile, "Piece | None", int, bool]]]
+LITERAL = re.compile("-?[01];")
 NUMBER = re.compile(r"-?([0-9]+)(?:\.[0-9]+)?")
 
 
@@ -34,12 +35,11 @@ def whole(value: str) -> str:
 
 def literal_at(file: source.RuleFile, at: int) -> Piece | None:
     """The number that stands from a token on up to a `;`: its first byte, its end and its spelling; or None."""
-    minus = file.text(at) == "-"
-    number = at + 1 if minus else at
-    if number >= len(file.tokens) or file.tokens[number].kind != "number" or file.text(number + 1) != ";":
+    literal = LITERAL.match(file.tokens.letters, at)
+    if literal is None:
         return None
-    end = file.tokens[number].byte + len(file.text(number))
-    return file.tokens[at].byte, end, ("-" if minus else "") + file.text(number)
+    last = literal.end() - 2
+    return file.tokens.bytes[at], file.tokens.bytes[last] + len(file.text(last)), "".join(file.tokens.texts[at : last + 1])
 
 
 def is_target(file: source.RuleFile, at: int) -> bool:

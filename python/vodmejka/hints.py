@@ -6,7 +6,6 @@ import re
 from functools import cached_property
 
 from . import drivers, items, source
-from .loops import reads_of
 from .reasons import Rules
 from .texts import said
 
@@ -92,14 +91,14 @@ class Hints:
         return said("hint.meant", name=found) if found else ""
 
     def declared(self, word, name, byte) -> str:
-        places = [line_of(file, byte_of(variable)) for file in self.base.files for variable in file.variables
-                  if variable.name == word and (file.name, byte_of(variable)) != (name, byte)]
+        places = [line_of(file, variable.byte) for file in self.base.files for variable in file.variables
+                  if variable.name == word and (file.name, variable.byte) != (name, byte)]
         places += [place for error, place in self.errors if error == word]
         return said("hint.first", place=places[0]) if places else ""
 
     def coded(self, word, name, byte) -> str:
-        places = [(variable.name, line_of(file, byte_of(variable))) for file in self.base.files for variable in file.variables
-                  if variable.code == word and (file.name, byte_of(variable)) != (name, byte)]
+        places = [(variable.name, line_of(file, variable.byte)) for file in self.base.files for variable in file.variables
+                  if variable.code == word and (file.name, variable.byte) != (name, byte)]
         return said("hint.first_input", name=places[0][0], place=places[0][1]) if places else ""
 
     def defined(self, word, name, byte) -> str:
@@ -118,12 +117,12 @@ class Hints:
         """The letters of the word at a byte that no loop round it binds."""
         reader = items.read(source.fetch(name))[0] if self.list_name is None else self.readers.get(name)
         for formula in reader.formulas if reader else ():
-            reads = [(formula.target, None, formula.byte, formula.loops), *reads_of(formula.term, formula.loops)]
+            reads = [(formula.target, None, formula.byte, formula.loops), *formula.reads()]
             for word, _, at, round_it in reads:
                 if at == byte:
                     return told_letters(word, {letter for header in round_it for letter, _ in header})
         for check in reader.checks if reader else ():
-            for word, _, at, round_it in reads_of(check.condition, []):
+            for word, _, at, round_it in check.reads():
                 if at == byte:
                     return told_letters(word, {letter for header in round_it for letter, _ in header})
         return ""
@@ -151,10 +150,6 @@ def told_letters(word: str, bound: set[str]) -> str:
     """The small letters of a word that aren't bound."""
     free = list(dict.fromkeys(letter for letter in word if letter.islower() and letter not in bound))
     return said("hint.letter" if len(free) == 1 else "hint.letters", letters=", ".join(free), word=word) if free else ""
-
-
-def byte_of(variable: source.Variable) -> int:
-    return int(variable.place.rsplit(" ", 1)[1])
 
 
 def line_of(file: source.RuleFile, byte: int) -> str:

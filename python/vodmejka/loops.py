@@ -3,7 +3,7 @@ from __future__ import annotations
 
 import itertools
 import math
-from typing import Any, Iterable, Iterator, Mapping, Sequence
+from typing import Any, Iterable, Iterator, List, Mapping, Optional, Sequence, Tuple
 
 from .limits import LOOP_INSTANCES
 
@@ -12,6 +12,8 @@ Header = list[tuple[str, list[Pair]]]
 """The letters of a loop, each with its values as pairs of points."""
 Term = tuple[Any, ...]
 """A term, as grammar.py says it."""
+Read = Tuple[str, Optional[Term], int, List[Header]]
+"""What a term reads: the word, the index or nothing, the byte, and the loops round it."""
 MOST_DIGITS = 12  # the most digits of a word that is a number after letters are replaced
 
 
@@ -82,7 +84,7 @@ def replaced(word: str, letters: Mapping[str, str]) -> str:
     return "".join(letters.get(letter, letter) for letter in word)
 
 
-def reads_of(term: Term, headers: list[Header]) -> Iterator[tuple[str, Term | None, int, list[Header]]]:
+def reads_of(term: Term, headers: list[Header]) -> Iterator[Read]:
     """The names and tables that a term reads: the word, the index or nothing, the byte, and the loops round it."""
     stack = [(term, headers)]
     while stack:

@@ -159,7 +159,7 @@ class Reference:
 
 def described(variable: source.Variable) -> str:
     """What a declaration says, in one line."""
-    return "" if variable.kind == "const" else " ".join(places.decode(variable.told.encode("latin-1")).split())
+    return "" if variable.kind == "const" else " ".join(places.decode(variable.text.encode("latin-1")).split())
 
 
 def text_of(text: str) -> str:

@@ -38,7 +38,7 @@ from fractions import Fraction
 
 from .. import drivers, items, slips_of_use, source
 from ..limits import AMOUNT
-from ..loops import instances, reads_of, replaced, whole
+from ..loops import instances, replaced, whole
 from ..source import Refused
 from ..texts import language_of, said
 
@@ -102,10 +102,10 @@ class Base:
             for formula in reader.formulas:
                 if self.source.application in formula.applications and not formula.is_chained:
                     self.look_at_target(formula)
-                    self.look_at(file, formula.term, formula.loops)
+                    self.look_at(file, formula.reads())
             for check in reader.checks:
                 if self.source.application in check.applications:
-                    self.look_at(file, check.condition, [])
+                    self.look_at(file, check.reads())
 
     def look_at_target(self, formula):
         for letters in instances(formula.loops, [formula.target]):
@@ -113,8 +113,8 @@ class Base:
             size = self.sizes.get(name)
             self.set.update((name, k) for k in range(size or 0)) if formula.slot == "X" else self.set.add((name, formula.slot and int(formula.slot)))
 
-    def look_at(self, file, term, headers):
-        for word, index, byte, round_it in reads_of(term, headers):
+    def look_at(self, file, reads):
+        for word, index, byte, round_it in reads:
             words = None if index is None else words_of(index)
             for letters in instances(round_it, [word, *(words or [])]):
                 name = replaced(word, letters)
@@ -218,7 +218,7 @@ def slips_of_uses(bases, named_drivers):
         yield from slips_of_use.slips_of_numbers(base.source.files, {base.source.application})
     for file, reader in readers:
         yield from slips_of_use.slips_of_letters(file, reader)
-    constants = {variable.name: Fraction(variable.told) for file in files for variable in file.variables if variable.kind == "const" and variable.told}
+    constants = {variable.name: Fraction(variable.text) for file in files for variable in file.variables if variable.kind == "const" and variable.text}
     kinds = {name: kind for _, reader in readers for name, kind in reader.kinds_of_errors.items()}
     for application in sorted(applications):
         for file, reader in readers:
@@ -243,15 +243,15 @@ def slips_of_files(bases):
     for file in files.values():
         yield from slips_of_bytes(file.name, file.bytes)
         for variable in file.variables:
-            for word, place in variable.numbered:
+            for word, byte in variable.numbered:
                 if word == "restituee":
-                    yield f"{place}: {said('slips.numbered', name=variable.name)}"
+                    yield f"{file.place(byte)}: {said('slips.numbered', name=variable.name)}"
         for rule in file.rules:
-            for application, place in rule.applications:
+            for application, byte in rule.applications:
                 if application not in known:
-                    strange.setdefault(application, []).append(place)
+                    strange.setdefault(application, []).append((file, byte))
     for application, places in strange.items():
-        yield f"{places[0]}: {said('slips.application', application=application, count=len(places))}"
+        yield f"{places[0][0].place(places[0][1])}: {said('slips.application', application=application, count=len(places))}"
 
 
 def main(words):

@@ -32,7 +32,6 @@ from .. import reasons, runs, source
 from ..copies import Copies, Stopped
 from ..driver_trace import Driver, Trace, cells_of, last
 from ..endings import Wrong, ended
-from ..loops import reads_of
 from ..texts import FRENCH, Language, language_of, said
 from ..why_trees import Tree
 
@@ -105,21 +104,14 @@ def told_stop(rules, copies, stop):
     words = stop.line.split(" ")
     number, error = (words[1], words[2]) if words[0] == "failed" else (words[2], words[3])
     for file, check, written in rules.checks:
-        if check.error != error or rule_number(written, check.byte) != number:
+        if check.error != error or written.number("V", check.byte) != number:
             continue
         place = said("why.verif", file=file.name, line=file.lines.number(check.byte), number=number)
         lines.append(f"    {written.formula(check.byte)}   ({place})")
-        for word, index, _, _ in reads_of(check.condition, []):
+        for word, index, _, _ in check.reads():
             cells = [word] if index is None else [f"{word}[{k}]" for k in range(rules.sizes.get(word, 0))]
             lines += [f"  {cell} {value}" for cell in cells if not cell.isdigit() and (value := copies.value_unstopped(cell)) is not None]
     return list(dict.fromkeys(lines))
-
-
-def rule_number(written, byte):
-    """The number of the verification that a check stands in."""
-    before = [token for token in written.tokens if token.byte < byte]
-    at = max((k for k, token in enumerate(before) if token.text == "verif"), default=0)
-    return next((token.text for token in before[at:] if token.kind == "number"), "")
 
 
 def tree_of(rules, root, lines, found, others=None):

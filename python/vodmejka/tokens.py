@@ -1,0 +1,130 @@
+"""The tokens of a rule file as parallel sequences: texts, first bytes, and a string with one letter for the class of each. A `Token` is made only on request.
+
+The letters are what the grammar distinguishes: statements with the same letters are alike to it, whatever their names and numbers.
+"""
+from __future__ import annotations
+
+import itertools
+import re
+from dataclasses import dataclass
+from typing import Iterator, Sequence, overload
+
+BLANKS = " \t\r\n"
+PIECE = re.compile(
+    r"(?:[A-Za-z_][A-Za-z0-9_]*|[0-9]+\.[0-9]+|[0-9]+(?![A-Za-z0-9_])|[0-9][A-Za-z0-9_]*|[-+*/()\[\],;:]|\"[^\"]*\"|\.\.|[!<>]=|[=<>]|#[^\n]*"
+    r"|[\x80-\xff]+|[^\x80-\xff])[ \t\r\n]*"
+)
+TEXT, WHOLE, NUMBER, CELL, LETTER, NAME, WORD, BAD = '"', "0", "1", "X", "i", "N", "n", "?"
+CLASSES = {
+    "regle": "R", "verif": "V", "application": "A", "enchaineur": "E", "si": "s", "alors": "a", "sinon": "e", "finsi": "f", "erreur": "r", "saisie": "I",
+    "calculee": "C", "const": "K", "tableau": "T", "alias": "L", "type": "t", "pour": "p", "un": "u", "dans": "d", "et": "&", "ou": "|", "non": "!",
+    "somme": "S", "present": "g", "positif": "g", "positif_ou_nul": "g", "null": "g", "arr": "g", "inf": "g", "abs": "g", "max": "h", "min": "h",
+    "anomalie": "k", "discordance": "k", "informative": "k", "X": CELL,
+    "..": "~", "!=": "<", "<=": "<", ">=": "<", ">": "<", "/": "*",
+    **{sign: sign for sign in "-+*=<()[],;:"},
+}
+KINDS = {TEXT: "text", WHOLE: "number", NUMBER: "number", **dict.fromkeys((LETTER, NAME, WORD), "word"),
+         **{letter: "word" if word[0].isalpha() else "sign" for word, letter in CLASSES.items()}}
+WORDS = frozenset(letter for letter, kind in KINDS.items() if kind == "word")
+MOST_DIGITS = 9  # of a whole number in the grammar
+SHORT = 13  # the most characters of a number that can't be above the greatest amount
+
+
+@dataclass(slots=True)
+class Token:
+    kind: str
+    text: str
+    byte: int
+
+
+def class_of(text: str) -> str:
+    """The letter of a token, or BAD of bytes that begin none."""
+    known = CLASSES.get(text)
+    if known is not None:
+        return known
+    first = text[0]
+    if first == '"':
+        return TEXT if len(text) > 1 else BAD
+    if "0" <= first <= "9" and text.replace(".", "", 1).isdigit():
+        return WHOLE if len(text) <= MOST_DIGITS and "." not in text else NUMBER
+    if first.isascii() and (first.isalnum() or first == "_"):
+        return NAME if text.upper() == text else LETTER if len(text) == 1 else WORD
+    return BAD
+
+
+class Pieces(dict[str, str]):
+    """The class of each distinct piece, which is a token with the blanks after it; a comment has none. `texts` has the tokens without blanks."""
+
+    def __init__(self) -> None:
+        super().__init__()
+        self.texts: dict[str, str] = {}
+        self.has_comments = self.has_long_numbers = False
+
+    def __missing__(self, piece: str) -> str:
+        text = self.texts[piece] = piece.rstrip(BLANKS)
+        if text.startswith("#"):
+            self.has_comments, letter = True, ""
+        else:
+            letter = class_of(text)
+        self.has_long_numbers = self.has_long_numbers or letter == NUMBER and len(text) > SHORT
+        self[piece] = letter
+        return letter
+
+
+class Tokens(Sequence[Token]):
+    """The tokens of a text from a byte on: `texts`, the byte where each begins, and `letters`, the class of each. `end` is the byte after the last piece.
+    Bytes that begin no token have the class BAD, until `without_bad` leaves them out."""
+
+    def __init__(self, text: str, begin: int = 0):
+        begin += len(text) - begin - len(text[begin:].lstrip(BLANKS))
+        pieces, classes = PIECE.findall(text, begin), Pieces()
+        self.letters = "".join(map(classes.__getitem__, pieces))
+        self.texts = list(map(classes.texts.__getitem__, pieces))
+        self.bytes = list(itertools.accumulate(map(len, pieces), initial=begin))
+        self.end = self.bytes.pop()
+        self.has_long_numbers = classes.has_long_numbers
+        if classes.has_comments:
+            self._keep([not text.startswith("#") for text in self.texts])
+
+    def _keep(self, flags: Sequence[bool]) -> None:
+        """Leaves out the texts and bytes whose flag is false."""
+        self.texts = list(itertools.compress(self.texts, flags))
+        self.bytes = list(itertools.compress(self.bytes, flags))
+
+    def bad(self) -> list[tuple[int, str]]:
+        """The byte and the text of each piece that is no token."""
+        return [(self.bytes[match.start()], self.texts[match.start()]) for match in re.finditer(re.escape(BAD), self.letters)]
+
+    def without_bad(self) -> Tokens:
+        """Leaves out what is no token, and all from an open string on."""
+        if BAD in self.letters:
+            first = next((k for k, letter in enumerate(self.letters) if letter == BAD and self.texts[k] == '"'), len(self.letters))
+            self._keep([letter != BAD and k < first for k, letter in enumerate(self.letters)])
+            self.letters = self.letters[:first].replace(BAD, "")
+        return self
+
+    def __len__(self) -> int:
+        return len(self.letters)
+
+    @overload
+    def __getitem__(self, at: int) -> Token: ...
+
+    @overload
+    def __getitem__(self, at: slice) -> list[Token]: ...
+
+    def __getitem__(self, at: int | slice) -> Token | list[Token]:
+        if isinstance(at, slice):
+            return [Token(KINDS[letter], text, byte) for letter, text, byte in zip(self.letters[at], self.texts[at], self.bytes[at])]
+        return Token(KINDS[self.letters[at]], self.texts[at], self.bytes[at])
+
+    def __iter__(self) -> Iterator[Token]:
+        return (Token(KINDS[letter], text, byte) for letter, text, byte in zip(self.letters, self.texts, self.bytes))
+
+    def after(self, at: int, sign: str = ";") -> int:
+        """The number after the next token of a class, from a number on; one more than there are tokens where there is none."""
+        return (self.letters.find(sign, at) + 1) or len(self.letters) + 1
+
+
+def scanned(content: bytes, begin: int = 0) -> Tokens:
+    """The tokens of the bytes of a file."""
+    return Tokens(content.decode("latin-1"), begin)
