@@ -58,6 +58,7 @@ class Names:
                     files.add(file.name, file.bytes, byte, "table size")
                 self.variables.setdefault(variable.name, variable)
                 codes.add(variable.code)
+        self.plain = {word for word, variable in self.variables.items() if variable.size is None and not re.search("[a-z]", word)}
         for name, content, reader in files.files:
             for error, byte in reader.errors:
                 if error in self.errors:
@@ -69,10 +70,10 @@ class Names:
             for formula in reader.formulas:
                 if self.files.application in formula.applications and not formula.is_chained:
                     self.look_at_target(name, content, formula)
-                    self.look_at(name, content, formula.reads())
+                    self.look_at(name, content, formula)
             for check in reader.checks:
                 if self.files.application in check.applications:
-                    self.look_at(name, content, check.reads())
+                    self.look_at(name, content, check)
                     if check.error not in self.errors:
                         self.files.add(name, content, check.error_byte, f"unknown error {check.error}")
 
@@ -108,8 +109,12 @@ class Names:
             cell = "[0]" if formula.slot == "X" else "" if formula.slot is None else f"[{int(formula.slot)}]"
             self.files.add(name, content, formula.byte, f"defined twice {word}{cell}")
 
-    def look_at(self, name, content, reads):
-        for word, index, byte, round_it in reads:
+    def look_at(self, name, content, item):
+        """Looks at the names that a formula or a check reads."""
+        words = item.words()
+        if words is not None and self.plain.issuperset(words):
+            return
+        for word, index, byte, round_it in item.reads():
             for letters in instances(round_it, [word]):
                 one = replaced(word, letters)
                 fault = None if is_number(one) and index is None else self.name_fault(one, index is not None)

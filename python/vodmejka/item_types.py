@@ -32,17 +32,14 @@ class Unread:
     def read(self) -> Term:
         return Terms(self.tokens[self.begin : self.end]).term()
 
-    def has_sum(self) -> bool:
-        return self.tokens.letters.find("S", self.begin, self.end) >= 0
-
-    def words(self) -> Iterator[str]:
-        """The words that the term reads, without the indexes of a sum: for terms without sums."""
-        return (self.tokens.texts[found.start()] for found in READ.finditer(self.tokens.letters, self.begin, self.end))
+    def has(self, letter: str) -> bool:
+        """Whether a token of a class is in the term."""
+        return self.tokens.letters.find(letter, self.begin, self.end) >= 0
 
     def reads(self, headers: list[Header]) -> Iterator[Read]:
         """What `reads_of` gives of the term. Without sums these are its words in their order."""
         tokens = self.tokens
-        if self.has_sum():
+        if self.has("S"):
             yield from reads_of(self.read(), headers)
             return
         for found in READ.finditer(tokens.letters, self.begin, self.end):
@@ -77,7 +74,11 @@ class Formula:
 
     @property
     def has_sum(self) -> bool:
-        return not isinstance(self._term, Unread) or self._term.has_sum()
+        return has_sum(self._term)
+
+    def words(self) -> Iterator[str] | None:
+        """The names that the formula reads, in their order, where it reads no table and has no loop and no sum; None where it does."""
+        return None if self.loops else words_in(self._term)
 
     def reads(self, headers: list[Header] | None = None) -> Iterator[Read]:
         """The names and tables that the formula reads, with the loops round them: its own, or others that are given."""
@@ -99,7 +100,11 @@ class Check:
 
     @property
     def has_sum(self) -> bool:
-        return not isinstance(self._condition, Unread) or self._condition.has_sum()
+        return has_sum(self._condition)
+
+    def words(self) -> Iterator[str] | None:
+        """The names that the condition reads, in their order, where it reads no table and has no sum; None where it does."""
+        return words_in(self._condition)
 
     def reads(self) -> Iterator[Read]:
         """The names and tables that the condition reads."""
@@ -108,6 +113,18 @@ class Check:
 
 def read_term(term: Term | Unread) -> Term:
     return term.read() if isinstance(term, Unread) else term
+
+
+def has_sum(term: Term | Unread) -> bool:
+    """Whether a term has a sum, or may have one."""
+    return not isinstance(term, Unread) or term.has("S")
+
+
+def words_in(term: Term | Unread) -> Iterator[str] | None:
+    """The names that a term reads, where it reads no table and has no sum; None where it does, or was read already."""
+    if not isinstance(term, Unread) or term.has("[") or term.has("S"):
+        return None
+    return term.tokens.words(term.begin, term.end)
 
 
 def reads_in(term: Term | Unread, headers: list[Header]) -> Iterator[Read]:

@@ -244,11 +244,14 @@ class StatementReader(RuleReader):
         self._declared = list(declared)
 
     def piece(self) -> None:
-        if self.at >= self._tried:
+        """Takes all statements up to one that isn't recognized, and a piece of that."""
+        letters, count = self.tokens.letters, len(self.tokens)
+        while self._tried <= self.at < count:
             end = self._tried = self.tokens.after(self.at)
-            if end <= len(self.tokens) and self.statement(self.tokens.letters[self.at : end], end):
-                return
-        super().piece()
+            if end > count or not self.statement(letters[self.at : end], end):
+                break
+        if self.at < count or self.due:
+            super().piece()
 
     def statement(self, letters: str, end: int) -> bool:
         """Takes the statement up to a token, if it is recognized."""

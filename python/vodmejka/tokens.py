@@ -26,6 +26,7 @@ CLASSES = {
 KINDS = {TEXT: "text", WHOLE: "number", NUMBER: "number", **dict.fromkeys((LETTER, NAME, WORD), "word"),
          **{letter: "word" if word[0].isalpha() else "sign" for word, letter in CLASSES.items()}}
 WORDS = frozenset(letter for letter, kind in KINDS.items() if kind == "word")
+IS_WORD = bytes(chr(k) in (LETTER, NAME, WORD) for k in range(256))
 MOST_DIGITS = 9  # of a whole number in the grammar
 SHORT = 13  # the most characters of a number that can't be above the greatest amount
 
@@ -38,11 +39,10 @@ class Token:
 
 
 def class_of(text: str) -> str:
-    """The letter of a token, or BAD of bytes that begin none."""
-    known = CLASSES.get(text)
-    if known is not None:
-        return known
+    """The letter of a token that isn't in CLASSES, or BAD of bytes that begin none."""
     first = text[0]
+    if "A" <= first <= "Z":
+        return NAME if text.upper() == text else WORD
     if first == '"':
         return TEXT if len(text) > 1 else BAD
     if "0" <= first <= "9" and text.replace(".", "", 1).isdigit():
@@ -52,22 +52,30 @@ def class_of(text: str) -> str:
     return BAD
 
 
+class Letters(dict[str, str]):
+    """The letter of each distinct token."""
+
+    def __missing__(self, text: str) -> str:
+        letter = self[text] = class_of(text)
+        return letter
+
+
 class Pieces(dict[str, str]):
     """The class of each distinct piece, which is a token with the blanks after it; a comment has none. `texts` has the tokens without blanks."""
 
     def __init__(self) -> None:
         super().__init__()
         self.texts: dict[str, str] = {}
+        self.letters = Letters(CLASSES)
         self.has_comments = self.has_long_numbers = False
 
     def __missing__(self, piece: str) -> str:
         text = self.texts[piece] = piece.rstrip(BLANKS)
-        if text.startswith("#"):
-            self.has_comments, letter = True, ""
-        else:
-            letter = class_of(text)
-        self.has_long_numbers = self.has_long_numbers or letter == NUMBER and len(text) > SHORT
-        self[piece] = letter
+        letter = self[piece] = self.letters[text] if piece[0] != "#" else ""
+        if letter == "":
+            self.has_comments = True
+        elif letter == NUMBER and len(text) > SHORT:
+            self.has_long_numbers = True
         return letter
 
 
@@ -82,6 +90,7 @@ class Tokens(Sequence[Token]):
         self.texts = list(map(classes.texts.__getitem__, pieces))
         self.bytes = list(itertools.accumulate(map(len, pieces), initial=begin))
         self.end = self.bytes.pop()
+        self._is_word: bytes | None = None
         self.has_long_numbers = classes.has_long_numbers
         if classes.has_comments:
             self._keep([not text.startswith("#") for text in self.texts])
@@ -119,6 +128,12 @@ class Tokens(Sequence[Token]):
 
     def __iter__(self) -> Iterator[Token]:
         return (Token(KINDS[letter], text, byte) for letter, text, byte in zip(self.letters, self.texts, self.bytes))
+
+    def words(self, begin: int, end: int) -> Iterator[str]:
+        """The words that aren't reserved, from a token to a token."""
+        if self._is_word is None:
+            self._is_word = self.letters.encode().translate(IS_WORD)
+        return itertools.compress(self.texts[begin:end], self._is_word[begin:end])
 
     def after(self, at: int, sign: str = ";") -> int:
         """The number after the next token of a class, from a number on; one more than there are tokens where there is none."""

@@ -31,6 +31,7 @@ rule counts as no rule. The status is 0 where there is no slip, 1 where there is
 that the program refuses; tools/explain says more of it.
 """
 import decimal
+import itertools
 import os
 import re
 import sys
@@ -102,10 +103,10 @@ class Base:
             for formula in reader.formulas:
                 if self.source.application in formula.applications and not formula.is_chained:
                     self.look_at_target(formula)
-                    self.look_at(file, formula.reads())
+                    self.look_at(file, formula)
             for check in reader.checks:
                 if self.source.application in check.applications:
-                    self.look_at(file, check.reads())
+                    self.look_at(file, check)
 
     def look_at_target(self, formula):
         for letters in instances(formula.loops, [formula.target]):
@@ -113,8 +114,12 @@ class Base:
             size = self.sizes.get(name)
             self.set.update((name, k) for k in range(size or 0)) if formula.slot == "X" else self.set.add((name, formula.slot and int(formula.slot)))
 
-    def look_at(self, file, reads):
-        for word, index, byte, round_it in reads:
+    def look_at(self, file, item):
+        words = item.words()
+        if words is not None:
+            self.read.update(zip(words, itertools.repeat(None)))
+            return
+        for word, index, byte, round_it in item.reads():
             words = None if index is None else words_of(index)
             for letters in instances(round_it, [word, *(words or [])]):
                 name = replaced(word, letters)
