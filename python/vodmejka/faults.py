@@ -58,7 +58,9 @@ class Names:
                     files.add(file.name, file.bytes, byte, "table size")
                 self.variables.setdefault(variable.name, variable)
                 codes.add(variable.code)
-        self.plain = {word for word, variable in self.variables.items() if variable.size is None and not re.search("[a-z]", word)}
+        bound = {word: variable for word, variable in self.variables.items() if not re.search("[a-z]", word)}
+        self.plain = {word for word, variable in bound.items() if variable.size is None}
+        self.tables = bound.keys() - self.plain
         for name, content, reader in files.files:
             for error, byte in reader.errors:
                 if error in self.errors:
@@ -111,8 +113,8 @@ class Names:
 
     def look_at(self, name, content, item):
         """Looks at the names that a formula or a check reads."""
-        words = item.words()
-        if words is not None and self.plain.issuperset(words):
+        term = item.simple
+        if term is not None and self.plain.issuperset(term.names()) and self.tables.issuperset(term.tables()):
             return
         for word, index, byte, round_it in item.reads():
             for letters in instances(round_it, [word]):

@@ -8,7 +8,8 @@ from .grammar import Terms
 from .loops import Header, Read, Term, reads_of
 from .tokens import CELL, WORDS, Tokens
 
-READ = re.compile(r"[Nni]\[?")  # a word in the letters of a term, and whether an index follows
+# A word in the letters of a term, and whether an index follows; and one that an index follows.
+READ, CELL_READ = re.compile(r"[Nni]\[?"), re.compile(r"[Nni]\[")
 
 
 class Fault(NamedTuple):
@@ -36,16 +37,27 @@ class Unread:
         """Whether a token of a class is in the term."""
         return self.tokens.letters.find(letter, self.begin, self.end) >= 0
 
+    def names(self) -> Iterator[str]:
+        """The names that a term without sums reads, without those of tables, in their order."""
+        return self.tokens.names(self.begin, self.end)
+
+    def tables(self) -> Iterator[str]:
+        """The tables that a term without sums reads, in their order."""
+        return self.tokens.tables(self.begin, self.end)
+
+    def cells(self) -> Iterator[Read]:
+        """What `reads` gives of the tables of a term without sums and loops."""
+        return self.found(CELL_READ, []) if self.has("[") else iter(())
+
     def reads(self, headers: list[Header]) -> Iterator[Read]:
         """What `reads_of` gives of the term. Without sums these are its words in their order."""
+        return reads_of(self.read(), headers) if self.has("S") else self.found(READ, headers)
+
+    def found(self, form: re.Pattern[str], headers: list[Header]) -> Iterator[Read]:
         tokens = self.tokens
-        if self.has("S"):
-            yield from reads_of(self.read(), headers)
-            return
-        for found in READ.finditer(tokens.letters, self.begin, self.end):
-            at = found.start()
-            index = self.index(at + 2) if found.end() - at > 1 else None
-            yield tokens.texts[at], index, tokens.bytes[at], headers
+        for match in form.finditer(tokens.letters, self.begin, self.end):
+            at = match.start()
+            yield tokens.texts[at], self.index(at + 2) if match.end() - at > 1 else None, tokens.bytes[at], headers
 
     def index(self, at: int) -> Term:
         """The index of a table, which begins at a token."""
@@ -76,9 +88,10 @@ class Formula:
     def has_sum(self) -> bool:
         return has_sum(self._term)
 
-    def words(self) -> Iterator[str] | None:
-        """The names that the formula reads, in their order, where it reads no table and has no loop and no sum; None where it does."""
-        return None if self.loops else words_in(self._term)
+    @property
+    def simple(self) -> Unread | None:
+        """The term, where it isn't read yet, and it and the formula have no letters of loops; None of another one."""
+        return None if self.loops else simple(self._term)
 
     def reads(self, headers: list[Header] | None = None) -> Iterator[Read]:
         """The names and tables that the formula reads, with the loops round them: its own, or others that are given."""
@@ -102,9 +115,10 @@ class Check:
     def has_sum(self) -> bool:
         return has_sum(self._condition)
 
-    def words(self) -> Iterator[str] | None:
-        """The names that the condition reads, in their order, where it reads no table and has no sum; None where it does."""
-        return words_in(self._condition)
+    @property
+    def simple(self) -> Unread | None:
+        """The condition, where it isn't read yet and has no sum; None of another one."""
+        return simple(self._condition)
 
     def reads(self) -> Iterator[Read]:
         """The names and tables that the condition reads."""
@@ -120,11 +134,8 @@ def has_sum(term: Term | Unread) -> bool:
     return not isinstance(term, Unread) or term.has("S")
 
 
-def words_in(term: Term | Unread) -> Iterator[str] | None:
-    """The names that a term reads, where it reads no table and has no sum; None where it does, or was read already."""
-    if not isinstance(term, Unread) or term.has("[") or term.has("S"):
-        return None
-    return term.tokens.words(term.begin, term.end)
+def simple(term: Term | Unread) -> Unread | None:
+    return term if isinstance(term, Unread) and not term.has("S") else None
 
 
 def reads_in(term: Term | Unread, headers: list[Header]) -> Iterator[Read]:

@@ -69,9 +69,9 @@ class Formula:
 
     def reads(self, sizes: Mapping[str, int]) -> list[str]:
         """The cells that the formula reads, each once, in their order. `sizes` has the number of cells of each table."""
-        words = None if self.letters else self.formula.words()
-        if words is not None:
-            return list(dict.fromkeys(words))
+        term = None if self.letters else self.formula.simple
+        if term is not None and not term.has("["):
+            return list(dict.fromkeys(term.names()))
         found: dict[str, bool] = {}
         own = {letter: [(value, value)] for letter, value in self.letters.items()}
         loops = [list(own.items())] if own else []

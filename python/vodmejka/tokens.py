@@ -26,7 +26,9 @@ CLASSES = {
 KINDS = {TEXT: "text", WHOLE: "number", NUMBER: "number", **dict.fromkeys((LETTER, NAME, WORD), "word"),
          **{letter: "word" if word[0].isalpha() else "sign" for word, letter in CLASSES.items()}}
 WORDS = frozenset(letter for letter, kind in KINDS.items() if kind == "word")
+INDEXED = re.compile(r"[Nni](?=\[)")
 IS_WORD = bytes(chr(k) in (LETTER, NAME, WORD) for k in range(256))
+IS_ONE = bytes(k == 1 for k in range(256))
 MOST_DIGITS = 9  # of a whole number in the grammar
 SHORT = 13  # the most characters of a number that can't be above the greatest amount
 
@@ -86,17 +88,18 @@ class Tokens(Sequence[Token]):
     def __init__(self, text: str, begin: int = 0):
         begin += len(text) - begin - len(text[begin:].lstrip(BLANKS))
         pieces, classes = PIECE.findall(text, begin), Pieces()
-        self.letters = "".join(map(classes.__getitem__, pieces))
+        letters = list(map(classes.__getitem__, pieces))
+        self.letters = "".join(letters)
         self.texts = list(map(classes.texts.__getitem__, pieces))
         self.bytes = list(itertools.accumulate(map(len, pieces), initial=begin))
         self.end = self.bytes.pop()
-        self._is_word: bytes | None = None
+        self._names = self._tables = b""
         self.has_long_numbers = classes.has_long_numbers
         if classes.has_comments:
-            self._keep([not text.startswith("#") for text in self.texts])
+            self._keep(letters)
 
-    def _keep(self, flags: Sequence[bool]) -> None:
-        """Leaves out the texts and bytes whose flag is false."""
+    def _keep(self, flags: Sequence[object]) -> None:
+        """Leaves out the texts and bytes whose flag is false or empty."""
         self.texts = list(itertools.compress(self.texts, flags))
         self.bytes = list(itertools.compress(self.bytes, flags))
 
@@ -129,11 +132,17 @@ class Tokens(Sequence[Token]):
     def __iter__(self) -> Iterator[Token]:
         return (Token(KINDS[letter], text, byte) for letter, text, byte in zip(self.letters, self.texts, self.bytes))
 
-    def words(self, begin: int, end: int) -> Iterator[str]:
-        """The words that aren't reserved, from a token to a token."""
-        if self._is_word is None:
-            self._is_word = self.letters.encode().translate(IS_WORD)
-        return itertools.compress(self.texts[begin:end], self._is_word[begin:end])
+    def names(self, begin: int, end: int) -> Iterator[str]:
+        """The words that aren't reserved, from a token to a token, and have no index."""
+        if not self._names:
+            self._names = INDEXED.sub(".", self.letters).encode().translate(IS_WORD)
+        return itertools.compress(self.texts[begin:end], self._names[begin:end])
+
+    def tables(self, begin: int, end: int) -> Iterator[str]:
+        """The words with an index, from a token to a token."""
+        if not self._tables:
+            self._tables = INDEXED.sub("\x01", self.letters).encode().translate(IS_ONE)
+        return itertools.compress(self.texts[begin:end], self._tables[begin:end])
 
     def after(self, at: int, sign: str = ";") -> int:
         """The number after the next token of a class, from a number on; one more than there are tokens where there is none."""

@@ -115,11 +115,10 @@ class Base:
             self.set.update((name, k) for k in range(size or 0)) if formula.slot == "X" else self.set.add((name, formula.slot and int(formula.slot)))
 
     def look_at(self, file, item):
-        words = item.words()
-        if words is not None:
-            self.read.update(zip(words, itertools.repeat(None)))
-            return
-        for word, index, byte, round_it in item.reads():
+        term = item.simple
+        if term is not None:
+            self.read.update(zip(term.names(), itertools.repeat(None)))
+        for word, index, byte, round_it in item.reads() if term is None else term.cells():
             words = None if index is None else words_of(index)
             for letters in instances(round_it, [word, *(words or [])]):
                 name = replaced(word, letters)
