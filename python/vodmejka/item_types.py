@@ -13,7 +13,7 @@ READ, CELL_READ = re.compile(r"[Nni]\[?"), re.compile(r"[Nni]\[")
 
 
 class Fault(NamedTuple):
-    """A fault of a file: what the program calls it, the byte, what stands there, what could, and what may help."""
+    """A fault of a file: its name in the program, the byte, the token there, the tokens that would be accepted, and a hint."""
 
     what: str
     byte: int
@@ -77,7 +77,8 @@ class Formula:
     __slots__ = ("applications", "is_chained", "loops", "target", "slot", "_term", "byte")
 
     def __init__(self, applications: list[str], is_chained: bool, loops: list[Header], target: str, slot: str | None, term: Term | Unread, byte: int):
-        self.applications, self.is_chained, self.loops, self.target, self.slot, self._term, self.byte = applications, is_chained, loops, target, slot, term, byte
+        self.applications, self.is_chained, self.loops = applications, is_chained, loops
+        self.target, self.slot, self._term, self.byte = target, slot, term, byte
 
     @property
     def term(self) -> Term:

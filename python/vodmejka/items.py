@@ -1,7 +1,7 @@
-"""The grammar of rule files, as docs/LANGUAGE.md has it, for tools: the items of a file, and all its faults, each at the token that can't stand there.
+"""The grammar of rule files (docs/LANGUAGE.md): the items of a file, and all its faults, each at the token that no rule takes.
 
-The program names the place after the longest prefix that is whole items. This reading goes on to the farthest token that no rule can take, says what could
-stand there, and then goes on after the next `;`, so that it finds the faults after the first one too.
+The program reports the place after the longest prefix of whole items. This reader reports the farthest token that no rule takes, and those that one would
+take, and continues after the next `;`, so that it finds the later faults too.
 """
 from __future__ import annotations
 
@@ -51,17 +51,17 @@ class RuleReader(Terms):
         self.faults.append(Fault("syntax", token.byte, found, self.wants(), self.hint or self.guess()))
 
     def guess(self) -> str:
-        """What may help, by what stands round the place."""
-        token, before, behind = self.peek(), self.peek(-1) if self.at else self.end, self.peek(1)
-        if token.text == "," and before.kind == "number" and behind.kind == "number":
-            return said("help.decimal", number=f"{before.text}.{behind.text}")
-        if token.text == "/" and behind.text in ("/", "*"):
+        """A hint, by the tokens around the place."""
+        token, before, after = self.peek(), self.peek(-1) if self.at else self.end, self.peek(1)
+        if token.text == "," and before.kind == "number" and after.kind == "number":
+            return said("help.decimal", number=f"{before.text}.{after.text}")
+        if token.text == "/" and after.text in ("/", "*"):
             return "a comment begins with #"
         for one in (token, before):
             word = meant(one.text) if one.kind == "word" and one.text not in RESERVED else None
             if word and (one is token or word in ("si", "non", "somme")):
                 return said("help.writes", right=word, wrong=one.text)
-        begins = token.kind == "end" or token.text in ("regle", "verif", "si", "pour") or self.is_word() and behind.text in ("=", ":", "[")
+        begins = token.kind == "end" or token.text in ("regle", "verif", "si", "pour") or self.is_word() and after.text in ("=", ":", "[")
         if ":" in self.wanted and begins:
             return "a : is missing before it"
         if ";" in self.wanted and begins:
@@ -292,7 +292,8 @@ class StatementReader(RuleReader):
     def take_check(self, found: Statement) -> None:
         tokens, at = self.tokens, self.at
         error = at + found.end + 2
-        self.checks.append(Check(self.applications, Unread(tokens, at + found.begin, at + found.end), tokens.texts[error], tokens.bytes[error], tokens.bytes[at]))
+        condition = Unread(tokens, at + found.begin, at + found.end)
+        self.checks.append(Check(self.applications, condition, tokens.texts[error], tokens.bytes[error], tokens.bytes[at]))
         self.due = False
 
     def take_declaration(self, letters: str, end: int) -> None:

@@ -28,7 +28,7 @@ OPENED = re.compile("[^RV]+")
 
 
 def quick_tokens(content: bytes, byte: int, tokens: list[Token], most: int = sys.maxsize) -> int:
-    """Adds tokens up to the first byte that begins none, until there are so many; the byte behind the last one comes back."""
+    """Adds tokens up to the first byte that begins none, until there are so many; gives the byte after the last one."""
     # (a scanner matches where the match before it ended, and never searches: blanks at a file's end are read once)
     matches: Iterator[re.Match[bytes]] = iter(AFTER_GAPS.scanner(content, byte).match, None)  # type: ignore[attr-defined]
     for match in itertools.islice(matches, most - len(tokens)):
@@ -97,8 +97,8 @@ def too_great(tokens: Iterable[Token]) -> list[Fault]:
 def take_tokens(
     content: bytes, byte: int, tokens: list[Token], faults: list[Fault], most: int = sys.maxsize, is_cut: bool = False
 ) -> int:
-    """Adds the tokens from a byte on, until there are so many, and the faults of the bytes among them. The byte behind them comes back. With `is_cut` a text
-    that isn't closed in its line ends there, so that what stands behind an open text can be read."""
+    """Adds the tokens from a byte on, until there are so many, and the faults of the bytes among them. Gives the byte after them. With `is_cut` a text
+    that isn't closed in its line ends there, so that the tokens after it can be read."""
     while byte < len(content) and len(tokens) < most:
         if not is_cut:
             known = len(tokens)

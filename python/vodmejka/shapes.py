@@ -34,7 +34,7 @@ ERROR = re.compile(rf"ar{ANY_WORD}+;\Z")
 
 
 class Statement(NamedTuple):
-    """What a statement is, and the numbers of tokens within it: where the target of a formula stands, and where the term begins and ends."""
+    """The kind of a statement, and numbers of tokens within it: of the target of a formula, and of the begin and the end of the term."""
 
     kind: str
     target: int = 0

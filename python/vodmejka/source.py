@@ -1,7 +1,6 @@
-"""What the tools know of lists and of rule files: names, applications and places. The grammar stands in docs/LANGUAGE.md.
+"""Lists and rule files as the tools read them: names, applications and places. The grammar is in docs/LANGUAGE.md.
 
-These tools read files that the program accepts, and look at the heads of items alone: what a formula says is passed over. A byte order mark is passed over
-too; `slips` and `explain` tell it. grammar.py reads formulas.
+Only the heads of items are read, and formulas are skipped. A byte order mark is skipped too; `slips` and `explain` report it. grammar.py reads formulas.
 """
 from __future__ import annotations
 
@@ -33,10 +32,10 @@ QUOTE = '"'
 NUMBER_OR_COLON = re.compile("[01:]")
 PIPED: dict[str, bytes] = {}
 WAITING: list[int] = []
-BEGIN = 0  # stands before the signals that wait
+BEGIN = 0  # is before the signals that wait
 MASK = os.umask(0o077)  # what the user keeps from others in new files
 os.umask(MASK)
-# Signals that end a tool, beside SIGINT.
+# Signals that end a tool, with SIGINT.
 ENDING = (signal.SIGHUP, signal.SIGTERM, signal.SIGQUIT, signal.SIGXCPU, signal.SIGUSR1, signal.SIGUSR2, signal.SIGALRM)
 MARKED = "; it begins with a byte order mark: save it as UTF-8 without one"
 
@@ -58,7 +57,7 @@ class Pipes:
 
 
 class Input(io.RawIOBase):
-    """The standard input, of which a read that fails is told as that, and not as a fault of the output."""
+    """The standard input. A read that fails is reported as such, and not as a fault of the output."""
 
     def readable(self) -> bool:
         return True
@@ -78,7 +77,7 @@ def standard_input() -> io.BufferedReader:
 @dataclasses.dataclass(slots=True)
 class Variable:
     """A declaration. `size` is the number of cells of a table, and None of another variable; `words` are the attributes without a number, `numbered`
-    those with one, each with its byte, and `numbers` the number of each, the last where one stands twice. `text` and `type` are the description
+    those with one, each with its byte, and `numbers` the number of each, the last if a word occurs twice. `text` and `type` are the description
     and the type after it; of a constant `text` is its number. `at` is the number of its first token."""
 
     file: RuleFile
@@ -342,7 +341,7 @@ def stopped(number: int, _frame: object = None) -> None:
 
 @contextlib.contextmanager
 def unbroken() -> Iterator[None]:
-    """What a signal doesn't break off: it ends the tool behind it. (Signals are the main thread's.)"""
+    """A block that no signal interrupts: the tool ends after it. (Signals are the main thread's.)"""
     is_main = threading.current_thread() is threading.main_thread()
     if is_main:
         WAITING.append(BEGIN)
