@@ -352,7 +352,8 @@ done
 mkdir -p "$dir/old/crates/any/proofs"
 aged() { find "$dir/old/crates" "$dir/old/crates.txt" -exec touch -d '2000-01-01' {} + && touch -d '2000-01-02' "$dir/old/out/built"; }
 for change in 'echo >>src/file' 'echo >>src/below/file' 'echo >>specs/file' 'echo >>specs/below/file' ': >src/other' 'rm src/other' ': >src/below/other' \
-    ': >specs/other' 'rm specs/other' ': >specs/below/other' 'mkdir src/new' 'mv specs/below/file specs/moved' 'mkdir -p ../new/src' 'mkdir -p ../new/specs' \
+    ': >specs/other' 'rm specs/other' ': >specs/below/other' 'mkdir src/new' 'mv specs/below/file specs/moved' 'mkdir -p ../new/src' \
+    'mkdir -p ../new/specs' \
     'echo >>../../crates.txt' 'mv ../../crates.txt ../../old.txt && : >../../crates.txt'; do
     aged
     (cd "$dir/old/crates/any" && eval "$change")

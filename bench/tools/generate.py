@@ -30,7 +30,8 @@ def operand(chance, k, depth):
     if depth and chance.random() < 0.3:
         inner = lambda: term(chance, k, depth - 1)
         return chance.choice((
-            lambda: f"({inner()})", lambda: f"max({inner()}, {inner()})", lambda: f"min({inner()}, {inner()})", lambda: f"arr({inner()})", lambda: f"abs({inner()})",
+            lambda: f"({inner()})", lambda: f"max({inner()}, {inner()})", lambda: f"min({inner()}, {inner()})", lambda: f"arr({inner()})",
+            lambda: f"abs({inner()})",
             lambda: f"si ({inner()} > {inner()}) alors ({inner()}) sinon {inner()} finsi", lambda: f"positif({inner()})"))()
     return chance.choice((
         lambda: f"I{chance.randrange(400):03}", lambda: f"C{chance.randrange(200):03}", lambda: str(chance.randrange(1000)), lambda: f"{chance.random():.3f}",
@@ -56,7 +57,8 @@ def varied():
     lines += ["regle 900001 : application : iliad , batch ;"]
     lines += [f"T{k:03}[X] = X * 0.{k % 9 + 1} ;" for k in range(200)]
     for k in range(RULES):
-        lines += ([f"# {k}: commentaire de la règle"] if k % 3 == 0 else []) + [f"regle {k + 1} : application : iliad{' , batch' if k % 2 else ''} ;", formula(chance, k)]
+        lines += [f"# {k}: commentaire de la règle"] if k % 3 == 0 else []
+        lines += [f"regle {k + 1} : application : iliad{' , batch' if k % 2 else ''} ;", formula(chance, k)]
         if k % 50 == 0:
             lines.append(f"pour i = V,C : W{k // 50:03}i = somme(j=001..004: I{k // 50 % 10 * 10 % 90:03}i * j) + max(0, C{k % 200:03}) ;")
     for k in range(1_000):

@@ -1,7 +1,7 @@
 #!/usr/bin/env python3
 """Times explain, slips and why on two bases of 20,000 rules, compared with a plain read of the same files to tokens.
 
-    measure.py
+    measure.py [RUNS]
 
 `alike` is the base of tests/tools/many_rules.py, whose formulas have one form; in `varied` no two of the long formulas have the same form, and there are
 tables, loops, sums, conditionals, verifications and comments (generate.py). A script is run in place of the program and answers at once, so that only the
@@ -19,7 +19,7 @@ from generate import alike, varied  # noqa: E402
 from measured import figure, machine  # noqa: E402
 
 ROOT = os.path.dirname(os.path.dirname(HERE))
-RUNS = 5
+RUNS = int(sys.argv[1]) if len(sys.argv) > 1 else 5
 MOST = 3
 PLAIN = r"""
 import re, sys
