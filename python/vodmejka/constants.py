@@ -56,7 +56,7 @@ def places_of(files: Iterable[source.RuleFile]) -> Places:
                 continue
             name, after = token.text, at + 1
             if file.text(after) == "[" and file.text(after + 2) == "]":
-                name, behind = f"{name}[{file.text(after + 1)}]", after + 3
+                name, after = f"{name}[{file.text(after + 1)}]", after + 3
             elif file.text(after) == ":" and file.text(after + 1) == "const":
                 after += 2
             if file.text(after) == "=":

@@ -2,7 +2,7 @@
 from __future__ import annotations
 
 import re
-from typing import Any, Iterator, NamedTuple, Union
+from typing import Iterator, NamedTuple
 
 from .grammar import Terms
 from .loops import Header, Read, Term, reads_of

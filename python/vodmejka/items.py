@@ -13,7 +13,7 @@ from .item_types import Check, Declaration, Fault, Formula, Unread
 from .loops import whole
 from .scanning import deep_fault, take_tokens, too_deep, tokens_of  # noqa: F401
 from .scanning import numbers_too_great
-from .shapes import CHECK, DECLARATION, FORMULA, HEAD, OTHER, Statement, statement_of
+from .shapes import CHECK, DECLARATION, FORMULA, OTHER, Statement, statement_of
 from .texts import said
 from .tokens import Token, Tokens
 
