@@ -11,7 +11,7 @@ from typing import Sequence
 from .grammar import RESERVED, VALUE, Stuck, Terms, meant
 from .item_types import Check, Declaration, Fault, Formula, Unread
 from .loops import whole
-from .scanning import deep_fault, take_tokens, too_deep, tokens_of  # noqa: F401
+from .scanning import BLANKS, SIGNS, deep_fault, take_tokens, too_deep, tokens_of  # noqa: F401
 from .scanning import numbers_too_great
 from .shapes import CHECK, DECLARATION, FORMULA, OTHER, Statement, statement_of
 from .texts import said
