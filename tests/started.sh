@@ -351,11 +351,27 @@ for part in src src/below specs specs/below; do
 done
 mkdir -p "$dir/old/crates/any/proofs"
 aged() { find "$dir/old/crates" "$dir/old/crates.txt" -exec touch -d '2000-01-01' {} + && touch -d '2000-01-02' "$dir/old/out/built"; }
-for change in 'echo >>src/file' 'echo >>src/below/file' 'echo >>specs/file' 'echo >>specs/below/file' ': >src/other' 'rm src/other' 'echo >>../../crates.txt'; do
+for change in 'echo >>src/file' 'echo >>src/below/file' 'echo >>specs/file' 'echo >>specs/below/file' ': >src/other' 'rm src/other' ': >src/below/other' \
+    ': >specs/other' 'rm specs/other' ': >specs/below/other' 'mkdir src/new' 'mv specs/below/file specs/moved' 'mkdir -p ../new/src' \
+    'mkdir -p ../new/specs' \
+    'echo >>../../crates.txt' 'mv ../../crates.txt ../../old.txt && : >../../crates.txt'; do
     aged
     (cd "$dir/old/crates/any" && eval "$change")
     "$dir/old/m_tax" run >"$dir/out" 2>"$dir/err"
     judge "$?" 6 "program: run" "newer by $change" "m_tax: the sources are newer than the program; this is the program as ./build proved it last"
+done
+# The look doesn't depend on where the script is called from, nor on how its name is written.
+mkdir "$dir/far" "$dir/far/links"
+ln -s ../../old/m_tax "$dir/far/links/m_tax"
+ln -s "$dir/far/links" "$dir/there"
+ln -s there/m_tax "$dir/again"
+for call in 'old/m_tax' './old/m_tax' 'sh old/m_tax' 'there/m_tax' './again' "$dir/old/m_tax" "$dir/again"; do
+    aged
+    (cd "$dir" && eval "CDPATH=$dir:$dir/far $call run") >"$dir/out" 2>"$dir/err"
+    judge "$?" 6 "program: run" "$call, nothing newer"
+    echo >>"$dir/old/crates/any/specs/below/file"
+    (cd "$dir" && eval "CDPATH=$dir:$dir/far $call run") >"$dir/out" 2>"$dir/err"
+    judge "$?" 6 "program: run" "$call, a newer file" "m_tax: the sources are newer than the program; this is the program as ./build proved it last"
 done
 aged
 : >"$dir/old/crates/any/proofs/file"
@@ -379,7 +395,7 @@ judge "$?" 5 "survey: table" "sources that are newer than m_survey" \
 rm "$dir/old/out/built"
 "$dir/old/m_tax" run "a b" >"$dir/out" 2>"$dir/err"
 judge "$?" 6 "program: run a b" "a build that was ended" \
-    "m_tax: nothing tells whether the program is of these sources, since ./build was ended; ./build goes on"
+    "m_tax: it isn't known whether the program is of these sources, since ./build was interrupted; ./build goes on"
 
 # ./build through a symbolic link finds no crates in the link's folder, and makes nothing there.
 mkdir "$dir/links"

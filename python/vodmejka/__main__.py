@@ -13,10 +13,10 @@ def main() -> None:
     if name in commands.names():
         del sys.argv[1]
         commands.run(name)
-    print("usage: vodmejka NAME ..; each of these says more by --help:", file=sys.stdout if name == "--help" else sys.stderr)
+    print("usage: vodmejka NAME ..; each has --help:", file=sys.stdout if name == "--help" else sys.stderr)
     for known in commands.names():
-        said = importlib.import_module(f"{commands.__name__}.{known.replace('-', '_')}").__doc__ or ""
-        print(f"  {known:12} {said.splitlines()[0] if said else ''}", file=sys.stdout if name == "--help" else sys.stderr)
+        text = importlib.import_module(f"{commands.__name__}.{known.replace('-', '_')}").__doc__ or ""
+        print(f"  {known:12} {text.splitlines()[0] if text else ''}", file=sys.stdout if name == "--help" else sys.stderr)
     sys.exit(0 if name == "--help" else 2)
 
 

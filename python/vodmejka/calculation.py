@@ -37,7 +37,7 @@ class Cells:
         for variable in base.variables:
             self.first[variable.name] = len(self.names)
             self.names += [variable.name] if variable.size is None else [f"{variable.name}[{k}]" for k in range(variable.size)]
-        self.constants = {self.first[name]: operators.read_amount(variable.told) for name, variable in self.variables.items() if variable.kind == "const"}
+        self.constants = {self.first[name]: operators.read_amount(variable.text) for name, variable in self.variables.items() if variable.kind == "const"}
 
     def number(self, name: str, index: int | None) -> int:
         return self.first[name] + (index or 0)

@@ -9,8 +9,9 @@ from . import items, source
 from .limits import AMOUNT
 
 Piece = tuple[int, int, str]
-"""A piece of a file: its first byte, its end, and how what stands there is spelled."""
+"""A piece of a file: its first byte, its end, and its text."""
 Places = dict[str, list[tuple[source.RuleFile, "Piece | None", int, bool]]]
+LITERAL = re.compile("-?[01];")
 NUMBER = re.compile(r"-?([0-9]+)(?:\.[0-9]+)?")
 
 
@@ -25,25 +26,24 @@ def spelled(value: str) -> bool:
 
 
 def whole(value: str) -> str:
-    """A number in the one spelling that stands for all of its spellings."""
+    """The canonical spelling of a number."""
     sign, digits = ("-", value[1:]) if value.startswith("-") else ("", value)
-    before, _, behind = digits.partition(".")
-    number = f"{before.lstrip('0')}.{behind.rstrip('0')}"
+    before, _, after = digits.partition(".")
+    number = f"{before.lstrip('0')}.{after.rstrip('0')}"
     return number if number == "." else sign + number
 
 
 def literal_at(file: source.RuleFile, at: int) -> Piece | None:
-    """The number that stands from a token on up to a `;`: its first byte, its end and its spelling; or None."""
-    minus = file.text(at) == "-"
-    number = at + 1 if minus else at
-    if number >= len(file.tokens) or file.tokens[number].kind != "number" or file.text(number + 1) != ";":
+    """The number from a token to a `;`: its first byte, its end and its text; None of anything else."""
+    literal = LITERAL.match(file.tokens.letters, at)
+    if literal is None:
         return None
-    end = file.tokens[number].byte + len(file.text(number))
-    return file.tokens[at].byte, end, ("-" if minus else "") + file.text(number)
+    last = literal.end() - 2
+    return file.tokens.bytes[at], file.tokens.bytes[last] + len(file.text(last)), "".join(file.tokens.texts[at : last + 1])
 
 
 def is_target(file: source.RuleFile, at: int) -> bool:
-    """Whether a formula or a declaration may begin at a token: what stands before ended something."""
+    """Whether a formula or a declaration may begin at a token: it is the first, or after `;` or `:`."""
     return at == 0 or file.text(at - 1) in (";", ":")
 
 
@@ -54,14 +54,14 @@ def places_of(files: Iterable[source.RuleFile]) -> Places:
         for at, token in enumerate(file.tokens):
             if token.kind != "word" or not is_target(file, at):
                 continue
-            name, behind = token.text, at + 1
-            if file.text(behind) == "[" and file.text(behind + 2) == "]":
-                name, behind = f"{name}[{file.text(behind + 1)}]", behind + 3
-            elif file.text(behind) == ":" and file.text(behind + 1) == "const":
-                behind += 2
-            if file.text(behind) == "=":
+            name, after = token.text, at + 1
+            if file.text(after) == "[" and file.text(after + 2) == "]":
+                name, after = f"{name}[{file.text(after + 1)}]", after + 3
+            elif file.text(after) == ":" and file.text(after + 1) == "const":
+                after += 2
+            if file.text(after) == "=":
                 is_const = file.text(at + 1) == ":"
-                places.setdefault(name, []).append((file, literal_at(file, behind + 1), token.byte, is_const))
+                places.setdefault(name, []).append((file, literal_at(file, after + 1), token.byte, is_const))
     return places
 
 
@@ -89,7 +89,7 @@ def change_of(places: Places, name: str, value: str, application: str) -> tuple[
 
 
 def changed(text: bytes, pieces: Iterable[Piece]) -> bytes:
-    """A text with pieces of it replaced: each has its first byte, its end and what stands there now."""
+    """A text with pieces of it replaced: each has its first byte, its end and its new text."""
     parts: list[bytes] = []
     at = 0
     for begin, end, value in sorted(pieces):

@@ -52,7 +52,7 @@ class Copies:
             raise Wrong(f"{runs.program_path()}: {fault.strerror}", 3) from fault
 
     def values(self, cells: list[str], driver: str | None = None, household: str | None = None) -> dict[str, str]:
-        """The values of cells after a run, as they are printed: `= 3`, `undefined` or `over`."""
+        """The values of cells after a run, as the program prints them: `= 3`, `undefined` or `over`."""
         requests = self.put("requests.txt", "".join(cell + "\n" for cell in cells).encode("utf-8", "surrogateescape"))
         text, status = self.ask("run", self.list, driver or self.driver, requests, household or self.household)
         lines = text.decode("latin-1").split("\n")
@@ -61,13 +61,13 @@ class Copies:
         if status != 0:
             line = self.told(runs.fault_of(text, status))
             raise Wrong(said("why.no_name", line=line) if line.startswith("refused requests line") else line, 3 if status == 3 else 1)
-        told = lines[:-1][-len(cells) :] if cells else []
-        if [line.split(" ")[0] for line in told] != cells:
+        printed = lines[:-1][-len(cells) :] if cells else []
+        if [line.split(" ")[0] for line in printed] != cells:
             raise Wrong(said("why.no_lines"))
-        return dict(line.split(" ", 1) for line in told)
+        return dict(line.split(" ", 1) for line in printed)
 
     def reported(self, cell: str) -> dict[str, str]:
-        """The report of a cell, as a session prints it, also if a verification stops the call; empty if no cell has the name."""
+        """The report of a cell by a session, also if a verification stops the call; nothing if no cell has the name."""
         text, status = self.ask("serve", self.list, "-", "-", self.household, given=f"why {cell}\n".encode("utf-8", "surrogateescape"))
         lines = text.decode("latin-1").split("\n")
         if status != 0 or len(lines) < 3 or lines[-2] != "." or lines[-3].split(" ")[0] != cell:
@@ -75,7 +75,7 @@ class Copies:
         return dict(line.split(" ", 1) for line in lines[:-2])
 
     def value_unstopped(self, cell: str) -> str | None:
-        """The value that the rules give a cell in one call, also where a verification stops that call; nothing where no cell has the name."""
+        """The value of a cell after one call of the rules, also if a verification stops that call; nothing if no cell has the name."""
         return self.reported(cell).get(cell)
 
 

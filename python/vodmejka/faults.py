@@ -6,7 +6,7 @@ import re
 from typing import NamedTuple
 
 from . import drivers, items, source
-from .loops import instances, is_number, is_repeated, reads_of, replaced
+from .loops import instances, is_number, is_repeated, replaced
 
 
 UNREADABLE = ("syntax", "open string", "bad byte", "too deep")
@@ -49,7 +49,7 @@ class Names:
         self.variables, self.errors, self.done, codes = {}, set(), set(), set()
         for file in (heads[name] for name in files.listed):
             for variable in file.variables:
-                byte = int(variable.place.rsplit(" ", 1)[1])
+                byte = variable.byte
                 if variable.name in self.variables:
                     files.add(file.name, file.bytes, byte, f"declared twice {variable.name}")
                 elif variable.code is not None and variable.code in codes:
@@ -58,6 +58,9 @@ class Names:
                     files.add(file.name, file.bytes, byte, "table size")
                 self.variables.setdefault(variable.name, variable)
                 codes.add(variable.code)
+        bound = {word: variable for word, variable in self.variables.items() if not re.search("[a-z]", word)}
+        self.plain = {word for word, variable in bound.items() if variable.size is None}
+        self.tables = bound.keys() - self.plain
         for name, content, reader in files.files:
             for error, byte in reader.errors:
                 if error in self.errors:
@@ -69,10 +72,10 @@ class Names:
             for formula in reader.formulas:
                 if self.files.application in formula.applications and not formula.is_chained:
                     self.look_at_target(name, content, formula)
-                    self.look_at(name, content, formula.term, formula.loops)
+                    self.look_at(name, content, formula)
             for check in reader.checks:
                 if self.files.application in check.applications:
-                    self.look_at(name, content, check.condition, [])
+                    self.look_at(name, content, check)
                     if check.error not in self.errors:
                         self.files.add(name, content, check.error_byte, f"unknown error {check.error}")
 
@@ -108,8 +111,12 @@ class Names:
             cell = "[0]" if formula.slot == "X" else "" if formula.slot is None else f"[{int(formula.slot)}]"
             self.files.add(name, content, formula.byte, f"defined twice {word}{cell}")
 
-    def look_at(self, name, content, term, loops):
-        for word, index, byte, round_it in reads_of(term, loops):
+    def look_at(self, name, content, item):
+        """Looks at the names that a formula or a check reads."""
+        term = item.simple
+        if term is not None and self.plain.issuperset(term.names()) and self.tables.issuperset(term.tables()):
+            return
+        for word, index, byte, round_it in item.reads():
             for letters in instances(round_it, [word]):
                 one = replaced(word, letters)
                 fault = None if is_number(one) and index is None else self.name_fault(one, index is not None)

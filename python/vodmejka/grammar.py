@@ -1,5 +1,4 @@
-"""The grammar of headers and terms of rule files, as docs/LANGUAGE.md has it, and what a reading keeps: the token at which it can't go on, and what could
-stand there."""
+"""The grammar of headers and terms of rule files (docs/LANGUAGE.md). After a fault it has the token that no rule takes, and those that one would take."""
 from __future__ import annotations
 
 import re
@@ -54,7 +53,7 @@ def no_function(word: str) -> str:
 
 
 class Reader:
-    """Takes tokens one after the other, and keeps what is expected in the place of the next one."""
+    """Takes tokens one after the other, and records which would be accepted next."""
 
     def __init__(self, tokens: list[source.Token]):
         self.tokens, self.at, self.hint = tokens, 0, ""
@@ -68,11 +67,11 @@ class Reader:
             return self.end
 
     def want(self, *what: str) -> None:
-        """Notes what is expected here; one word may be noted several times."""
+        """Records what would be accepted here; duplicates are possible."""
         self.wanted += what
 
     def wants(self) -> tuple[str, ...]:
-        """What is expected here, each once."""
+        """What would be accepted here, each once."""
         return tuple(dict.fromkeys(self.wanted))
 
     def step(self) -> source.Token:

@@ -1,12 +1,10 @@
-"""What helps beyond the sentence of a fault: the name that was meant, where the first of two stands, the letter that no loop binds, the size of a table, the
-places of a cycle."""
+"""Hints for a fault: the name that was meant, the place of the first of two, the letter that no loop binds, the size of a table, the places of a cycle."""
 from __future__ import annotations
 
 import re
 from functools import cached_property
 
 from . import drivers, items, source
-from .loops import reads_of
 from .reasons import Rules
 from .texts import said
 
@@ -14,7 +12,7 @@ MOST_CHANGES = 2
 
 
 def distance(one: str, other: str, most: int) -> int:
-    """How many letters are to be changed, put in, left out or exchanged with the next, at most one more than `most`."""
+    """The number of letters to change, insert, delete or swap with the next, at most one more than `most`."""
     if abs(len(one) - len(other)) > most:
         return most + 1
     before, last = [], list(range(len(other) + 1))
@@ -44,7 +42,7 @@ def nearest(word: str, names) -> str | None:
 
 
 class Hints:
-    """What a list and its files declare, read when it is asked for first."""
+    """The declarations of a list and its files. They are read when a hint needs them."""
 
     def __init__(self, list_name: str | None, driver: str | None = None):
         self.list_name, self.driver = list_name, driver
@@ -63,7 +61,7 @@ class Hints:
         return [(error, line_of(file, byte)) for file in self.base.files for error, byte in self.readers[file.name].errors]
 
     def more(self, what: str, name: str | None = None, byte: int | None = None) -> str:
-        """What helps with a fault, by what the program calls it; nothing where nothing does, or the files can't be read."""
+        """The hint for a fault, by its name in the program; nothing if there is none, or if the files can't be read."""
         kind, _, word = what.rpartition(" ")
         known = {"unknown name": self.meant, "unknown error": self.error_meant, "declared twice": self.declared, "alias twice": self.coded,
                  "defined twice": self.defined, "bad target": self.target, "unknown": self.in_driver, "function twice": self.function}
@@ -92,14 +90,14 @@ class Hints:
         return said("hint.meant", name=found) if found else ""
 
     def declared(self, word, name, byte) -> str:
-        places = [line_of(file, byte_of(variable)) for file in self.base.files for variable in file.variables
-                  if variable.name == word and (file.name, byte_of(variable)) != (name, byte)]
+        places = [line_of(file, variable.byte) for file in self.base.files for variable in file.variables
+                  if variable.name == word and (file.name, variable.byte) != (name, byte)]
         places += [place for error, place in self.errors if error == word]
         return said("hint.first", place=places[0]) if places else ""
 
     def coded(self, word, name, byte) -> str:
-        places = [(variable.name, line_of(file, byte_of(variable))) for file in self.base.files for variable in file.variables
-                  if variable.code == word and (file.name, byte_of(variable)) != (name, byte)]
+        places = [(variable.name, line_of(file, variable.byte)) for file in self.base.files for variable in file.variables
+                  if variable.code == word and (file.name, variable.byte) != (name, byte)]
         return said("hint.first_input", name=places[0][0], place=places[0][1]) if places else ""
 
     def defined(self, word, name, byte) -> str:
@@ -118,14 +116,14 @@ class Hints:
         """The letters of the word at a byte that no loop round it binds."""
         reader = items.read(source.fetch(name))[0] if self.list_name is None else self.readers.get(name)
         for formula in reader.formulas if reader else ():
-            reads = [(formula.target, None, formula.byte, formula.loops), *reads_of(formula.term, formula.loops)]
+            reads = [(formula.target, None, formula.byte, formula.loops), *formula.reads()]
             for word, _, at, round_it in reads:
                 if at == byte:
-                    return told_letters(word, {letter for header in round_it for letter, _ in header})
+                    return free_letters(word, {letter for header in round_it for letter, _ in header})
         for check in reader.checks if reader else ():
-            for word, _, at, round_it in reads_of(check.condition, []):
+            for word, _, at, round_it in check.reads():
                 if at == byte:
-                    return told_letters(word, {letter for header in round_it for letter, _ in header})
+                    return free_letters(word, {letter for header in round_it for letter, _ in header})
         return ""
 
     def in_driver(self, word, _name=None, _byte=None) -> str:
@@ -147,14 +145,10 @@ class Hints:
         return " → ".join(f"{cell} ({place})" for cell, place in zip(cells, places)) if len(places) == len(cells) else ""
 
 
-def told_letters(word: str, bound: set[str]) -> str:
+def free_letters(word: str, bound: set[str]) -> str:
     """The small letters of a word that aren't bound."""
     free = list(dict.fromkeys(letter for letter in word if letter.islower() and letter not in bound))
     return said("hint.letter" if len(free) == 1 else "hint.letters", letters=", ".join(free), word=word) if free else ""
-
-
-def byte_of(variable: source.Variable) -> int:
-    return int(variable.place.rsplit(" ", 1)[1])
 
 
 def line_of(file: source.RuleFile, byte: int) -> str:

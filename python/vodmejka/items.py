@@ -1,84 +1,29 @@
-"""The grammar of rule files, as docs/LANGUAGE.md has it, for tools: the items of a file, and all its faults, each at the token that can't stand there.
+"""The grammar of rule files (docs/LANGUAGE.md): the items of a file, and all its faults, each at the token that no rule takes.
 
-The program names the place after the longest prefix that is whole items. This reading goes on to the farthest token that no rule can take, says what could
-stand there, and then goes on after the next `;`, so that it finds the faults after the first one too.
+The program reports the place after the longest prefix of whole items. This reader reports the farthest token that no rule takes, and those that one would
+take, and continues after the next `;`, so that it finds the later faults too.
 """
 from __future__ import annotations
 
-import re
 import sys
-import unicodedata
-from typing import Any, Iterable, NamedTuple
+from typing import Sequence
 
-from . import source
 from .grammar import RESERVED, VALUE, Stuck, Terms, meant
-from .limits import AMOUNT, BRACKET_DEPTH
-from .loops import Header, whole
-from .places import decode
+from .item_types import Check, Declaration, Fault, Formula, Unread
+from .loops import whole
+from .scanning import BLANKS, SIGNS, deep_fault, take_tokens, too_deep, tokens_of  # noqa: F401
+from .scanning import numbers_too_great
+from .shapes import CHECK, DECLARATION, FORMULA, OTHER, Statement, statement_of
 from .texts import said
+from .tokens import Token, Tokens
 
-CUT_TEXT = re.compile(rb"(?P<text>\"[^\"\n]*)")
-LETTERS_BEFORE, LETTERS = re.compile(rb"[A-Za-z0-9_\x80-\xff]*\Z"), re.compile(rb"[A-Za-z0-9_\x80-\xff]*")
-STRANGE = re.compile(rb"[\x80-\xff]+|.", re.DOTALL)
-SIGNS = {"\u2264": "<=", "\u2265": ">=", "\u2260": "!=", "\u00d7": "*", "\u00f7": "/", "\u2212": "-", "\u2013": "-", "\u2014": "-"}
-BLANKS = "\u00a0\u202f\u2009\u2007\ufeff\u200b"
-# How much deeper brackets and conditionals stand behind a token; at `regle` and `verif` none is open.
-DEEPER = {"(": 1, "[": 1, "si": 1, ")": -1, "]": -1, "finsi": -1, "erreur": -1, "regle": -sys.maxsize, "verif": -sys.maxsize}
 KINDS_OF_ERRORS = ("anomalie", "discordance", "informative")
-
-
-class Fault(NamedTuple):
-    """A fault of a file: what the program calls it, the byte, what stands there, what could, and what may help."""
-
-    what: str
-    byte: int
-    found: str
-    wanted: tuple[str, ...]
-    hint: str
-
-
-class Formula(NamedTuple):
-    """A formula: applications and whether its rule is chained, its loops, its target with an index (`X`, a number, or none), its term, the
-    byte of its target."""
-
-    applications: list[str]
-    is_chained: bool
-    loops: list[Header]
-    target: str
-    slot: str | None
-    term: Any
-    byte: int
-
-
-class Declaration(NamedTuple):
-    """A declaration of a variable or an error: its kind is the word that says it (`saisie`, `calculee`, `const`, `anomalie` ..). `size` is the number of
-    cells of a table; `attributes` are pairs of a word and a number, as it is spelled, or nothing; `texts` are as they are spelled."""
-
-    name: str
-    kind: str
-    byte: int
-    size: int | None = None
-    attributes: tuple[tuple[str, str | None], ...] = ()
-    code: str | None = None
-    texts: tuple[str, ...] = ()
-    type: str | None = None
-    number: str | None = None
-
-
-class Check(NamedTuple):
-    """A check: the applications of its verification, its condition, the error with its byte, and the byte of `si`."""
-
-    applications: list[str]
-    condition: Any
-    error: str
-    error_byte: int
-    byte: int
 
 
 class RuleReader(Terms):
     """The items of a file, one piece after the other: a head, a formula, a check, a declaration. After a fault it goes on after the next `;`."""
 
-    def __init__(self, tokens: list[source.Token]):
+    def __init__(self, tokens: Sequence[Token]):
         super().__init__(tokens)
         self.formulas: list[Formula] = []
         self.checks: list[Check] = []
@@ -106,17 +51,17 @@ class RuleReader(Terms):
         self.faults.append(Fault("syntax", token.byte, found, self.wants(), self.hint or self.guess()))
 
     def guess(self) -> str:
-        """What may help, by what stands round the place."""
-        token, before, behind = self.peek(), self.peek(-1) if self.at else self.end, self.peek(1)
-        if token.text == "," and before.kind == "number" and behind.kind == "number":
-            return said("help.decimal", number=f"{before.text}.{behind.text}")
-        if token.text == "/" and behind.text in ("/", "*"):
+        """A hint, by the tokens around the place."""
+        token, before, after = self.peek(), self.peek(-1) if self.at else self.end, self.peek(1)
+        if token.text == "," and before.kind == "number" and after.kind == "number":
+            return said("help.decimal", number=f"{before.text}.{after.text}")
+        if token.text == "/" and after.text in ("/", "*"):
             return "a comment begins with #"
         for one in (token, before):
             word = meant(one.text) if one.kind == "word" and one.text not in RESERVED else None
             if word and (one is token or word in ("si", "non", "somme")):
                 return said("help.writes", right=word, wrong=one.text)
-        begins = token.kind == "end" or token.text in ("regle", "verif", "si", "pour") or self.is_word() and behind.text in ("=", ":", "[")
+        begins = token.kind == "end" or token.text in ("regle", "verif", "si", "pour") or self.is_word() and after.text in ("=", ":", "[")
         if ":" in self.wanted and begins:
             return "a : is missing before it"
         if ";" in self.wanted and begins:
@@ -279,99 +224,109 @@ class RuleReader(Terms):
         return (text,), word
 
 
-def of_byte(content: bytes, byte: int, shown: str) -> str:
-    """What may help with characters that begin no token."""
-    if shown[0] in SIGNS:
-        return said("help.writes", right=SIGNS[shown[0]], wrong=shown[0])
-    if shown[0] in BLANKS:
-        return "a hard blank or another that isn't plain: write a plain one"
-    if shown[0] in "'\u2018\u2019\u201c\u201d\u00ab\u00bb`":
-        return 'texts stand in " ", and a comment begins with #'
-    if shown[0] == "%":
-        return "a rate is a number, as 0.1 for ten per cent"
-    if shown[0] == ".":
-        return "a point stands between digits"
-    if ord(shown[0]) < 128:
-        return ""
-    begun, rest = LETTERS_BEFORE.search(content[max(0, byte - 60) : byte]), LETTERS.match(content, byte)
-    word = (begun[0] if begun else b"") + (rest[0] if rest else b"")
-    bare = "".join(letter for letter in unicodedata.normalize("NFD", decode(word)) if letter.isascii())
-    return said("help.no_accents", word=bare) if bare in RESERVED else "accented letters stand in texts and comments only"
+class StatementReader(RuleReader):
+    """The same items, by statements: one whose letters are recognized (shapes.py) isn't read token by token, and its term only when it is used."""
+
+    tokens: Tokens
+
+    def __init__(self, tokens: Tokens):
+        self._declared: list[Declaration | tuple[int, int]] = []
+        super().__init__(tokens)
+        self._statements: dict[str, Statement] = {}
+        self._tried = 0  # the end of the last statement that was looked at
+
+    @property
+    def declarations(self) -> list[Declaration]:  # type: ignore[override]
+        return [self._declaration(one) if isinstance(one, tuple) and not isinstance(one, Declaration) else one for one in self._declared]
+
+    @declarations.setter
+    def declarations(self, declared: list[Declaration]) -> None:
+        self._declared = list(declared)
+
+    def piece(self) -> None:
+        """Takes all statements up to one that isn't recognized, and a piece of that."""
+        letters, count = self.tokens.letters, len(self.tokens)
+        while self._tried <= self.at < count:
+            end = self._tried = self.tokens.after(self.at)
+            if end > count or not self.statement(letters[self.at : end], end):
+                break
+        if self.at < count or self.due:
+            super().piece()
+
+    def statement(self, letters: str, end: int) -> bool:
+        """Takes the statement up to a token, if it is recognized."""
+        found = self._statements.get(letters)
+        if found is None:
+            found = self._statements[letters] = statement_of(letters)
+        if found.kind == FORMULA:
+            if self.inside != "regle":
+                return False
+            self.take_formula(found, end)
+        elif found.kind == CHECK:
+            if self.inside != "verif":
+                return False
+            self.take_check(found)
+        elif found.kind == OTHER or self.due:
+            return False
+        elif found.kind == DECLARATION:
+            self.take_declaration(letters, end)
+        elif not self.take_head(letters, end):
+            return False
+        self.at = end
+        return True
+
+    def take_formula(self, found: Statement, end: int) -> None:
+        tokens, at = self.tokens, self.at
+        loops = []
+        if found.target:
+            header = Terms(tokens[at : at + found.target])
+            while header.take_if("pour"):
+                loops.append(header.header())
+                header.take(":")
+        at += found.target
+        slot = tokens.texts[at + 2] if tokens.letters[at + 1] == "[" else None
+        term = Unread(tokens, self.at + found.begin, end - 1)
+        self.formulas.append(Formula(self.applications, self.is_chained, loops, tokens.texts[at], slot, term, tokens.bytes[at]))
+        self.due = False
+
+    def take_check(self, found: Statement) -> None:
+        tokens, at = self.tokens, self.at
+        error = at + found.end + 2
+        condition = Unread(tokens, at + found.begin, at + found.end)
+        self.checks.append(Check(self.applications, condition, tokens.texts[error], tokens.bytes[error], tokens.bytes[at]))
+        self.due = False
+
+    def take_declaration(self, letters: str, end: int) -> None:
+        self.inside = None
+        if letters[2] == "k":
+            name, byte = self.tokens.texts[self.at], self.tokens.bytes[self.at]
+            self.kinds_of_errors[name] = self.tokens.texts[self.at + 2]
+            self.errors.append((name, byte))
+        self._declared.append((self.at, end))
+
+    def take_head(self, letters: str, end: int) -> bool:
+        """The head of a rule or a verification, but of a chained rule, whose head goes on."""
+        if letters[0] == "R" and self.tokens.letters.startswith("E", end):
+            return False
+        self.inside, self.is_chained, self.due = "regle" if letters[0] == "R" else "verif", False, True
+        first = self.at + letters.index("A") + 2
+        self.applications = self.tokens.texts[first : end - 1 : 2]
+        return True
 
 
-def tokens_of(content: bytes) -> tuple[list[source.Token], list[Fault]]:
-    """The tokens of a file, and the faults of its bytes. Behind a byte that begins none the reading goes on."""
-    tokens: list[source.Token] = []
-    faults: list[Fault] = []
-    byte = 0
-    if content[:2] in (b"\xff\xfe", b"\xfe\xff"):
-        return [], [Fault("bad byte", 0, "the mark of UTF-16", (), "the file is UTF-16: save it as UTF-8")]
-    if content.startswith(source.MARK):
-        faults.append(Fault("bad byte", 0, "a byte order mark", (), "save the file without a byte order mark; a household may have one, a rule file not"))
-        byte = len(source.MARK)
-    take_tokens(content, byte, tokens, faults)
-    return tokens, faults
+    def _declaration(self, span: tuple[int, int]) -> Declaration:
+        """A declaration that was recognized, read."""
+        reader = RuleReader(self.tokens[span[0] : span[1]])
+        reader.declaration()
+        return reader.declarations[0]
 
 
-def too_great(tokens: Iterable[source.Token]) -> list[Fault]:
-    """The faults of numbers above the greatest amount."""
-    return [Fault("number too great", token.byte, token.text, (), said("help.greatest", number=AMOUNT))
-            for token in tokens if token.kind == "number" and len(token.text) > 13 and float(token.text) > AMOUNT]
-
-
-def take_tokens(
-    content: bytes, byte: int, tokens: list[source.Token], faults: list[Fault], most: int = sys.maxsize, is_cut: bool = False
-) -> int:
-    """Adds the tokens from a byte on, until there are so many, and the faults of the bytes among them. The byte behind them comes back. With `is_cut` a text
-    that isn't closed in its line ends there, so that what stands behind an open text can be read."""
-    while byte < len(content) and len(tokens) < most:
-        if not is_cut:
-            known = len(tokens)
-            byte = source.quick_tokens(content, byte, tokens, most)
-            faults += too_great(tokens[known:])
-            if byte == len(content) or len(tokens) == most:
-                return byte
-        piece = source.GAP_OR_TOKEN.match(content, byte)
-        if is_cut and content[byte : byte + 1] == b'"' and (piece is None or b"\n" in piece[0]):
-            piece = CUT_TEXT.match(content, byte)
-        if piece is None and content[byte : byte + 1] == b'"':
-            faults.append(Fault("open string", byte, '"', (), "the text is never closed; all after it is text"))
-            return len(content)
-        if piece is None:
-            strange = STRANGE.match(content, byte)
-            end = byte + 1 if strange is None else strange.end()
-            shown = decode(content[byte:end])
-            faults.append(Fault("bad byte", byte, shown, (), of_byte(content, byte, shown)))
-            byte = end
-            continue
-        if piece.lastgroup != "gap":
-            token = source.Token(piece.lastgroup or "", piece[0].decode("latin-1"), byte)
-            faults += too_great([token])
-            tokens.append(token)
-        byte = piece.end()
-    return byte
-
-
-def too_deep(tokens: Iterable[source.Token]) -> list[Fault]:
-    """The first token at which brackets and conditionals stand too deep."""
-    depth = 0
-    for token in [token for token in tokens if token.text in DEEPER]:
-        depth = max(0, depth + DEEPER[token.text])
-        if depth > BRACKET_DEPTH:
-            return [deep_fault(token)]
-    return []
-
-
-def deep_fault(token: source.Token) -> Fault:
-    return Fault("too deep", token.byte, token.text, (), "give a part of the formula a variable of its own")
-
-
-def read(content: bytes, tokens: list[source.Token] | None = None) -> tuple[RuleReader, list[Fault]]:
+def read(content: bytes, tokens: Tokens | None = None) -> tuple[RuleReader, list[Fault]]:
     """The formulas and checks of a file, and all its faults in their order. The tokens may be there already, where no byte is bad."""
     sys.setrecursionlimit(max(sys.getrecursionlimit(), 20_000))
-    tokens, faults = tokens_of(content) if tokens is None else (tokens, too_great(tokens))
+    tokens, faults = tokens_of(content) if tokens is None else (tokens, numbers_too_great(tokens))
     deep = too_deep(tokens)
-    reader = RuleReader(tokens)
+    reader = StatementReader(tokens)
     if not deep and not any(fault.what == "open string" for fault in faults):
         reader.read_all()
     bad = {fault.byte for fault in faults}

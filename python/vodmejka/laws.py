@@ -179,10 +179,9 @@ class Law:
             for variable in file.variables:
                 if variable.kind != "saisie" and variable.name not in needed:
                     continue
-                _, line, byte = re.fullmatch(r"(.*) line ([0-9]+) byte ([0-9]+)", variable.place, re.DOTALL).groups()
-                description, word, number, comments = self.passages[file.name].declaration(int(byte))
+                description, word, number, comments = self.passages[file.name].declaration(variable.byte)
                 attributes = [*variable.words, *(f"{name} = {value}" for name, value in variable.numbers.items())]
-                said = [variable.kind, description, self.numbers[file.name], int(line), variable.code, word, number, attributes, comments]
+                said = [variable.kind, description, self.numbers[file.name], file.lines.number(variable.byte), variable.code, word, number, attributes, comments]
                 while not said[-1]:
                     said.pop()
                 yield variable.name, said

@@ -3,7 +3,7 @@ from __future__ import annotations
 
 import itertools
 import math
-from typing import Any, Iterable, Iterator, Mapping, Sequence
+from typing import Any, Iterable, Iterator, List, Mapping, Optional, Sequence, Tuple
 
 from .limits import LOOP_INSTANCES
 
@@ -11,7 +11,9 @@ Pair = tuple[str, str]
 Header = list[tuple[str, list[Pair]]]
 """The letters of a loop, each with its values as pairs of points."""
 Term = tuple[Any, ...]
-"""A term, as grammar.py says it."""
+"""A term, of grammar.py."""
+Read = Tuple[str, Optional[Term], int, List[Header]]
+"""What a term reads: the word, the index or nothing, the byte, and the loops round it."""
 MOST_DIGITS = 12  # the most digits of a word that is a number after letters are replaced
 
 
@@ -34,7 +36,7 @@ def values_of(pairs: Iterable[Pair]) -> list[str]:
 
 
 def length_of(low: str, high: str) -> int:
-    """How many values stand from a point to a point; none where the range is bad."""
+    """The number of values from a point to a point; 0 of a bad range."""
     if low == high:
         return 1
     if low.isdigit() and high.isdigit():
@@ -43,7 +45,7 @@ def length_of(low: str, high: str) -> int:
 
 
 def header_faults(header: Header) -> list[tuple[int, str]]:
-    """The faults of a header as the program tells them, each with the number of the index at whose letter it stands."""
+    """The faults of a header as the program reports them, each with the number of the letter at which it is."""
     letters = [letter for letter, _ in header]
     lengths = [[length_of(low, high) for low, high in values] for _, values in header]
     bad = [k for k, letter in enumerate(letters) if letters.count(letter) > 1 or 0 in lengths[k]]
@@ -82,7 +84,7 @@ def replaced(word: str, letters: Mapping[str, str]) -> str:
     return "".join(letters.get(letter, letter) for letter in word)
 
 
-def reads_of(term: Term, headers: list[Header]) -> Iterator[tuple[str, Term | None, int, list[Header]]]:
+def reads_of(term: Term, headers: list[Header]) -> Iterator[Read]:
     """The names and tables that a term reads: the word, the index or nothing, the byte, and the loops round it."""
     stack = [(term, headers)]
     while stack:

@@ -40,7 +40,7 @@ class Passages:
     """A rule file, of which pieces are asked for by a byte within them."""
 
     def __init__(self, file):
-        self.file, self.tokens, self.comments = file, file.tokens, Comments(file)
+        self.file, self.tokens, self.comments = file, list(file.tokens), Comments(file)
         self.bytes = [token.byte for token in self.tokens]
         self.ends = [k for k, token in enumerate(self.tokens) if token.text == ";" and token.kind == "sign"]
         self.rules = [k for k, token in enumerate(self.tokens) if token.text == "regle"]

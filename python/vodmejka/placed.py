@@ -76,4 +76,4 @@ class PlacedReader(items.RuleReader):
 def read(file: source.RuleFile) -> PlacedReader:
     """The items of a file that the program accepts."""
     sys.setrecursionlimit(max(sys.getrecursionlimit(), 20_000))
-    return PlacedReader(file.tokens).read_all()
+    return PlacedReader(list(file.tokens)).read_all()

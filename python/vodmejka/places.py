@@ -1,4 +1,4 @@
-"""Places in files, as they are shown: the line with a caret under the byte, and the records of a household."""
+"""Places in files: the line with a caret under the byte, and the records of a household."""
 from __future__ import annotations
 
 import re
@@ -38,18 +38,18 @@ def decode(line: bytes) -> str:
 def pointer(line: bytes, number: int, byte: int | None) -> list[str]:
     """The line with its number, and a caret below the byte; without a byte no caret. Of a long line a piece round the byte is shown."""
     if byte is None:
-        before, behind = "", decode(line)[:WIDEST]
+        before, after = "", decode(line)[:WIDEST]
     else:
         text = decode(line)
         encoding = "utf-8" if text.encode("utf-8") == line else "latin-1"
         before = line[:byte].decode(encoding, errors="ignore")
-        behind = text[len(before) :]
+        after = text[len(before) :]
         if len(text) > WIDEST:
             cut = max(0, len(before) - WIDEST // 2)
             before = ("…" if cut else "") + before[cut:]
-            behind = behind[: WIDEST // 2] + ("…" if len(behind) > WIDEST // 2 else "")
+            after = after[: WIDEST // 2] + ("…" if len(after) > WIDEST // 2 else "")
     head = f"{number:>6} | "
-    pieces = [head + "".join(letter for letter, _ in shown(before + behind))]
+    pieces = [head + "".join(letter for letter, _ in shown(before + after))]
     if byte is not None:
         pieces.append(" " * (len(head) - 2) + "| " + "".join(blank for _, blank in shown(before)) + "^")
     return pieces
@@ -96,13 +96,13 @@ def records(content: bytes) -> list[tuple[int, list[Field]]]:
 
 
 def end_of(form: re.Pattern[bytes], content: bytes, at: int) -> int:
-    """The end of the match at a byte."""
+    """The end of a match at a byte."""
     found = form.match(content, at)
     return at if found is None else found.end()
 
 
 def faulty_field(fields: Sequence[Field], what: str, heads: Iterable[Field]) -> int | None:
-    """Which field a fault of a record is about, if that is known; `heads` are the fields of the first record."""
+    """The byte of the field with the fault of a record, if it is known; `heads` are the fields of the first record."""
     if what in ("unknown code", "code twice"):
         return fields[0][0] if len(fields) == 2 else None
     if what == "bad amount":

@@ -3,29 +3,28 @@ from __future__ import annotations
 
 import bisect
 import re
-from typing import Mapping, Sequence
+from typing import Mapping
 
 from . import items, source
 from .grammar import RESERVED
-from .loops import Term, instances, reads_of, replaced, whole
+from .loops import Term, instances, replaced, whole
 from .places import decode
 from .texts import said
+from .tokens import TEXT, Tokens
+
+NUMBER = re.compile("[01]")
 
 
 class Written:
-    """A rule file as it is written: its tokens by their bytes, which of them begin rules, and which end items."""
+    """A rule file as it is written, with its tokens."""
 
-    def __init__(self, file: source.RuleFile, tokens: Sequence[source.Token]):
+    def __init__(self, file: source.RuleFile, tokens: Tokens):
         self.file, self.tokens = file, tokens
-        self.bytes = [token.byte for token in tokens]
-        self.rules = [k for k, token in enumerate(tokens) if token.text == "regle"]
-        self.ends = [k for k, token in enumerate(tokens) if token.text == ";" and token.kind == "sign"]
 
     def formula(self, byte: int, letters: Mapping[str, str] | None = None, number: int | None = None) -> str:
         """The text of the formula that begins at a byte, with these letters and the number of its cell filled in."""
-        first = bisect.bisect_left(self.bytes, byte)
-        at = bisect.bisect_left(self.ends, first)
-        end = self.ends[at] if at < len(self.ends) else len(self.tokens) - 1
+        first = bisect.bisect_left(self.tokens.bytes, byte)
+        end = min(self.tokens.after(first) - 1, len(self.tokens) - 1)
         pieces: list[bytes] = []
         begin = byte
         for token in self.tokens[first:end]:
@@ -35,13 +34,17 @@ class Written:
             if word != token.text:
                 pieces += [self.file.bytes[begin : token.byte], word.encode("latin-1")]
                 begin = token.byte + len(token.text)
-        return plain(b"".join([*pieces, self.file.bytes[begin : self.tokens[end].byte]]))
+        return plain(b"".join([*pieces, self.file.bytes[begin : self.tokens.bytes[end]]]))
 
     def rule(self, byte: int) -> str:
         """The number of the rule of a formula."""
-        first = bisect.bisect_left(self.bytes, byte)
-        rule = self.rules[bisect.bisect_left(self.rules, first) - 1]
-        return next(self.tokens[k].text for k in range(rule, first) if self.tokens[k].kind == "number")
+        return self.number("R", byte)
+
+    def number(self, letter: str, byte: int) -> str:
+        """The number after the last `regle` (R) or `verif` (V) before a byte; nothing where there is none."""
+        first = bisect.bisect_left(self.tokens.bytes, byte)
+        found = NUMBER.search(self.tokens.letters, max(self.tokens.letters.rfind(letter, 0, first), 0), first)
+        return self.tokens.texts[found.start()] if found else ""
 
     def line(self, byte: int) -> int:
         return self.file.lines.number(byte)
@@ -66,10 +69,13 @@ class Formula:
 
     def reads(self, sizes: Mapping[str, int]) -> list[str]:
         """The cells that the formula reads, each once, in their order. `sizes` has the number of cells of each table."""
+        term = None if self.letters else self.formula.simple
+        if term is not None and not term.has("["):
+            return list(dict.fromkeys(term.names()))
         found: dict[str, bool] = {}
         own = {letter: [(value, value)] for letter, value in self.letters.items()}
         loops = [list(own.items())] if own else []
-        for word, index, _, round_it in reads_of(self.formula.term, []):
+        for word, index, _, round_it in self.formula.reads([]):
             for letters in instances([*loops, *round_it], [word, *words_in(index)]):
                 for cell in self.cells(replaced(word, letters), index, letters, sizes):
                     found[cell] = True
@@ -121,17 +127,14 @@ class Rules:
 
     def describe(self, file: source.RuleFile) -> None:
         """Takes the last text of each declaration of a file."""
-        places = {int(variable.place.rsplit(" ", 1)[1]): variable.name for variable in file.variables}
-        for variable in (variable for variable in file.variables if variable.kind == "const"):
-            line = file.lines.line(file.lines.number(int(variable.place.rsplit(" ", 1)[1]))) or b""
-            self.comments[variable.name] = decode(line.partition(b"#")[2]).strip()
-        name = None
-        for token in file.tokens:
-            name = places.get(token.byte, name)
-            if token.kind == "text" and name is not None:
-                self.descriptions[name] = decode(token.text[1:-1].encode("latin-1"))
-            if token.text == ";" and token.kind == "sign":
-                name = None
+        tokens = file.tokens
+        for variable in file.variables:
+            if variable.kind == "const":
+                line = file.lines.line(file.lines.number(variable.byte)) or b""
+                self.comments[variable.name] = decode(line.partition(b"#")[2]).strip()
+            text = tokens.letters.rfind(TEXT, variable.at, tokens.after(variable.at))
+            if text >= 0:
+                self.descriptions[variable.name] = decode(tokens.texts[text][1:-1].encode("latin-1"))
 
     def add(self, written: Written, formula: items.Formula) -> None:
         letters_of_target = [letter for header in formula.loops for letter, _ in header]

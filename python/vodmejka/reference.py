@@ -158,8 +158,8 @@ class Reference:
 
 
 def described(variable: source.Variable) -> str:
-    """The text of a declaration, in one line."""
-    return "" if variable.kind == "const" else " ".join(places.decode(variable.told.encode("latin-1")).split())
+    """What a declaration says, in one line."""
+    return "" if variable.kind == "const" else " ".join(places.decode(variable.text.encode("latin-1")).split())
 
 
 def text_of(text: str) -> str:

@@ -121,7 +121,7 @@ class Pages:
         rows = []
         for name in self.kinds(kind):
             variable = self.reference.variables[name]
-            last = escaped(variable.told if variable.kind == "const" else "") or escaped(variable.code or "")
+            last = escaped(variable.text if variable.kind == "const" else "") or escaped(variable.code or "")
             size = f"[{variable.size}]" if variable.size is not None else ""
             rows.append([self.link(name, "") + escaped(size), last, linked(self.reference.description(name), self.articles)])
         heads = [said("doc.name"), said("doc.value") if kind == "constants" else said("doc.code"), said("doc.description")]
@@ -135,7 +135,7 @@ class Pages:
         reference, variable = self.reference, self.reference.variables[name]
         path, line = reference.lines[name]
         facts = [(said("doc.kind"), escaped(said(f"doc.kind.{variable.kind}")))]
-        for key, text in (("doc.code", variable.code), ("doc.type", variable.type), ("doc.value", variable.told if variable.kind == "const" else None),
+        for key, text in (("doc.code", variable.code), ("doc.type", variable.type), ("doc.value", variable.text if variable.kind == "const" else None),
                           ("doc.cells", None if variable.size is None else str(variable.size))):
             facts += [(said(key), f"<code>{escaped(text)}</code>")] if text else []
         attributes = [*variable.words, *(f"{word} = {number}" for word, number in variable.numbers.items())]

@@ -61,11 +61,11 @@ def slips_of_letters(file, reader):
             own = {letter for letter, _ in header}
             again = again or min(own & letters, default=None)
             letters |= own
-        again = again or bound_again(formula.term, letters)
+        again = again or (bound_again(formula.term, letters) if formula.has_sum else None)
         if again:
             yield f"{file.place(formula.byte)}: {said('slips.letter', letter=again)}"
     for check in reader.checks:
-        again = bound_again(check.condition, set())
+        again = bound_again(check.condition, set()) if check.has_sum else None
         if again:
             yield f"{file.place(check.byte)}: {said('slips.letter', letter=again)}"
 

@@ -1,15 +1,12 @@
-"""What the tools know of lists and of rule files: names, applications and places. The grammar stands in docs/LANGUAGE.md.
+"""Lists and rule files as the tools read them: names, applications and places. The grammar is in docs/LANGUAGE.md.
 
-These tools read files that the program accepts, and look at the heads of items alone: what a formula says is passed over. A byte order mark is passed over
-too; `slips` and `explain` tell it. grammar.py reads formulas.
+Only the heads of items are read, and formulas are skipped. A byte order mark is skipped too; `slips` and `explain` report it. grammar.py reads formulas.
 """
 from __future__ import annotations
 
-import bisect
 import contextlib
 import dataclasses
 import io
-import itertools
 import os
 import re
 import signal
@@ -22,6 +19,7 @@ from typing import IO, Any, Callable, Iterable, Iterator
 from .limits import CELLS, FILE_BYTES, FILE_NAME_BYTES, LIST_FILES, RULE_BYTES, TABLE_CELLS
 from .lines import Lines  # noqa: F401
 from .messages import Messages
+from .tokens import WORDS, Token, Tokens, scanned  # noqa: F401
 
 GAP_OR_TOKEN = re.compile(
     rb"(?P<gap>[ \t\r\n]+|#[^\n]*)|(?P<text>\"[^\"]*\")|(?P<number>[0-9]+\.[0-9]+|[0-9]+(?![A-Za-z0-9_]))|(?P<word>[A-Za-z0-9_]+)"
@@ -29,15 +27,15 @@ GAP_OR_TOKEN = re.compile(
 )
 
 
-# (a comment ends at its line's end alone, so that a match that fails is no long search)
-AFTER_GAPS = re.compile(rb"(?:[ \t\r\n]|#[^\n]*(?=\n|\Z))*(?:" + GAP_OR_TOKEN.pattern.partition(rb"|#[^\n]*)|")[2] + rb")")
 MARK = b"\xef\xbb\xbf"
+QUOTE = '"'
+NUMBER_OR_COLON = re.compile("[01:]")
 PIPED: dict[str, bytes] = {}
 WAITING: list[int] = []
-BEGIN = 0  # stands before the signals that wait
+BEGIN = 0  # is before the signals that wait
 MASK = os.umask(0o077)  # what the user keeps from others in new files
 os.umask(MASK)
-# Signals that end a tool, beside SIGINT.
+# Signals that end a tool, with SIGINT.
 ENDING = (signal.SIGHUP, signal.SIGTERM, signal.SIGQUIT, signal.SIGXCPU, signal.SIGUSR1, signal.SIGUSR2, signal.SIGALRM)
 MARKED = "; it begins with a byte order mark: save it as UTF-8 without one"
 
@@ -59,7 +57,7 @@ class Pipes:
 
 
 class Input(io.RawIOBase):
-    """The standard input, of which a read that fails is told as that, and not as a fault of the output."""
+    """The standard input. A read that fails is reported as such, and not as a fault of the output."""
 
     def readable(self) -> bool:
         return True
@@ -77,39 +75,46 @@ def standard_input() -> io.BufferedReader:
 
 
 @dataclasses.dataclass(slots=True)
-class Token:
-    kind: str
-    text: str
-    byte: int
-
-
-@dataclasses.dataclass
 class Variable:
     """A declaration. `size` is the number of cells of a table, and None of another variable; `words` are the attributes without a number, `numbered`
-    those with one, each with the place of its word, and `numbers` the number of each, the last where one stands twice. `told` and `type` are the text
-    and the word that stand behind; of a constant `told` is its number."""
+    those with one, each with its byte, and `numbers` the number of each, the last if a word occurs twice. `text` and `type` are the description
+    and the type after it; of a constant `text` is its number. `at` is the number of its first token."""
 
+    file: RuleFile
+    at: int
     name: str
     kind: str
     size: int | None
     words: list[str]
-    numbered: list[tuple[str, str]]
+    numbered: list[tuple[str, int]]
     code: str | None
-    place: str
     numbers: dict[str, str]
-    told: str = ""
+    text: str = ""
     type: str | None = None
 
+    @property
+    def byte(self) -> int:
+        return self.file.tokens.bytes[self.at]
 
-@dataclasses.dataclass
+    @property
+    def place(self) -> str:
+        return self.file.place(self.byte)
+
+
+@dataclasses.dataclass(slots=True)
 class Rule:
-    """A rule or a verification, by the word it begins with, with its applications: pairs of a word and its place."""
+    """A rule or a verification, by its first word, with its applications: pairs of a word and its byte."""
 
+    file: RuleFile
+    at: int
     kind: str
-    applications: list[tuple[str, str]]
+    applications: list[tuple[str, int]]
     is_chained: bool
-    place: str
     number: str = ""
+
+    @property
+    def place(self) -> str:
+        return self.file.place(self.file.tokens.bytes[self.at])
 
 
 def fetch(name: str, longest: int = FILE_BYTES) -> bytes:
@@ -180,26 +185,14 @@ def read_list_text(name: str, content: bytes) -> tuple[str, list[str]]:
     return application, names
 
 
-def quick_tokens(content: bytes, byte: int, tokens: list[Token], most: int = sys.maxsize) -> int:
-    """Adds tokens up to the first byte that begins none, until there are so many; the byte behind the last one comes back."""
-    # (a scanner matches where the match before it ended, and never searches: blanks at a file's end are read once)
-    matches: Iterator[re.Match[bytes]] = iter(AFTER_GAPS.scanner(content, byte).match, None)  # type: ignore[attr-defined]
-    for match in itertools.islice(matches, most - len(tokens)):
-        at = match.lastindex or 0
-        tokens.append(Token(match.lastgroup or "", match[at].decode("latin-1"), match.start(at)))
-        byte = match.end()
-    return byte
-
-
 class RuleFile:
-    """The items of one rule file. The tokens may be there already."""
+    """The heads of the items of one rule file. The tokens may be there already."""
 
-    def __init__(self, name: str, content: bytes, tokens: list[Token] | None = None):
+    def __init__(self, name: str, content: bytes, tokens: Tokens | None = None):
         self.name = name
         self.bytes = content
         self.lines = Lines(self.bytes)
         self.tokens = self.read_tokens() if tokens is None else tokens
-        self.ends = [at for at, token in enumerate(self.tokens) if token.text == ";"]
         self.variables: list[Variable] = []
         self.rules: list[Rule] = []
         self.read_items()
@@ -207,86 +200,71 @@ class RuleFile:
     def place(self, byte: int) -> str:
         return f"{self.name} line {self.lines.number(byte)} byte {byte}"
 
-    def read_tokens(self) -> list[Token]:
-        tokens: list[Token] = []
-        byte = quick_tokens(self.bytes, len(MARK) if self.bytes.startswith(MARK) else 0, tokens)
-        while byte < len(self.bytes):
-            piece = GAP_OR_TOKEN.match(self.bytes, byte)
-            if piece is None:
-                what = "open string" if self.bytes[byte : byte + 1] == b'"' else "bad byte"
-                raise Refused(f"{self.place(byte)}: {what}")
-            if piece.lastgroup != "gap":
-                tokens.append(Token(piece.lastgroup or "", piece[0].decode("latin-1"), byte))
-            byte = piece.end()
+    def read_tokens(self) -> Tokens:
+        tokens = scanned(self.bytes, len(MARK) if self.bytes.startswith(MARK) else 0)
+        for byte, text in tokens.bad():
+            raise Refused(f"{self.place(byte)}: {'open string' if text == QUOTE else 'bad byte'}")
         return tokens
 
-    def read_items(self) -> None:
-        at = 0
-        while at < len(self.tokens):
-            token = self.tokens[at]
-            if token.text in ("regle", "verif"):
-                at = self.read_rule(at)
-            elif self.text(at + 1) == ":":
-                at = self.read_declaration(at)
-            else:
-                at = self.behind(at)
-
     def text(self, at: int) -> str:
-        """The text of a token, and nothing behind the last one."""
-        return self.tokens[at].text if at < len(self.tokens) else ""
+        """The text of a token, and nothing after the last one."""
+        return self.tokens.texts[at] if at < len(self.tokens.texts) else ""
 
-    def behind(self, at: int) -> int:
-        """The token behind the next `;`."""
-        found = bisect.bisect_left(self.ends, at)
-        return self.ends[found] + 1 if found < len(self.ends) else len(self.tokens) + 1
+    def read_items(self) -> None:
+        letters, at = self.tokens.letters, 0
+        while at < len(letters):
+            end = self.tokens.after(at)
+            if letters[at] in "RV":
+                self.rules.append(self.rule(at, end))
+            elif letters.startswith(":", at + 1):
+                self.read_declaration(at, end)
+            at = end
 
-    def read_rule(self, at: int) -> int:
-        begin = self.tokens[at]
-        end = self.behind(at)
-        applications, named = [], False
-        for token in self.tokens[at:end]:
-            if token.text == "application":
-                named = True
-            elif named and token.kind == "word":
-                applications.append((token.text, self.place(token.byte)))
-        number = next((token.text for token in self.tokens[at:end] if token.kind == "number" or token.text == ":"), "")
-        is_chained = self.text(end) == "enchaineur" and self.text(end + 1) == ":"
-        self.rules.append(Rule(begin.text, applications, is_chained, self.place(begin.byte), number if number.isdigit() else ""))
-        return end
+    def rule(self, at: int, end: int) -> Rule:
+        letters, texts = self.tokens.letters, self.tokens.texts
+        begin = letters.find("A", at, end)
+        words = [] if begin < 0 else [k for k in range(begin, min(end, len(letters))) if letters[k] in WORDS and letters[k] != "A"]
+        number = NUMBER_OR_COLON.search(letters, at, end)
+        text = texts[number.start()] if number else ""
+        applications = [(texts[k], self.tokens.bytes[k]) for k in words]
+        return Rule(self, at, texts[at], applications, letters.startswith("E:", end), text if text.isdigit() else "")
 
-    def read_declaration(self, at: int) -> int:
-        name, end = self.tokens[at], self.behind(at)
-        at += 2
+    def read_declaration(self, begin: int, end: int) -> None:
+        """Reads the declaration that begins at a token, where it is one of a variable."""
+        letters, at = self.tokens.letters, begin + 2
         size: int | None = None
-        if self.text(at) == "tableau":
-            # (nine digits are more than a table may have, however many stand behind them)
+        if letters.startswith("T", at):
+            # (nine digits are more than a table may have, however many follow)
             digits = self.text(at + 2).lstrip("0")[:9]
             size, at = int(digits) if digits.isdigit() else 0, at + 4
         kind = self.text(at)
         if kind not in ("saisie", "calculee", "const"):
-            return end
-        words: list[str] = []
-        numbered: list[tuple[str, str]] = []
-        numbers: dict[str, str] = {}
-        code: str | None = None
+            return
+        variable = Variable(self, begin, self.text(begin), kind, size, [], [], None, {})
         at += 1
-        while kind != "const" and at < end and self.text(at) != ":":
-            if self.text(at) == "alias":
-                code, at = self.text(at + 1), at + 2
-            elif self.text(at + 1) == "=":
-                numbered.append((self.text(at), self.place(self.tokens[at].byte)))
-                behind = at + 4 if self.text(at + 2) == "-" else at + 3
-                numbers[self.text(at)] = "".join(self.text(k) for k in range(at + 2, behind))
-                at = behind
-            else:
-                words.append(self.text(at))
-                at += 1
-        told = self.text(at + 1)[1:-1] if self.text(at) == ":" and at + 1 < len(self.tokens) and self.tokens[at + 1].kind == "text" else ""
-        what = self.text(at + 3) if self.text(at + 2) == "type" else None
         if kind == "const":
-            told = "".join(self.text(k) for k in range(at + 1, end - 1))
-        self.variables.append(Variable(name.text, kind, size, words, numbered, code, self.place(name.byte), numbers, told, what))
-        return end
+            variable.text = "".join(self.tokens.texts[at + 1 : end - 1])
+        else:
+            at = self.read_attributes(variable, at, end)
+            variable.text = self.text(at + 1)[1:-1] if letters.startswith(':"', at) else ""
+        variable.type = self.text(at + 3) if letters.startswith("t", at + 2) else None
+        self.variables.append(variable)
+
+    def read_attributes(self, variable: Variable, at: int, end: int) -> int:
+        """Takes the attributes and the code of a declaration; the number of the token after them."""
+        letters = self.tokens.letters
+        while at < end and not letters.startswith(":", at):
+            if letters.startswith("L", at):
+                variable.code, at = self.text(at + 1), at + 2
+            elif letters.startswith("=", at + 1):
+                name, after = self.text(at), at + 4 if letters.startswith("-", at + 2) else at + 3
+                variable.numbered.append((name, self.tokens.bytes[at]))
+                variable.numbers[name] = "".join(self.tokens.texts[at + 2 : after])
+                at = after
+            else:
+                variable.words.append(self.text(at))
+                at += 1
+        return at
 
 
 class RuleBase:
@@ -363,7 +341,7 @@ def stopped(number: int, _frame: object = None) -> None:
 
 @contextlib.contextmanager
 def unbroken() -> Iterator[None]:
-    """What a signal doesn't break off: it ends the tool behind it. (Signals are the main thread's.)"""
+    """A block that no signal interrupts: the tool ends after it. (Signals are the main thread's.)"""
     is_main = threading.current_thread() is threading.main_thread()
     if is_main:
         WAITING.append(BEGIN)

@@ -1,5 +1,5 @@
 """Which cells and branches a formula took, by the values that a run gave: docs/AMOUNTS.md says what each operator does. What this computes is compared with
-the run's value; where it differs nothing is told."""
+the run's value; if it differs nothing is shown."""
 from __future__ import annotations
 
 import itertools

@@ -87,7 +87,7 @@ class Variables:
 
     def _made(self, name: str, formulas: tuple[Formula, ...]) -> Variable:
         said = self.reasons.variables[name]
-        number = said.told if said.kind == "const" else None
+        number = said.text if said.kind == "const" else None
         attributes = {**dict.fromkeys(said.words), **said.numbers}
         place = said.place.rsplit(" byte ", 1)[0]
         description = "" if number is not None else self.description(name)

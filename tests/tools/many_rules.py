@@ -48,4 +48,5 @@ def main():
         print(f"{' '.join(words[:2])}: {'in time' if rate <= MOST else f'{rate:.1f} times the work, and not {MOST}'}", flush=True)
 
 
-main()
+if __name__ == "__main__":
+    main()

@@ -1,22 +1,22 @@
-"""Shows where an error points, and says what to mend.
+"""Shows the line of an error, and its correction.
 
-    explain COMMAND WORD..              runs the program with these words, and explains what it rejects
-    m_tax .. | explain [FILES]          explains the errors that the standard input has
-    explain --all LIST [DRIVER]         tells all faults of the rule files of a list, and of a driver, that the tools can tell; runs nothing
+    explain COMMAND WORD..              runs the program with these words, and explains its errors
+    m_tax .. | explain [FILES]          explains the errors in the standard input
+    explain --all LIST [DRIVER]         lists all faults of rule files, and of a driver, that the tools can find; runs nothing
 
-Each line goes through as it is. Under an error, an unreadable file or a stop comes the line of the file with a caret under the byte, where
-the line tells a place, and one sentence on what to mend. The place of `syntax` is where the item or block begins that can't be read; below it
-stands the token at which it can't go on, and what could stand there.
+Each line is printed unchanged. Below an error, an unreadable file or a stop are the line of the file with a caret under the byte, if the error has a
+place, and a correction in one sentence. The place of `syntax` is the begin of the item or block that can't be read; below it is the first token that
+no rule of the grammar takes, with those that one would take.
 
     --list FILE, --driver FILE, --requests FILE, --household FILE, --code FILE, --report FILE
-                  the files, for errors that don't name theirs; where the words are given they are known
+                  the files, for errors that don't name theirs; not needed if the program is run
     --all         after the first error also the other faults of tokens, grammar, declarations and names, each at its place
-    --lang fr     says in French what to mend, as LC_MESSAGES=fr_FR does; --lang en in English
+    --lang fr     prints corrections in French, as LC_MESSAGES=fr_FR does; --lang en in English
     --places      prints FILE:LINE:COLUMN: error: WHAT in place of all this, for editors; columns count bytes from 1
 
-The status is the program's where it is run, 128 and the number of the signal where one ended it, and 3 where it can't be started.
-Of the standard input it is 1 where something was rejected and 0 where nothing was. Of --all alone it is 1 where there is a fault, and 5 where none was found,
-which doesn't say that there is none: what isn't looked at is said on standard error. It is 3 where a file can't be read.
+The status is the program's if it is run, 128 plus the number of the signal if one ended it, and 3 if it can't be started.
+For the standard input it is 1 if something was rejected, else 0. For --all alone it is 1 if there is a fault, and 5 if none was found,
+which proves nothing: standard error names what isn't checked. It is 3 if a file can't be read.
 The program is ./m_tax of this repository, or the one that M_TAX names.
 """
 import contextlib
@@ -42,13 +42,13 @@ def quoted(what):
     return phrase(what) if re.match("(an?|the) ", what) else f"`{what}`"
 
 
-def could_stand(fault):
-    """Says what stands at the farthest token, what could, and what may help."""
+def expected(fault):
+    """The farthest token, the tokens that would be accepted, and a hint, as a sentence."""
     wanted = [quoted(what) for what in fault.wanted]
     if len(wanted) > 1:
         wanted = [said("help.or", others=", ".join(wanted[:-1]), last=wanted[-1])]
-    told = said("help.could", found=quoted(fault.found), wanted=wanted[0]) if wanted else said("help.stands", found=quoted(fault.found))
-    return said("help.why", told=told, hint=phrase(fault.hint)) if fault.hint else told + "."
+    sentence = said("help.could", found=quoted(fault.found), wanted=wanted[0]) if wanted else said("help.stands", found=quoted(fault.found))
+    return said("help.why", told=sentence, hint=phrase(fault.hint)) if fault.hint else sentence + "."
 
 
 def joined(*sentences):
@@ -58,7 +58,7 @@ def joined(*sentences):
 
 class Explainer:
     def __init__(self, files):
-        self.files, self.told = files, set()
+        self.files, self.reported = files, set()
         self.hints = Hints(files.get("list"), files.get("driver"))
 
     def content(self, name):
@@ -82,7 +82,7 @@ class Explainer:
     def rule_fault(self, name, number, byte, what):
         """The place of a fault of a rule file; of `syntax` also the farthest token that can be read up to."""
         fault = next((fault for fault in RULES if what == fault or what.startswith(fault + " ")), None)
-        self.told.add((name, byte))
+        self.reported.add((name, byte))
         texts = {}
         place, lines = self.rule_place(name, number, byte, texts)
         if place is None or what not in ("syntax", "bad byte"):
@@ -91,15 +91,15 @@ class Explainer:
         if what == "bad byte":
             bad = next((other for other in items.tokens_of(content)[1] if other.byte == byte and other.hint), None)
             is_marked = byte == 0 and content.startswith(source.MARK)
-            return place, lines, marked() if is_marked else could_stand(bad) if bad else RULES[fault]
+            return place, lines, marked() if is_marked else expected(bad) if bad else RULES[fault]
         farthest = next((other for other in items.read(content)[1] if other.byte >= byte and other.what == "syntax"), None)
         if farthest is None:
             return place, lines, RULES[fault]
-        self.told.add((name, farthest.byte))
-        told, more = self.rule_place(name, texts[name].number(farthest.byte), farthest.byte, texts)
+        self.reported.add((name, farthest.byte))
+        place, more = self.rule_place(name, texts[name].number(farthest.byte), farthest.byte, texts)
         if farthest.byte != byte:
             lines = [*lines, "  " + said("help.as_far"), *more]
-        return told, lines, could_stand(farthest)
+        return place, lines, expected(farthest)
 
     def line_place(self, role, number, texts=None):
         name = self.files.get(role)
@@ -109,21 +109,21 @@ class Explainer:
         return (name, number, 1), pointer(line, number, None)
 
     def driver_fault(self, number, what):
-        """The place of a fault of a driver: its line, and where the tools can tell it the token."""
+        """The place of a fault of a driver: its line, and if the tools find it, its token."""
         fault = next((fault for fault in DRIVER if what == fault or what.startswith(fault + " ")), None)
         texts = {}
         place, lines = self.line_place("driver", number, texts)
-        self.told.add((self.files.get("driver"), number))
+        self.reported.add((self.files.get("driver"), number))
         if place is None or what not in ("syntax", "bad token"):
             return place, lines, joined(DRIVER.get(fault), self.hints.more(what) if fault != "bad target" else "")
         farthest = next((other for other in drivers.Driver(texts[place[0]].content).faults if other.line >= number and other.what == what), None)
         if farthest is None:
             return place, lines, DRIVER[fault]
-        self.told.add((place[0], farthest.line))
+        self.reported.add((place[0], farthest.line))
         more = pointer(texts[place[0]].line(farthest.line) or b"", farthest.line, farthest.byte)
         if farthest.line != number:
             more = [*lines, "  " + said("help.as_far"), *more]
-        return (place[0], farthest.line, (farthest.byte or 0) + 1), more, could_stand(farthest)
+        return (place[0], farthest.line, (farthest.byte or 0) + 1), more, expected(farthest)
 
     def record_place(self, number, what):
         name = self.files.get("household")
@@ -198,8 +198,8 @@ def text(stream):
     return io.TextIOWrapper(stream, encoding="utf-8", errors="surrogateescape", newline="\n")
 
 
-def tell(line, explainer, places):
-    """Prints a line with what it is about; whether it is an error."""
+def print_explained(line, explainer, places):
+    """Prints a line with its explanation; whether it is an error."""
     place, lines, mend = explainer.explain(line.removesuffix("\r"))
     if not places:
         print(line)
@@ -216,7 +216,7 @@ def explain_lines(lines, explainer, places, is_all):
     refused = False
     for line in lines:
         line = line.removesuffix("\n")
-        is_refusal = tell(line, explainer, places)
+        is_refusal = print_explained(line, explainer, places)
         refused = refused or is_refusal
         named = re.fullmatch(r"refused (.*) line [0-9]+ byte [0-9]+: .*", line)
         if is_all and is_refusal and line.startswith("refused "):
@@ -226,17 +226,17 @@ def explain_lines(lines, explainer, places, is_all):
 
 
 def explain_all(explainer, places, names):
-    """All faults of the files that are known, but those that were told already. Whether there is one."""
+    """All faults of the files that are known, except those that were reported already; gives all of them."""
     found, texts = faults.all_faults(explainer.files.get("list"), explainer.files.get("driver"), names), {}
     for fault in found:
         is_driver = fault.name == explainer.files.get("driver")
         key = (fault.name, fault.line if is_driver else fault.byte)
-        if key in explainer.told:
+        if key in explainer.reported:
             continue
         sentences = DRIVER if is_driver else RULES
         mend = next((sentence for name, sentence in sentences.items() if fault.what == name or fault.what.startswith(name + " ")), "")
         if fault.fault is not None:
-            mend = could_stand(fault.fault)
+            mend = expected(fault.fault)
         elif not (is_driver and fault.what.startswith("bad target")):
             mend = joined(mend, explainer.hints.more(fault.what, fault.name, fault.byte)) or ""
         if is_driver:

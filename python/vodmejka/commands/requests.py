@@ -45,7 +45,7 @@ def print_codes(base, patterns):
     if rows:
         writer.writerow(["code", "name", "type", "description"])
     for variable in rows:
-        writer.writerow([variable.code, variable.name, variable.type or "", decode(variable.told.encode("latin-1"))])
+        writer.writerow([variable.code, variable.name, variable.type or "", decode(variable.text.encode("latin-1"))])
     return bool(rows)
 
 

@@ -1,4 +1,4 @@
-"""Tells what the language permits and an analyst never means.
+"""Finds what the language permits and an analyst never means.
 
     slips [--driver FILE] [--lang en|fr] LIST..
 
@@ -6,31 +6,32 @@ A line for each slip, with its place:
 
     slip LIST: no variable has restituee           nothing is printed where no requests are given
     slip LIST: no rule is of the application A      so no computed variable has a value
-    slip LIST: its files are FOLDER's               a list that was copied and names the files of another folder: what is changed beside it is ignored
+    slip LIST: its files are FOLDER's               a copied list that names the files of another folder: changes in its own folder are ignored
     slip FILE line L byte B: restituee = .. ..      an attribute with a number returns nothing: write restituee alone
     slip FILE line L byte B: application A is of no list that is given
-                                                    told once, at the first rule or verification that has it, with their count
+                                                    reported once, at the first rule or verification that has it, with their number
     slip FILE line L byte B: T[4] is past ..        an index that is a number, also one of a loop, and no cell of the table: undefined, or 0 below 0
     slip FILE line L byte B: nothing sets T[3] ..   cells of a table that no formula sets or reads: undefined, or what a driver sets
     slip LIST: variables or cells that are read and never set: N; m_tax lint ..
                                                     computed ones without a formula that counts. `lint` names them, and what else is true for all households
     slip FILE line L byte B: no input has K         a kind of a driver that is empty, as avfisk = 1
-    slip FILE line L byte B: the type T ..          none of the types of the language: it says nothing
+    slip FILE line L byte B: the type T ..          none of the types of the language: it has no effect
     slip FILE line L byte B: the attribute W ..     nearly restituee: it returns nothing
-    slip FILE line L byte B: the rule N stands twice, also a verification
+    slip FILE line L byte B: the rule N occurs twice, also a verification
     slip FILE line L byte B: the letter i is bound again within its own loop
     slip FILE line L byte B: the condition holds for every household, so E always stops
     slip FILE line L byte B: V is returned, and nothing sets it, or the driver never receives it
     slip constants that nothing reads: N, ..        also computed variables that nothing reads or returns, and errors that no verification has
-    slip FILE line 1 byte 0: a byte order mark      refused in rules, lists, drivers and requests; a household may have one
+    slip FILE line 1 byte 0: a byte order mark      rejected in rules, lists, drivers and requests; a household may have one
     slip FILE line 1 byte B: a carriage return ..   alone it ends no line: a comment goes on after it
 
 Give all lists of a rule base at once, so that an application that another list has is no slip, and the driver, so that what it sets is none; `-` is no
 driver. A chained
-rule counts as no rule. The status is 0 where there is no slip, 1 where there is one, 2 for wrong words, and 3 where a file can't be read or has a fault
-that the program refuses; tools/explain says more of it.
+rule counts as no rule. The status is 0 if there is no slip, 1 if there is one, 2 for wrong arguments, and 3 if a file can't be read or has an error;
+tools/explain shows more of it.
 """
 import decimal
+import itertools
 import os
 import re
 import sys
@@ -38,7 +39,7 @@ from fractions import Fraction
 
 from .. import drivers, items, slips_of_use, source
 from ..limits import AMOUNT
-from ..loops import instances, reads_of, replaced, whole
+from ..loops import instances, replaced, whole
 from ..source import Refused
 from ..texts import language_of, said
 
@@ -59,10 +60,10 @@ def words_of(term):
 
 
 def number_of(term, letters):
-    """What such a term is worth, or None where a word is no number, or a value is beyond the greatest amount. A sum has any number of terms."""
-    behind = []
+    """The value of such a term, or None if a word is no number, or a value is above the greatest amount. A sum has any number of terms."""
+    rest = []
     while term[0] == "op" and len(term[2]) == 2:
-        behind.append((term[1], term[2][1]))
+        rest.append((term[1], term[2][1]))
         term = term[2][0]
     if term[0] == "op":
         worth = number_of(term[2][0], letters)
@@ -70,7 +71,7 @@ def number_of(term, letters):
     else:
         word = replaced(term[1], letters)
         worth = decimal.Decimal(word) if term[0] == "number" or word.isdigit() else None
-    for sign, part in reversed(behind):
+    for sign, part in reversed(rest):
         other = number_of(part, letters)
         if worth is None or other is None:
             return None
@@ -80,7 +81,7 @@ def number_of(term, letters):
 
 
 def cells_read(name, size, index, letters):
-    """The cells that a read comes to, as `lint` counts them: of a table the one of a number, and all of any other index."""
+    """The cells that a read may access, as `lint` counts them: of a table the one of a number, and all of any other index."""
     if index is None or size is None:
         return [(name, None)]
     spelled = replaced(index[1], letters) if index[0] in ("number", "name") else ""
@@ -102,10 +103,10 @@ class Base:
             for formula in reader.formulas:
                 if self.source.application in formula.applications and not formula.is_chained:
                     self.look_at_target(formula)
-                    self.look_at(file, formula.term, formula.loops)
+                    self.look_at(file, formula)
             for check in reader.checks:
                 if self.source.application in check.applications:
-                    self.look_at(file, check.condition, [])
+                    self.look_at(file, check)
 
     def look_at_target(self, formula):
         for letters in instances(formula.loops, [formula.target]):
@@ -113,8 +114,11 @@ class Base:
             size = self.sizes.get(name)
             self.set.update((name, k) for k in range(size or 0)) if formula.slot == "X" else self.set.add((name, formula.slot and int(formula.slot)))
 
-    def look_at(self, file, term, headers):
-        for word, index, byte, round_it in reads_of(term, headers):
+    def look_at(self, file, item):
+        term = item.simple
+        if term is not None:
+            self.read.update(zip(term.names(), itertools.repeat(None)))
+        for word, index, byte, round_it in item.reads() if term is None else term.cells():
             words = None if index is None else words_of(index)
             for letters in instances(round_it, [word, *(words or [])]):
                 name = replaced(word, letters)
@@ -122,8 +126,8 @@ class Base:
                 size = self.sizes.get(name)
                 self.read.update(cells_read(name, size, index, letters))
                 if number is not None and size is not None and not -1 < number < size:
-                    told = said("slips.past" if number > 0 else "slips.below", cell=f"{name}[{int(number)}]", size=size)
-                    self.past.append(f"{file.place(byte)}: {told}")
+                    sentence = said("slips.past" if number > 0 else "slips.below", cell=f"{name}[{int(number)}]", size=size)
+                    self.past.append(f"{file.place(byte)}: {sentence}")
                     break
 
 
@@ -165,14 +169,14 @@ def slips_of_bytes(name, content):
 
 
 def slips_of_folder(list_name, names):
-    """A list whose files stand in a folder beside its own, or have namesakes beside it."""
+    """A list whose files are in a sibling of its own folder, or have namesakes in it."""
     own = os.path.dirname(os.path.abspath(list_name))
-    told = set()
+    reported = set()
     for name in names:
         folder, base = os.path.split(os.path.abspath(name))
-        beside = os.path.dirname(folder) == os.path.dirname(own) or os.path.exists(os.path.join(own, base))
-        if folder != own and beside and folder not in told and not folder.startswith(own + os.sep):
-            told.add(folder)
+        is_copy = os.path.dirname(folder) == os.path.dirname(own) or os.path.exists(os.path.join(own, base))
+        if folder != own and is_copy and folder not in reported and not folder.startswith(own + os.sep):
+            reported.add(folder)
             yield f"{list_name}: {said('slips.folder', folder=os.path.dirname(name) or '.', name=name)}"
 
 
@@ -218,7 +222,7 @@ def slips_of_uses(bases, named_drivers):
         yield from slips_of_use.slips_of_numbers(base.source.files, {base.source.application})
     for file, reader in readers:
         yield from slips_of_use.slips_of_letters(file, reader)
-    constants = {variable.name: Fraction(variable.told) for file in files for variable in file.variables if variable.kind == "const" and variable.told}
+    constants = {variable.name: Fraction(variable.text) for file in files for variable in file.variables if variable.kind == "const" and variable.text}
     kinds = {name: kind for _, reader in readers for name, kind in reader.kinds_of_errors.items()}
     for application in sorted(applications):
         for file, reader in readers:
@@ -236,22 +240,22 @@ def slips_of_uses(bases, named_drivers):
 
 
 def slips_of_files(bases):
-    """What the files say by themselves: bytes, attributes, applications."""
+    """Slips of single files: bytes, attributes, applications."""
     known = {base.source.application for base in bases}
     files = {file.name: file for base in bases for file in base.source.files}
     strange = {}
     for file in files.values():
         yield from slips_of_bytes(file.name, file.bytes)
         for variable in file.variables:
-            for word, place in variable.numbered:
+            for word, byte in variable.numbered:
                 if word == "restituee":
-                    yield f"{place}: {said('slips.numbered', name=variable.name)}"
+                    yield f"{file.place(byte)}: {said('slips.numbered', name=variable.name)}"
         for rule in file.rules:
-            for application, place in rule.applications:
+            for application, byte in rule.applications:
                 if application not in known:
-                    strange.setdefault(application, []).append(place)
+                    strange.setdefault(application, []).append((file, byte))
     for application, places in strange.items():
-        yield f"{places[0]}: {said('slips.application', application=application, count=len(places))}"
+        yield f"{places[0][0].place(places[0][1])}: {said('slips.application', application=application, count=len(places))}"
 
 
 def main(words):

@@ -5,20 +5,20 @@
 
 both with [--lang en|fr].
 
-NAME is a variable, or a cell of a table as T[3]. The values are what the program computes at one call of the rules, without a driver, and `check` looks at
-the report of them before anything is shown. For each value it shows what the declaration says of it, the formula as the rule file has it, and
-its file, line and rule. A value that was shown above is named again without what stands below it. --depth shows so many levels, --only-nonzero leaves
+NAME is a variable, or a cell of a table as T[3]. The values are those of one call of the rules, without a driver, and `check` verifies
+the report of them before anything is shown. For each value it shows its description, the formula as in the rule file, and
+its file, line and rule. A value that was shown above is named again, without its own values. --depth shows so many levels, --only-nonzero leaves
 out what is undefined or 0. --against shows what differs for the household OTHER: the values that are others there, with both.
 --report prints the lines of the report alone, for `check`. --html writes a page of its own, without scripts,
 that folds and unfolds in any browser; --open unfolds all of it, and printed it is whole.
 
-With --driver the value is the one after a run by the driver: it says which command gave it, goes on with what that read, into functions and partitions and
-the branches that were taken, and shows the tree of each call of the rules that it comes to.
+With --driver the value is the one after a run by the driver: the tool shows the command that set it, and from what, in functions, partitions and
+the branches that were taken, down to the tree of each call of the rules.
 
-Of a formula the letters of loops are filled in, and it says which cells of tables and which branches were taken. Where a verification stops the call, that
-comes first, with its condition and the values that this reads, and the status is 1.
+In a formula the letters of loops are filled in, and the cells of tables and the branches that were taken are named. If a verification stops the call, it
+is shown first, with its condition and the values that this reads, and the status is 1.
 
-The status is 0, 1 where the program refuses or the report isn't sound, 2 for wrong words, 3 where a file can't be read, and 4 where FILE can't be written.
+The status is 0, 1 if the program rejects the input or the report isn't sound, 2 for wrong arguments, 3 if a file can't be read, and 4 if FILE can't be written.
 The program is ./m_tax of this repository, or the one that M_TAX names.
 """
 import html
@@ -32,7 +32,6 @@ from .. import reasons, runs, source
 from ..copies import Copies, Stopped
 from ..driver_trace import Driver, Trace, cells_of, last
 from ..endings import Wrong, ended
-from ..loops import reads_of
 from ..texts import FRENCH, Language, language_of, said
 from ..why_trees import Tree
 
@@ -43,8 +42,8 @@ summary{cursor:pointer}.leaf{padding-left:1em}b{font-family:monospace}.said{colo
 
 
 def options(words):
-    """The three words, and what the options say."""
-    told_words, found = [], {"--depth": None, "--html": None, "--against": None, "--driver": None, "--only-nonzero": False, "--report": False, "--open": False}
+    """The three arguments, and the options."""
+    arguments, found = [], {"--depth": None, "--html": None, "--against": None, "--driver": None, "--only-nonzero": False, "--report": False, "--open": False}
     while words:
         word = words.pop(0)
         if word in found and isinstance(found[word], bool):
@@ -54,18 +53,18 @@ def options(words):
         elif word.startswith("--"):
             raise Wrong(said("why.words"), 2)
         else:
-            told_words.append(word)
-    if len(told_words) != 3 or re.search(r"\s", told_words[2]):
+            arguments.append(word)
+    if len(arguments) != 3 or re.search(r"\s", arguments[2]):
         raise Wrong(said("why.words"), 2)
     if found["--depth"] is not None and not re.fullmatch("[1-9][0-9]{0,5}", found["--depth"]):
         raise Wrong(said("why.depth", text=found["--depth"]), 2)
     if found["--driver"] is not None and (found["--html"] or found["--against"] or found["--report"]):
         raise Wrong(said("why.tree_alone"), 2)
-    return told_words, found
+    return arguments, found
 
 
 def cells_needed(rules, root):
-    """The cells that a value needs, those without a formula first, and each other one behind those that it reads. A ring ends where it began."""
+    """The cells that a value needs, those without a formula first, and each other one after those that it reads. A cycle is cut where it began."""
     order, state = [], {}
     reads = lambda cell: iter(rules.formulas[cell].reads(rules.sizes) if cell in rules.formulas else ())
     left = [(root, reads(root))]
@@ -83,8 +82,8 @@ def cells_needed(rules, root):
 
 
 def report(rules, household, name):
-    """The lines of the report of a cell: what the program computes of the cells that it needs, which `check` finds sound. Where a verification stops the call
-    a session tells them all the same, and the stop comes back too."""
+    """The lines of the report of a cell: what the program computes of the cells that it needs, which `check` finds sound. If a verification stops the call
+    they are those of a session, and the stop is given too."""
     cells, stop = cells_needed(rules, name), None
     with tempfile.TemporaryDirectory() as room:
         copies = Copies(rules, source.fetch(household), room)
@@ -96,30 +95,23 @@ def report(rules, household, name):
         answer, status = copies.ask("check", copies.list, copies.household, path)
         if (answer, status) != (b"sound\n", 0):
             raise Wrong(said("why.unsound", what=runs.fault_of(answer, status)))
-        return lines, stop and told_stop(rules, copies, stop)
+        return lines, stop and stop_lines(rules, copies, stop)
 
 
-def told_stop(rules, copies, stop):
-    """The lines that say which verification stops the call, with its condition and the values that it reads."""
+def stop_lines(rules, copies, stop):
+    """The verification that stops the call, with its condition and the values that it reads, as lines."""
     lines = [said("why.stopped", stop=stop)]
     words = stop.line.split(" ")
     number, error = (words[1], words[2]) if words[0] == "failed" else (words[2], words[3])
     for file, check, written in rules.checks:
-        if check.error != error or rule_number(written, check.byte) != number:
+        if check.error != error or written.number("V", check.byte) != number:
             continue
         place = said("why.verif", file=file.name, line=file.lines.number(check.byte), number=number)
         lines.append(f"    {written.formula(check.byte)}   ({place})")
-        for word, index, _, _ in reads_of(check.condition, []):
+        for word, index, _, _ in check.reads():
             cells = [word] if index is None else [f"{word}[{k}]" for k in range(rules.sizes.get(word, 0))]
             lines += [f"  {cell} {value}" for cell in cells if not cell.isdigit() and (value := copies.value_unstopped(cell)) is not None]
     return list(dict.fromkeys(lines))
-
-
-def rule_number(written, byte):
-    """The number of the verification that a check stands in."""
-    before = [token for token in written.tokens if token.byte < byte]
-    at = max((k for k, token in enumerate(before) if token.text == "verif"), default=0)
-    return next((token.text for token in before[at:] if token.kind == "number"), "")
 
 
 def tree_of(rules, root, lines, found, others=None):
@@ -129,7 +121,7 @@ def tree_of(rules, root, lines, found, others=None):
 
 
 class Steps:
-    """Shows why a cell has its value behind a driver: the commands that gave it, and of each call of the rules the tree."""
+    """Shows why a cell has its value after a run by a driver: the commands that set it, and of each call of the rules the tree."""
 
     def __init__(self, trace, name, driver_name, found):
         self.trace, self.name, self.driver, self.found, self.shown = trace, name, driver_name, found, set()
@@ -233,14 +225,14 @@ def look_at_page(page, read):
 
 
 def show_driver(rules, words, found):
-    """Shows why a cell has its value behind a driver."""
+    """Shows why a cell has its value after a run by a driver."""
     content = source.fetch(found["--driver"])
     with tempfile.TemporaryDirectory() as room:
         copies = Copies(rules, source.fetch(words[1]), room, content)
         try:
             lines = list(Steps(Trace(rules, copies, Driver(content)), words[2], found["--driver"], found).lines())
         except Stopped as stop:
-            for line in told_stop(rules, copies, stop):
+            for line in stop_lines(rules, copies, stop):
                 print(line)
             return 1
     print("\n".join(lines))

@@ -7,7 +7,7 @@ from typing import Any
 
 from .. import drivers, faults, items, source
 from ..commands import slips
-from ..commands.explain import could_stand
+from ..commands.explain import expected
 from ..sentences import DRIVER, RULES, marked
 from .base import Base
 from .checks import ERROR, HINT, INFORMATION, WARNING, Declared, token_length
@@ -81,7 +81,7 @@ def of_grammar(text: RuleText) -> Iterator[Diagnostic]:
                 continue
             is_deep = True
         end = byte + fault_length(piece, byte, fault)
-        mend = could_stand(fault) if fault.what in ("syntax", "bad byte") else sentence(RULES, fault.what)
+        mend = expected(fault) if fault.what in ("syntax", "bad byte") else sentence(RULES, fault.what)
         yield diagnostic(text, byte, end, ERROR, fault.what, mend, found=fault.found, wanted=list(fault.wanted))
     if text.is_cut:
         byte = next(match.start() for match in QUOTE_OR_COMMENT.finditer(text.content) if match[0] == b'"')
@@ -130,7 +130,7 @@ def of_driver(workspace: Workspace, text: DriverText) -> Iterator[Diagnostic]:
     for fault in faults.faults_of_driver(text.path, text.driver, variables):
         begin, end = place_in_driver(text, fault)
         token_fault = fault.fault
-        mend = could_stand(token_fault) if token_fault is not None and token_fault.found else sentence(DRIVER, fault.what)
+        mend = expected(token_fault) if token_fault is not None and token_fault.found else sentence(DRIVER, fault.what)
         data = {"found": token_fault.found, "wanted": list(token_fault.wanted)} if token_fault is not None else {}
         yield diagnostic(text, begin, end, ERROR, fault.what, mend, token=text.decoded(text.content[begin:end]), **data)
     for base in bases if not text.driver.faults else []:
