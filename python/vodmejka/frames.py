@@ -16,7 +16,7 @@ from .cells import NoAmount, exact, narrow, rows_of
 from .errors import Broken, Refused, Stopped
 from .limits import AMOUNT, FILE_BYTES
 from .program import ENCODING
-from .surveys import FIRST, Run, Survey, body_of
+from .surveys import FIRST, REFUSED, Run, Survey, body_of
 
 if TYPE_CHECKING:
     import numpy
@@ -29,7 +29,6 @@ EXACT = Decimal(2**53).scaleb(-6)  # below it a float tells all millionths apart
 APART = 2**33
 INT64 = 2**63
 SURE = 2**30  # below it a float has its millionths, by a multiplication and rounding
-REFUSED = re.compile(r"refused household line ([0-9]+): .*", re.DOTALL)
 OVERS = re.compile(rb",over(?=[,\n])")
 
 

@@ -5,7 +5,7 @@ from fractions import Fraction
 
 from .amounts import plain
 from .bar_pictures import bars
-from .file_comparisons import RATES
+from .comparers import RATES
 from .texts import Language, said
 
 

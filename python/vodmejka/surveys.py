@@ -3,16 +3,19 @@ from __future__ import annotations
 
 import mmap
 import os
+import re
 import subprocess
 from typing import Callable, Sequence
 
-from .answers import Printed
+from .answers import LABEL, Printed
 from .batches import TABLE_NAME, printed_in
 from .errors import Broken, NotFound, Refused
 from .guard import Child, memory_file
+from .long_tables import columns_of
 from .program import ENCODING, Program, ended, raise_for, started
 
 FIRST = ("name", "stop", "notes")
+REFUSED = re.compile(r"refused household line ([0-9]+): .*", re.DOTALL)
 
 
 class Survey:
@@ -80,3 +83,27 @@ def body_of(printed: Printed, names: Sequence[str]) -> bytes | mmap.mmap:
     if printed[: len(line)] != line or printed[-1:] != b"\n":
         raise Broken(f"m_survey printed something else than the csv of {', '.join(names)}")
     return printed
+
+
+def values_of(printed: Printed, names: Sequence[str], count: int) -> dict[str, list[str]]:
+    """The texts of values by their names, and of stops by `stop`, as they are printed for so many households with the label `~`."""
+    text = body_of(printed, names)[:]
+    head = [*FIRST, *names]
+    text = text[text.index(b"\n") + 1 :]
+    if text.count(b"\n") != count:
+        raise Broken(f"{text.count(10)} answers for {count} households")
+    try:
+        columns = columns_of(text, count, head, "an answer")
+    except Refused:
+        raise Broken("an answer of another household") from None
+    if columns[0].count(LABEL) != count:
+        raise Broken("an answer of another household")
+    return {name: columns[at] for at, name in enumerate(head) if name not in ("name", "notes")}
+
+
+def in_table(refused: Refused, before: int) -> Refused:
+    """A message about a line of a part, with the line of the whole table, in which so many households precede the part."""
+    found = REFUSED.fullmatch(refused.line)
+    if found is None or int(found[1]) < 2:
+        return refused
+    return Refused(refused.line.replace(f"line {found[1]}:", f"line {int(found[1]) + before}:", 1))
