@@ -154,10 +154,11 @@ class Sums(unittest.TestCase):
 
     def test_gini(self):
         """All the same: 0. One of n has all: (n - 1) / n. A weight of 2 is two households."""
-        self.assertEqual(gini_of([(1, Fraction(3))] * 4), 0)
-        self.assertEqual(gini_of([(1, Fraction(0))] * 3 + [(1, Fraction(8))]), Fraction(3, 4))
-        self.assertEqual(gini_of([(2, Fraction(1)), (1, Fraction(4))]), gini_of([(1, Fraction(1)), (1, Fraction(1)), (1, Fraction(4))]))
-        self.assertIsNone(gini_of([(1, Fraction(0))]))
+        self.assertEqual(gini_of([1] * 4, [3] * 4), 0)
+        self.assertEqual(gini_of([1] * 4, [0, 0, 8, 0]), Fraction(3, 4))
+        self.assertEqual(gini_of([2, 1], [1, 4]), gini_of([1, 1, 1], [4, 1, 1]))
+        self.assertIsNone(gini_of([1], [0]))
+        self.assertIsNone(gini_of([], []))
 
 
 if __name__ == "__main__":

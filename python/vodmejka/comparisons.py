@@ -46,8 +46,8 @@ class Compared(NamedTuple):
 class ComparedHouseholds(Sequence[Compared]):
     """The households of a comparison, as columns of whole numbers; each is made when it is read."""
 
-    def __init__(self, scales: Sequence[int], groupings: int):
-        self.scales, self.groups = list(scales), [list[Any]() for _ in range(groupings)]
+    def __init__(self, scales: Sequence[int], by: Sequence[str]):
+        self.scales, self.by, self.groups = list(scales), list(by), [list[Any]() for _ in by]
         self.weights, self.reasons = list[int](), Reasons()
         self.amounts = [(list[int](), list[int]()) for _ in scales]
 
@@ -79,11 +79,16 @@ class ComparedHouseholds(Sequence[Compared]):
         if isinstance(at, slice):
             return [self[number] for number in range(*at.indices(len(self)))]
         number = range(len(self))[at]
-        why, groups = self.reasons.get(number, ""), tuple(column[number] for column in self.groups)
+        why, groups = self.reasons.get(number, ""), tuple(group_of(name, column[number]) for name, column in zip(self.by, self.groups))
         pairs: list[tuple[Fraction | None, Fraction | None]] = [(None, None)] * 2
         if not why:
             pairs = [(Fraction(first[number], scale), Fraction(second[number], scale)) for (first, second), scale in zip(self.amounts, self.scales)] + pairs
         return Compared(number, self.weights[number], groups, *pairs[0], pairs[1], why)
+
+
+def group_of(name: str, value: Any) -> Any:
+    """The group of a household: what its column has, or the number that orders households into tenths."""
+    return Fraction(value) if name.startswith(TENTH) and value is not None else value
 
 
 class Comparison:
@@ -98,7 +103,7 @@ class Comparison:
         households: ComparedHouseholds | None = None,
     ):
         self.of, self.gain, self.net, self.by = of, gain, net, list(by)
-        self.households = ComparedHouseholds([1], 0) if households is None else households
+        self.households = ComparedHouseholds([1], []) if households is None else households
         self.groups, self.digests, self.program = list(groups), digests, program
 
     @property
@@ -195,7 +200,7 @@ class Computation:
             wanted = dict.fromkeys(itertools.chain(*(expression.names for expression in expressions), more))
             requested = rules.outputs()
             self.sides.append(rules.survey_of([name for name in wanted if name in requested]))
-        self.households = ComparedHouseholds([expression.scale for expression in expressions], len(by))
+        self.households = ComparedHouseholds([expression.scale for expression in expressions], by)
         self._whole = Group("all", sign, self.scale)
         self._labelled: list[dict[str, Group]] = [{} for name in by if not name.startswith(TENTH)]
         self._ordered = [(Ordered(), Group(f"no {name}", sign, self.scale)) for name in ordering]
@@ -263,7 +268,7 @@ class Computation:
                 part, without_key = ordered(name.removeprefix(TENTH), keys, rows, self._whole)
                 others[0].add(part)
                 others[1].merge(without_key)
-                groups.append([None if key is None else Fraction(key) for key in keys])
+                groups.append(keys)
             else:
                 groups.append(next(at))
                 merge_into(next(labelled), by_label(name, map(str, groups[-1]), rows, self.sign, self.scale))

@@ -160,13 +160,10 @@ def group_line(group: Group) -> dict[str, Any]:
 
 def gini_of(weights: Sequence[int], amounts: Sequence[int]) -> Fraction | None:
     """The Gini coefficient of amounts with weights: one less twice the area under the Lorenz curve. None where the amounts have no sum above 0."""
-    ordered = sorted(zip(amounts, weights))
-    whole, sum_ = sum(weights), sum(map(operator.mul, amounts, weights))
-    if sum_ <= 0:
+    order = sorted(range(len(amounts)), key=amounts.__getitem__)
+    ordered = list(map(weights.__getitem__, order))
+    below = [0, *itertools.accumulate(map(operator.mul, ordered, map(amounts.__getitem__, order)))]
+    if below[-1] <= 0:
         return None
-    area = below = 0
-    for amount, weight in ordered:
-        product = amount * weight
-        area += weight * (2 * below + product)
-        below += product
-    return 1 - Fraction(area, whole * sum_)
+    area = sum(map(operator.mul, ordered, map(operator.add, below, below[1:])))
+    return 1 - Fraction(area, sum(weights) * below[-1])

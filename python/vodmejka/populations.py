@@ -6,8 +6,10 @@ import itertools
 from fractions import Fraction
 from typing import TYPE_CHECKING, Any, Callable, Iterable, Iterator, Mapping, NamedTuple, Sequence
 
+from . import runs
 from .amounts import UNIT
 from .cells import NoAmount
+from .columns import numbers
 from .errors import Refused
 from .frames import Households, quoted
 from .limits import FILE_BYTES, ROWS
@@ -107,11 +109,13 @@ class Frame:
             texts = self._column(name, begin, end)
         except NoAmount as fault:
             raise Refused(f"{fault.why.partition(', code ')[0]}: the weight {name} is no number: {column.iloc[fault.row - begin]!r}") from None
-        known: dict[str, int] = {}
-        for at, text in enumerate(texts):
-            if text not in known:
-                known[text] = weight_of(self._all.label(begin + at), name, text)
-        return list(map(known.__getitem__, texts))
+        try:
+            weights = numbers(texts)
+        except runs.Failed:
+            weights = [-1]
+        if min(weights) < 0:
+            return [weight_of(self._all.label(row), name, text) for row, text in enumerate(texts, begin)]
+        return weights
 
 
 class Mappings:
