@@ -158,19 +158,20 @@ class Found(unittest.TestCase):
             with mock.patch.dict(os.environ, {"M_SURVEY": room + "/bin/m_survey"}):
                 self.assertEqual(program.program_path(None, "m_survey", room + "/other/m_tax"), room + "/bin/m_survey")
 
-    def test_commands_of_an_installed_package(self):
-        """They have the program that the package finds; in a repository they have its script."""
-        with tempfile.TemporaryDirectory() as room, mock.patch.dict(os.environ, {"PATH": room, "M_TAX": ""}), \
-                mock.patch.object(program, "TOP", room + "/nowhere"), mock.patch.object(runs, "TOP", room + "/nowhere"):
-            path = room + "/m_tax"
-            with open(path, "w", encoding="ascii") as file:
-                file.write("#!/bin/sh\n")
-            self.assertEqual(runs.program_path(), room + "/nowhere/m_tax")
-            os.chmod(path, 0o755)
-            self.assertEqual(runs.program_path(), path)
-            os.mkdir(room + "/nowhere")
-            shutil.copy(path, room + "/nowhere/m_tax")
-            self.assertEqual(runs.program_path(), room + "/nowhere/m_tax")
+    def test_commands_have_the_same_program(self):
+        """They compute by the program that the package finds, and name the one of the repository where there is none."""
+        with tempfile.TemporaryDirectory() as room, mock.patch.dict(os.environ, {"PATH": room + "/bin", "M_TAX": "", "M_SURVEY": ""}), \
+                mock.patch.object(program, "TOP", room + "/top"), mock.patch.object(program, "clone", lambda: []):
+            self.assertEqual(runs.program_path(), room + "/top/m_tax")
+            with self.assertRaises(FileNotFoundError):
+                runs.found()
+            for name in ("top/m_tax", "bin/m_tax", "top/out/m_tax"):
+                path = put_program(room, name)
+                self.assertEqual((runs.program_path(), runs.found().path, runs.found().digest), (path, path, program.Program().digest))
+            put_program(room, "top/out/m_survey")
+            self.assertEqual(runs.found("m_survey").path, room + "/top/out/m_survey")
+            with mock.patch.dict(os.environ, {"M_TAX": room + "/gone"}):
+                self.assertEqual(runs.program_path(), room + "/gone")
 
 
 if __name__ == "__main__":

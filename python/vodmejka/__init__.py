@@ -10,8 +10,8 @@
 them, `session` holds one that is edited. An answer has values, notes, or what stopped the run. What the program refuses is an exception with its place.
 """
 from .answers import OVER, Answer, Note, Over, Stop, Value
-from .cases import Mismatch
-from .comparisons import Comparison, compare
+from .cases import Mismatch, Mismatches
+from .comparisons import Compared, Comparison, compare
 from .errors import Broken, Interrupted, NotFound, Refused, Stopped, VodmejkaError
 from .facts import Fact, Facts, Range
 from .file_comparisons import FileComparison, compare_file
@@ -23,7 +23,7 @@ from .version import VERSION as __version__
 from .whys import Why
 
 __all__ = [
-    "OVER", "Answer", "Broken", "Comparison", "Fact", "Facts", "FileComparison", "Formula", "Interrupted", "Mismatch", "Note", "NotFound", "Over", "Range",
-    "Refused", "Rules", "Session", "Stop", "Stopped", "Sweep", "Value", "Variable", "VodmejkaError", "Why", "__version__", "compare",
-    "compare_file", "sweep",
+    "Answer", "Broken", "Compared", "Comparison", "Fact", "Facts", "FileComparison", "Formula", "Interrupted", "Mismatch", "Mismatches", "NotFound",
+    "Note", "OVER", "Over", "Range", "Refused", "Rules", "Session", "Stop", "Stopped", "Sweep", "Value", "Variable", "VodmejkaError", "Why",
+    "__version__", "compare", "compare_file", "sweep",
 ]

@@ -1,6 +1,7 @@
-"""What a household is told, read from the lines of the program."""
+"""The answer to a household, read from the lines of the program."""
 from __future__ import annotations
 
+import functools
 import mmap
 import re
 from dataclasses import dataclass
@@ -57,20 +58,22 @@ Read = tuple[dict[str, Value], tuple[Note, ...], Union[Stop, None]]
 
 
 class Answer(Mapping[str, Value]):
-    """What a household is told: the values by their names in order, and the notes; or the stop, and then there are no values.
+    """The values by their names in order, and the notes; or the stop, and then there are no values. `digests` are those of the source and of the program.
 
     It is a mapping of names to values. Of a household that a verification stopped it is empty, and `answer[NAME]` raises `Stopped`.
 
-    Of a batch the lines of the program are read when something of them is asked for, and of a single value its line alone, so that many answers cost little.
+    Of a batch the lines of the program are read when something of them is requested, and of a single value its line alone, so that many answers cost little.
     """
 
     __slots__ = ("_block", "_columns", "_index", "_lines", "_form", "_values", "_rest")
     _index: int
 
-    def __init__(self, values: dict[str, Value] | None = None, notes: tuple[Note, ...] = (), stop: Stop | None = None):
+    def __init__(
+        self, values: dict[str, Value] | None = None, notes: tuple[Note, ...] = (), stop: Stop | None = None, digests: tuple[str, str] = ("", "")
+    ):
         self._block: Block | None = None
         self._columns: dict[str, list[Decimal] | None] = NO_COLUMNS
-        self._lines, self._form = "", NO_FORM
+        self._lines, self._form = "", empty_form(digests)
         self._values: dict[str, Value] | None = {} if values is None else values
         self._rest: tuple[tuple[Note, ...], Stop | None] | None = (notes, stop)
 
@@ -81,6 +84,10 @@ class Answer(Mapping[str, Value]):
         if self._values is None:
             self._values = self._form.values(self._lines)
         return self._values
+
+    @property
+    def digests(self) -> tuple[str, str]:
+        return (self._form if self._block is None else self._block.form).digests
 
     @property
     def notes(self) -> tuple[Note, ...]:
@@ -124,7 +131,7 @@ class Answer(Mapping[str, Value]):
         return section([f"{len(values)} values", *notes], table(["name", "value"], values))
 
     def __reduce__(self) -> tuple[type, tuple[object, ...]]:
-        return Answer, (self.values, self.notes, self.stop)
+        return Answer, (self.values, self.notes, self.stop, self.digests)
 
     def _value(self, name: str) -> Value:
         """A value of which there is no column yet, or none at all."""
@@ -175,14 +182,15 @@ def decimal_of(text: bytes) -> Decimal:
 
 
 class Form:
-    """How answers of rules tell values of these names, where all are amounts: how each line begins, and the form of all lines together.
+    """How answers of rules print values of these names, where all are amounts: how each line begins, and the form of all lines together. `digests` are those of
+    the source and of the program.
 
     The lines of an answer have a line feed before the first one and after each. The last line that begins with a name and ` = ` is that name's, or the text of
     a note or a stop, and this is no amount, since it has the colons between the error's texts. So a line that is a label, or a name with an amount, is no text.
     """
 
-    def __init__(self, names: list[str]):
-        self.names = names
+    def __init__(self, names: list[str], digests: tuple[str, str] = ("", "")):
+        self.names, self.digests = names, digests
         self.begins = {name: f"\n{name} = " for name in names}
         self._finders: dict[str, Callable[[Printed, int, int], list[bytes]]] = {}
         self._known: dict[bytes, Decimal] | None = Known()
@@ -291,6 +299,12 @@ def value_of(line: str) -> Value:
     return Decimal(match[2]) if match[2] else None if match[3] else OVER
 
 
-def answer_of(lines: Iterator[str]) -> Answer:
+@functools.lru_cache(maxsize=64)
+def empty_form(digests: tuple[str, str]) -> Form:
+    """The form of answers whose values were read already."""
+    return Form([], digests)
+
+
+def answer_of(lines: Iterator[str], digests: tuple[str, str]) -> Answer:
     """The answer of which these are all lines."""
-    return Answer(*parts_of(lines))
+    return Answer(*parts_of(lines), digests)

@@ -9,12 +9,12 @@ from typing import TYPE_CHECKING, BinaryIO, Iterator, Mapping, Sequence
 
 from .answers import LABEL
 from .errors import Broken, Refused, Stopped
-from .frames import REFUSED, STOPS, Households, Told, quoted
+from .frames import STOPS, Households, Told, quoted
 from .limits import FILE_BYTES
 from .long_tables import LongTable, Part, column_named, fields_of, of_width
 from .program import ENCODING, csv_text, whole_file
 from .source import MASK
-from .surveys import FIRST, Run, Survey, body_of
+from .surveys import FIRST, Run, Survey, body_of, in_table
 
 if TYPE_CHECKING:
     import pandas
@@ -96,10 +96,7 @@ def printed_of(run: Run, part: Part, names: Sequence[str]) -> bytes:
     try:
         printed = body_of(run.printed(), names)[:]
     except Refused as refused:
-        found = REFUSED.fullmatch(refused.line)
-        if found is None or int(found[1]) < 2:
-            raise
-        raise Refused(refused.line.replace(f"line {found[1]}:", f"line {int(found[1]) + part.before}:", 1)) from None
+        raise in_table(refused, part.before) from None
     if printed.count(b"\n") != part.rows + 1:
         raise Broken(f"{printed.count(10) - 1} answers for {part.rows} households")
     return printed

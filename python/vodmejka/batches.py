@@ -100,7 +100,7 @@ class Batch:
         if 2 * len(wanted) > len(names):
             return None
         if self.few is None or self.few.names != wanted:
-            self.few = Form(wanted)
+            self.few = Form(wanted, self.form.digests)
         return self.few
 
     def _parts(self, left: Iterator[Household]) -> Generator[Piece, None, None]:

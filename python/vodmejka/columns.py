@@ -20,7 +20,7 @@ Reasons = dict[int, str]
 
 
 class Micros(dict[str, int]):
-    """Amounts in millionths by their texts, of at most six decimals; `runs.Failed` for another text."""
+    """Amounts in millionths by their texts, of at most six decimals; `Failed` for another text."""
 
     def __missing__(self, text: str) -> int:
         if len(self) > MOST:
@@ -35,7 +35,7 @@ class Micros(dict[str, int]):
 
 
 class Inputs(Micros):
-    """Amounts of inputs in millionths by their texts, which the program has accepted: an empty text is 0, and further decimals are rounded, halves away from 0."""
+    """Amounts of inputs in millionths by their texts, which the program has accepted: an empty text is 0, and more decimals are rounded, halves away from 0."""
 
     def read(self, text: str) -> int:
         if len(text.partition(".")[2]) > 6:
@@ -69,7 +69,7 @@ def whole(texts: Sequence[str]) -> list[int] | None:
 
 
 def numbers(texts: Sequence[str]) -> list[int]:
-    """Amounts in millionths; `runs.Failed` where one is none."""
+    """Amounts in millionths; `Failed` where one is none."""
     made = whole(texts)
     return list(map(MICROS.__getitem__, texts)) if made is None else made
 
@@ -97,7 +97,8 @@ def sums(expression: Expression, count: int, column: Callable[[str], tuple[list[
     terms = [(int(factor * expression.scale), *column(name)) for name, factor in expression.terms.items()]
     if len(terms) == 1 and (constant, terms[0][0]) == (0, 1):
         return terms[0][1], terms[0][2]
-    made, reasons = [constant] * count, Reasons()
+    made = [constant] * count
+    reasons: Reasons = {}
     for factor, numbers, found in terms:
         made = list(map(operator.add, made, map(operator.mul, itertools.repeat(factor), numbers)))
         reasons.update((at, why) for at, why in found.items() if reasons.get(at) != "undefined")

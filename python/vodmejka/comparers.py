@@ -9,11 +9,11 @@ import operator
 from dataclasses import dataclass, field
 from typing import Iterable, Mapping, Sequence
 
-from . import records, runs
+from . import records
 from .amounts import UNIT
 from .answers import LABEL
 from .columns import INPUTS, MICROS, PLAIN, Reasons, inputs, numbers, rounded, sums, values, without
-from .errors import Refused
+from .errors import Failed, Refused
 from .expressions import Expression
 from .groups import Group, Rows, by_label, merged
 from .long_tables import Part, columns_of, is_plain, shown
@@ -65,8 +65,8 @@ class Side:
 
 @dataclass
 class Outcome:
-    """The results of a part, or of all: the lines of the households, the sums, the weight of each class of gains, and of each class of marginal rates before and
-    after, and for each number that orders households those that have it, in order, and the group of the others."""
+    """The results of a part, or of all: the lines of the households, the sums, the weight of each class of gains, and of each class of marginal rates before
+    and after, and for each number that orders households those that have it, in order, and the group of the others."""
 
     whole: Group
     groups: list[dict[str, Group]]
@@ -158,14 +158,14 @@ class Comparer:
         """The millionths of a column."""
         try:
             return numbers(table[at])
-        except runs.Failed:
+        except Failed:
             return [self.number(label, text, what) for label, text in zip(table[0], table[at])]
 
     def number(self, label: str, text: str, what: str) -> int:
         """The millionths of a field."""
         try:
             return MICROS[text]
-        except runs.Failed as fault:
+        except Failed as fault:
             raise Refused(f"{self.path}: {what} of {shown(label)}: {fault}") from None
 
     def keys(self, name: str, at: int | None, table: Sequence[Sequence[str]], answer: Values) -> list[int | None]:

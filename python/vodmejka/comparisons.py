@@ -48,7 +48,8 @@ class ComparedHouseholds(Sequence[Compared]):
 
     def __init__(self, scales: Sequence[int], by: Sequence[str]):
         self.scales, self.by, self.groups = list(scales), list(by), [list[Any]() for _ in by]
-        self.weights, self.reasons = list[int](), Reasons()
+        self.weights = list[int]()
+        self.reasons: Reasons = {}
         self.amounts = [(list[int](), list[int]()) for _ in scales]
 
     def add(self, weights: Sequence[int], groups: Sequence[Sequence[Any]], amounts: Sequence[Sequence[Sequence[int]]], reasons: Reasons) -> None:
@@ -134,7 +135,7 @@ class Comparison:
         return gini_of(weights, before), gini_of(weights, after)
 
     @property
-    def table(self) -> Any:
+    def table(self) -> pandas.DataFrame | list[dict[str, Any]]:
         """A row for each group, as a frame of pandas where it is installed, else as a list of dicts."""
         rows = [group_line(group) for group in self.groups]
         try:
@@ -196,8 +197,8 @@ class Computation:
         self.expressions, self.by, self.sign, self.scale = expressions, list(by), sign, expressions[0].scale
         ordering = [name.removeprefix(TENTH) for name in by if name.startswith(TENTH)]
         self.sides = []
-        for rules, more in ((before, ordering), (after, [])):
-            wanted = dict.fromkeys(itertools.chain(*(expression.names for expression in expressions), more))
+        for rules, more in ((before, ordering), (after, list[str]())):
+            wanted = dict.fromkeys([name for expression in expressions for name in expression.names] + more)
             requested = rules.outputs()
             self.sides.append(rules.survey_of([name for name in wanted if name in requested]))
         self.households = ComparedHouseholds([expression.scale for expression in expressions], by)
@@ -254,13 +255,13 @@ class Computation:
     def _add(self, portion: Portion, answers: Sequence[dict[str, list[str]]]) -> None:
         """Adds up some households."""
         pairs = [[self._sum(expression, portion, answer) for answer in answers] for expression in self.expressions]
-        reasons = Reasons()
+        reasons: Reasons = {}
         for side in (1, 0):
             for pair in pairs[::-1]:
                 reasons.update(pair[side][1])
             reasons.update((at, "stopped") for at, stop in enumerate(answers[side]["stop"]) if stop)
         amounts = [[without(column, reasons) for column, _ in pair] for pair in pairs]
-        rows = Rows(portion.weights, *amounts[0], reasons)
+        rows = Rows(portion.weights, amounts[0][0], amounts[0][1], reasons)
         labelled, ordered_, groups, at = iter(self._labelled), iter(self._ordered), list[Sequence[Any]](), iter(portion.groups)
         for name in self.by:
             if name.startswith(TENTH):

@@ -10,6 +10,14 @@ PLACED = re.compile(r"refused (.*) line ([0-9]+) byte ([0-9]+): (.*)", re.DOTALL
 LINED = re.compile(r"refused (driver|requests|household|list|code|report) line ([0-9]+)(?:: (.*))?", re.DOTALL)
 
 
+class Failed(Exception):
+    """A check of a command fails, or a batch that it started; `goes_on` where the same words may succeed later."""
+
+    def __init__(self, why: str, goes_on: bool = True):
+        super().__init__(why)
+        self.goes_on = goes_on
+
+
 class VodmejkaError(Exception):
     """All errors of this package."""
 

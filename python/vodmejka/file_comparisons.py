@@ -18,7 +18,7 @@ from typing import BinaryIO, Callable, Iterable, Iterator, Sequence, TypeVar
 from . import amounts, runs
 from .comparers import Comparer, Outcome, Request, Side, Step
 from .comparisons import TENTH, Comparison, check_names, sign_of
-from .errors import Broken, Interrupted, Refused
+from .errors import Broken, Failed, Interrupted, Refused
 from .expressions import Expression
 from .groups import Group, merge_into, merged
 from .limits import FILE_BYTES
@@ -113,7 +113,7 @@ def step_of(step: tuple[str, str], head: Sequence[str], codes: Sequence[set[str]
         raise Refused(f"--step: {bytes_shown(code)} is no code of the rules with a column in the table")
     try:
         amount = amounts.amount(text)
-    except runs.Failed as fault:
+    except Failed as fault:
         raise Refused(f"--step: {fault}") from None
     if amount <= 0:
         raise Refused("--step: an amount above 0")

@@ -25,21 +25,22 @@ class Rows:
 
     def chosen(self, places: Sequence[int]) -> Rows:
         """The households at these places."""
-        columns = (list(map(column.__getitem__, places)) for column in (self.weights, self.befores, self.afters))
+        weights, befores, afters = (list(map(column.__getitem__, places)) for column in (self.weights, self.befores, self.afters))
         reasons = {at: self.reasons[place] for at, place in enumerate(places) if place in self.reasons} if self.reasons else {}
-        return Rows(*columns, reasons)
+        return Rows(weights, befores, afters, reasons)
 
     def cut(self, begin: int, end: int) -> Rows:
         """The households from one place up to another."""
-        columns = (column[begin:end] for column in (self.weights, self.befores, self.afters))
-        return Rows(*columns, {at - begin: why for at, why in self.reasons.items() if begin <= at < end})
+        weights, befores, afters = (column[begin:end] for column in (self.weights, self.befores, self.afters))
+        return Rows(weights, befores, afters, {at - begin: why for at, why in self.reasons.items() if begin <= at < end})
 
     def numbered(self) -> Rows:
         """The households that have amounts."""
         if not self.reasons:
             return self
         are_numbers = [at not in self.reasons for at in range(len(self.weights))]
-        return Rows(*(list(itertools.compress(column, are_numbers)) for column in (self.weights, self.befores, self.afters)), {})
+        weights, befores, afters = (list(itertools.compress(column, are_numbers)) for column in (self.weights, self.befores, self.afters))
+        return Rows(weights, befores, afters, {})
 
 
 class Group:

@@ -3,14 +3,14 @@ from __future__ import annotations
 
 import io
 import itertools
+from dataclasses import dataclass
 from fractions import Fraction
 from typing import TYPE_CHECKING, Any, Callable, Iterable, Iterator, Mapping, NamedTuple, Sequence
 
-from . import runs
 from .amounts import UNIT
 from .cells import NoAmount
 from .columns import numbers
-from .errors import Refused
+from .errors import Failed, Refused
 from .frames import Households, quoted
 from .limits import FILE_BYTES, ROWS
 from .long_tables import columns_of
@@ -36,7 +36,8 @@ class Names(NamedTuple):
         return [*([self.weight] if self.weight is not None else []), *self.groups]
 
 
-class Portion(NamedTuple):
+@dataclass
+class Portion:
     """Some households: how many, their tables before and after, their weights in millionths, what each grouping has for them, the texts of the amounts of a
     code, and what the program refuses of them with its place among all."""
 
@@ -111,7 +112,7 @@ class Frame:
             raise Refused(f"{fault.why.partition(', code ')[0]}: the weight {name} is no number: {column.iloc[fault.row - begin]!r}") from None
         try:
             weights = numbers(texts)
-        except runs.Failed:
+        except Failed:
             weights = [-1]
         if min(weights) < 0:
             return [weight_of(self._all.label(row), name, text) for row, text in enumerate(texts, begin)]

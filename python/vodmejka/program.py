@@ -234,3 +234,10 @@ def csv_text(rows: Iterable[Iterable[object]]) -> str:
         if "\r" not in out.getvalue():
             break
     return out.getvalue()
+
+
+def lines_of(output: bytes) -> str:
+    """The lines of an output, each with its line feed."""
+    if output and not output.endswith(b"\n"):
+        raise Broken(f"a last line without its end: {output[-200:]!r}")
+    return output.decode(ENCODING)

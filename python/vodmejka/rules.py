@@ -2,21 +2,21 @@
 from __future__ import annotations
 
 import contextlib
-import hashlib
 import os
 import re
-from typing import TYPE_CHECKING, Any, Generator, Iterable, Mapping, Sequence, overload
+from typing import TYPE_CHECKING, Any, Callable, Generator, Iterable, Mapping, Sequence, overload
 
 from .answers import Answer, Form, answer_of
 from .batch_files import batch_file
 from .batches import Answers, Batch
-from .cases import Mismatch, mismatches_of
+from .cases import Mismatches, mismatches_of
+from .code_cache import keep, kept_code, kept_path, put_whole
 from .dask import mapped
 from .errors import Broken, NotFound, Refused
 from .facts import Facts, Within, facts_of, ranges_text, without_facts
 from .frames import Households, frame_of
 from .limits import CODE_FILE_BYTES, ROWS
-from .program import ENCODING, Folder, Program, digest_of, household_bytes, is_trial, run, whole_file
+from .program import ENCODING, Folder, Program, digest_of, household_bytes, is_trial, lines_of, run
 from .session import Session
 from .shown import section, short, table
 from .sources import Sources, fetched, fetched_rules, named
@@ -27,6 +27,7 @@ from .variants import Number, Text, varied
 
 if TYPE_CHECKING:
     import pandas
+    from dask.dataframe import DataFrame as DaskFrame
 
 ROWS_AT_ONCE = 50_000
 VALUES = 4_000_000
@@ -103,20 +104,12 @@ class Rules:
     ) -> Rules:
         """The same rules with other values of constants (or of cells whose only formula is a number), other texts of rule files by their names, another
         driver, or other requested values. What isn't named stays as it is."""
-        if self._sources is None:
-            raise Broken("a variant needs rules: a code file has no sources")
-        made = Rules.__new__(Rules)
-        made._begin(varied(self._sources, values, replace, driver, outputs), self._program, self._cache, self.timeout)
-        return made
+        return self._with(lambda sources: varied(sources, values, replace, driver, outputs))
 
     def with_list(self, list: str | os.PathLike[str]) -> Rules:
         """Rules of another list, with the same driver and requests."""
-        if self._sources is None:
-            raise Broken("a variant needs rules: a code file has no sources")
         content = fetched(os.fspath(list))
-        made = Rules.__new__(Rules)
-        made._begin(self._sources._replace(listing=content, rules=fetched_rules(named(content))), self._program, self._cache, self.timeout)
-        return made
+        return self._with(lambda sources: sources._replace(listing=content, rules=fetched_rules(named(content))))
 
     # ---- what is computed
 
@@ -127,11 +120,11 @@ class Rules:
             text, _ = self._run("exec", self._code, name)
         finally:
             os.unlink(self._path(name))
-        return answer_of(iter(lines_of(text).split("\n")[:-1]))
+        return answer_of(iter(lines_of(text).split("\n")[:-1]), self.digests)
 
     def map(
-        self, frame: Any, *, numbers: str = "float64", stops: str = "raise", keep: Iterable[str] = (), meta: pandas.DataFrame | None = None
-    ) -> Any:
+        self, frame: DaskFrame, *, numbers: str = "float64", stops: str = "raise", keep: Iterable[str] = (), meta: pandas.DataFrame | None = None
+    ) -> DaskFrame:
         """What the households of a frame of Dask are told: a frame of Dask with its partitions, each of which is what `batch` makes of it where it is
         computed. Its columns and types are those of `meta`, an empty frame, or what `batch` makes of no households. A household that is stopped is an
         error, when the partition is computed, unless stops="keep" is given."""
@@ -146,8 +139,9 @@ class Rules:
     ) -> pandas.DataFrame: ...
 
     def batch(
-        self, rows: Any, rows_at_once: int = ROWS_AT_ONCE, *, numbers: str = "float64", stops: str = "raise", keep: Iterable[str] = ()
-    ) -> Any:
+        self, rows: pandas.DataFrame | Iterable[Household], rows_at_once: int = ROWS_AT_ONCE, *, numbers: str = "float64", stops: str = "raise",
+        keep: Iterable[str] = (),
+    ) -> pandas.DataFrame | Answers:
         """What households are told, in their order, as they are computed: any number of them, of which some thousand are in memory at once.
 
         `rows` is an iterable of households; then this is an iterator of answers. Or it is a frame of pandas, whose columns are codes; then this is a frame with
@@ -184,9 +178,9 @@ class Rules:
             raise Broken("a trial of the sources has no sessions: ./build makes the program, which has")
         self._program.check()
         words = [self.program, "serve", *self._words, self._room.put(household_bytes(household or {}))]
-        return Session(words, self._room, self.timeout, lambda: self._variables().reasons)
+        return Session(words, self._room, self.timeout, lambda: self._variables().reasons, self.digests)
 
-    def cases(self, table: str | os.PathLike[str]) -> list[Mismatch]:
+    def cases(self, table: str | os.PathLike[str]) -> Mismatches:
         """The expectations of a table of cases that aren't met, in their order; none where all are."""
         if not self._words:
             raise Broken("cases need rules: a code file has no sources")
@@ -195,7 +189,7 @@ class Rules:
             text, _ = self._run("cases", *self._words, name)
         finally:
             os.unlink(self._path(name))
-        return mismatches_of(lines_of(text).split("\n")[:-1])
+        return mismatches_of(lines_of(text).split("\n")[:-1], self.digests)
 
     def facts(self, ranges: Mapping[str, Within] | None = None) -> Facts:
         """What holds of the requested values for all households whose amounts lie within ranges: `{"1AJ": (0, 10**6)}` are households that have no 1AJ, or one
@@ -238,6 +232,11 @@ class Rules:
         return self._variables().variable(name)
 
     @property
+    def digests(self) -> tuple[str, str]:
+        """The digests of the source and of the program m_tax."""
+        return self.digest, self._program.digest
+
+    @property
     def program_digest(self) -> str:
         """The digest of the program m_tax; `digest` is that of the source."""
         return self._program.digest
@@ -268,6 +267,14 @@ class Rules:
             put_whole(os.path.abspath(os.fspath(path)), file.read())
 
     # ---- inside
+
+    def _with(self, change: Callable[[Sources], Sources]) -> Rules:
+        """Rules of other sources by the same program."""
+        if self._sources is None:
+            raise Broken("a variant needs rules: a code file has no sources")
+        made = Rules.__new__(Rules)
+        made._begin(change(self._sources), self._program, self._cache, self.timeout)
+        return made
 
     def _variables(self) -> Variables:
         """What the rule files say, which is read when it is asked for first."""
@@ -318,23 +325,20 @@ class Rules:
         return re.sub(r"\br[0-9]+\.m\b", lambda match: self._names.get(match[0], match[0]), line)
 
     def _compiled(self, digest: str, cache: str | None) -> str:
-        """The code file of the source, from the cache where it is there. A user without a home has no cache but the one that is named."""
-        folder = cache or os.path.join(os.environ.get("XDG_CACHE_HOME") or os.path.expanduser("~/.cache"), "vodmejka")
-        kept = os.path.join(folder, digest + ".code") if cache or os.path.isabs(folder) else None
-        text = None if kept is None else kept_code(kept)
+        """The code file of the source, from the cache where it is there."""
+        path = kept_path(cache, digest)
+        text = None if path is None else kept_code(path)
         if text is None:
             text, _ = self._run("compile", *self._words)
-            with contextlib.suppress(OSError):
-                if kept is not None:
-                    os.makedirs(folder, exist_ok=True)
-                    put_whole(kept, hashlib.sha256(text).hexdigest().encode() + b"\n" + text)
+            if path is not None:
+                keep(path, text)
         self._put("code", text)
         return self._path("code")
 
     def _answers(self, rows: Iterable[Household], at_once: int) -> Answers:
         if not self._words:
             return Answers(self._alone(rows))
-        form = Form(self._outputs())
+        form = Form(self._outputs(), self.digests)
         notes = sum(line.startswith("note ") for line in self._lines)
         size = part_size(at_once, len(form.names) + notes)
         # (an iterator may hand out one mapping again and again, changed each time: a part is read before it is written)
@@ -343,7 +347,7 @@ class Rules:
         return batch.answers(taken)
 
     def _alone(self, rows: Iterable[Household]) -> Generator[list[Answer], None, None]:
-        """The answers of a code file, which has no batches. What is refused has the line that it would have in a table of all."""
+        """The answers of a code file, which has no batches. A message has the line of a table of all."""
         for number, row in enumerate(rows, 2):
             try:
                 yield [self.run(row)]
@@ -383,14 +387,6 @@ def part_size(at_once: int, values: int) -> int:
     return max(1, min(at_once, ROWS, VALUES // (values + 1)))
 
 
-def kept_code(path: str) -> bytes | None:
-    """The code file that the cache keeps, after its digest; None where there is none, or it isn't what was kept: it was changed, or cut."""
-    with contextlib.suppress(OSError), open(path, "rb") as file:  # (it isn't there, or is another user's)
-        digest, text = file.readline().strip(), file.read()
-        return text if hashlib.sha256(text).hexdigest().encode() == digest else None
-    return None
-
-
 def unpickled(
     sources: Sources | None, code: bytes | None, path: str, digest: str, survey: str | None, cache: str | None, timeout: float | None
 ) -> Rules:
@@ -406,16 +402,3 @@ def unpickled(
         made._begin(sources, program, cache, timeout)
     made._survey_digest = survey
     return made
-
-
-def put_whole(path: str, content: bytes) -> None:
-    """Writes a file whole, or not at all."""
-    with whole_file(path) as out:
-        out.write(content)
-
-
-def lines_of(output: bytes) -> str:
-    """The lines of an output, each with its line feed."""
-    if output and not output.endswith(b"\n"):
-        raise Broken(f"a last line without its end: {output[-200:]!r}")
-    return output.decode(ENCODING)

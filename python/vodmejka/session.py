@@ -1,4 +1,4 @@
-"""A session: one household that is edited, and what it is told."""
+"""A session: one household that is edited, and its answers."""
 from __future__ import annotations
 
 import contextlib
@@ -27,14 +27,17 @@ class Room(Protocol):
 
 
 class Session:
-    """A household of rules, held by the program, which computes only what edits touch.
+    """A household of rules, held by the program, which computes only what edits affect. `digests` are those of the source and of the program.
 
     The words of the program end with the name of the household's file, which goes with the session. All files stand in a folder of the rules. `rules` gives the
     formulas, which `why` shows.
     """
 
-    def __init__(self, words: list[str], room: Room, timeout: float | None = None, rules: Callable[[], reasons.Rules] | None = None):
-        self._rules = rules
+    def __init__(
+        self, words: list[str], room: Room, timeout: float | None = None, rules: Callable[[], reasons.Rules] | None = None,
+        digests: tuple[str, str] = ("", ""),
+    ):
+        self._rules, self.digests = rules, digests
         self._room, self._given, self._timeout, self._is_late = room, os.path.join(room.name, words[-1]), timeout, False
         self._messages = open(memory_file("messages"), "r+b", buffering=0)
         try:
@@ -61,13 +64,13 @@ class Session:
         self._edit("clear", code)
 
     def show(self) -> Answer:
-        """What the household is told as it is now."""
+        """The answer to the household as it is now."""
         with self._whole():
             self._say(b"show\n")
             lines = self._lines()
         if lines and lines[0].startswith("refused "):
             raise Refused(lines[0])
-        return answer_of(iter(lines))
+        return answer_of(iter(lines), self.digests)
 
     def why(self, name: str) -> Why:
         """Why a variable, or a cell as `T[3]`, has its value, at one call of the rules for the household as it is now: the driver isn't asked."""
@@ -79,7 +82,7 @@ class Session:
             lines = self._lines()
         if lines and lines[0].startswith("refused "):
             raise Refused(f"{lines[0]}: {name}" if lines[0] == "refused unknown variable" else lines[0])
-        return Why(lines, self._rules)
+        return Why(lines, self._rules, self.digests)
 
     def __repr__(self) -> str:
         return f"<Session: {'ended' if self._child.poll() is not None else 'a household that is edited'}>"

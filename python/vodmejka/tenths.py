@@ -92,7 +92,7 @@ class Ordered:
         self._file.flush()
         view = memoryview(mmap.mmap(self.file, 0, access=mmap.ACCESS_READ))
         columns = [[unpacked(view[slice(*place)]) for place in places[:2]] for places in self._parts]
-        return [Share(*places[1:], edges) for places, edges in zip(self._parts, edges_of(columns, self.weight))]
+        return [Share(*places[1:5], edges=edges) for places, edges in zip(self._parts, edges_of(columns, self.weight))]  # type: ignore[misc, arg-type]
 
     @property
     def file(self) -> int:
