@@ -69,7 +69,8 @@ class Types(unittest.TestCase):
         for name, call in public_calls():
             signature = inspect.signature(call)
             types = {one.name: one.annotation for one in signature.parameters.values() if one.name not in ("self", "cls")}
-            types["result"] = signature.return_annotation
+            if not name.endswith("__init__"):
+                types["result"] = signature.return_annotation
             wrong += [f"{name}: {what}: {type_}" for what, type_ in types.items() if type_ in (inspect.Signature.empty, "Any")]
         self.assertEqual(wrong, [])
 
