@@ -162,7 +162,7 @@ class OfFiles(Changed):
         words = {"of": "TAX", "weight": "w", "by": ["region", "tenth:TAX", "tenth:1AJ"]}
         for of in ("TAX", "1AJ - 0.5 * TAX"):
             words["of"] = of
-            made, found = compare(self.before, self.after, HOUSEHOLDS, **words), compare_file(self.before, self.after, self.path, **words).made
+            made, found = compare(self.before, self.after, HOUSEHOLDS, **words), compare_file(self.before, self.after, self.path, **words).comparison
             for one, other in zip(made.groups, found.groups, strict=True):
                 for what in ("name", "households", "weight", "before", "after", "winners", "losers", "unchanged", "gained", "lost", "stopped", "apart_weight"):
                     self.assertEqual(getattr(one, what), getattr(other, what), (of, one.name, what))
@@ -172,12 +172,12 @@ class OfFiles(Changed):
     def test_by_code_files(self):
         """They give all values; more than the one that is asked for."""
         words = {"of": "TAX", "weight": "w", "by": ["tenth:TAX", "region"]}
-        found = compare_file(self.before, self.after, self.path, **words).made
+        found = compare_file(self.before, self.after, self.path, **words).comparison
         codes = []
         for rules in (self.before, self.after):
             rules.write_code(self.room.name + "/a.code")
             codes.append(Rules.from_code(self.room.name + "/a.code"))
-        made = compare_file(*codes, self.path, **words).made
+        made = compare_file(*codes, self.path, **words).comparison
         self.assertEqual([(group.name, group.before, group.after) for group in made.groups], [(group.name, group.before, group.after) for group in found.groups])
 
     def test_in_parts(self):
@@ -186,7 +186,7 @@ class OfFiles(Changed):
         whole, lines = compare_file(self.before, self.after, self.path, **words, lines=(first := io.BytesIO())), io.BytesIO()
         with mock.patch("vodmejka.file_comparisons.ROWS", 2):
             parts = compare_file(self.before, self.after, self.path, **words, lines=lines)
-        told = [[(group.name, group.households, group.weight, group.before, group.after) for group in one.made.groups] for one in (whole, parts)]
+        told = [[(group.name, group.households, group.weight, group.before, group.after) for group in one.comparison.groups] for one in (whole, parts)]
         self.assertEqual(*told)
         self.assertEqual((first.getvalue(), whole.gains), (lines.getvalue(), parts.gains))
 
@@ -204,7 +204,7 @@ class OfFiles(Changed):
 
     def test_undefined_and_over(self):
         path = self.put("table.csv", "name,1AJ\na,\nb,10000000\nc,3\n")
-        whole = compare_file(self.before, self.after, path, of="NON").made.all
+        whole = compare_file(self.before, self.after, path, of="NON").comparison.all
         self.assertEqual((whole.undefined, whole.over, whole.households, whole.before), (1, 1, 3, 9_000_000))
 
     def test_what_is_refused(self):

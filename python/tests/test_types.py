@@ -23,7 +23,7 @@ mismatches: Mismatches = rules.cases(Path("cases.csv"))
 source, program = answer.digests
 one: Compared = compare(rules, rules, [], of="T").households[0]
 fact: Fact = rules.facts({"1AJ": (0, 10**6), "0CF": "no"})["T"]
-winners: int = compare_file(rules, rules, "a.csv", of="T").made.all.winners
+winners: int = compare_file(rules, rules, "a.csv", of="T").comparison.all.winners
 picture: str = compare(rules, rules, [], of="T").plot()
 cost: Decimal = compare(rules, rules.variant({"A": 3}), [{"1AJ": 1}], of="T").cost
 """

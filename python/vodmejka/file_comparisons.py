@@ -37,7 +37,7 @@ Result = TypeVar("Result")
 class FileComparison:
     """A comparison, with the weight of each class of gains, and of each class of marginal rates before and after."""
 
-    made: Comparison
+    comparison: Comparison
     gains: list[int]
     rates: list[list[int]]
 

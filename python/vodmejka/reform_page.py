@@ -41,7 +41,7 @@ def shown(line, by):
 
 def page(words, found, step, heads, lines):
     """The report: of a comparison of the words' file, with the lines of its groups, whose table has these heads."""
-    groups, sign = found.made.groups, found.made.all.sign
+    groups, sign = found.comparison.groups, found.comparison.all.sign
     whole = groups[0]
     total = whole.weight + whole.apart_weight
     cells = "\n".join("<tr>" + "".join(f"<td>{html.escape(str(field))}</td>" for field in shown(line, words.by)) + "</tr>" for line in lines)
@@ -70,6 +70,6 @@ def page(words, found, step, heads, lines):
         parts += [f"<h2>{said('reform.rates')}</h2><p>{told}</p>", marginal_picture(found.rates, total)]
     head = "".join(f"<th>{html.escape(said('reform.head.' + name))}</th>" for name in heads)
     parts.append(f"<h2>{said('reform.figures')}</h2><div class=wide><table><tr>{head}</tr>{cells}</table></div>")
-    before, after = map(code, found.made.digests)
-    parts.append(f"<p>{said('reform.digests', before=before, after=after, program=code(found.made.program))}</p></html>\n")
+    before, after = map(code, found.comparison.digests)
+    parts.append(f"<p>{said('reform.digests', before=before, after=after, program=code(found.comparison.program))}</p></html>\n")
     return "\n".join(parts)

@@ -77,18 +77,18 @@ def written(words, room):
             before, after, words.table, of=words.of, weight=weight, by=groups, gain="more" if words.more_is_gain else "less", step=step,
             inputs=words.inputs, lines=lines,
         )
-    whole = found.made.all
+    whole = found.comparison.all
     if not whole.households:
         raise Refused(said("reform.none", table=words.table))
     if whole.apart == whole.households:
         raise Refused(said("reform.no_number", name=words.of))
     by = None if words.by is None else column_named(words.by)
-    lines = [line_of(group, by, (*found.made.digests, found.made.program)) for group in found.made.groups]
+    lines = [line_of(group, by, (*found.comparison.digests, found.comparison.program)) for group in found.comparison.groups]
     with open(os.path.join(room, "summary.csv"), "w", encoding="latin-1", newline="") as out:
         csv.writer(out, lineterminator="\n").writerows([SUMMARY + MORE, *lines])
     with open(os.path.join(room, "report.html"), "w", encoding="utf-8", errors="replace") as out:
         out.write(page(words, found, step, SUMMARY, [line[: len(SUMMARY)] for line in lines]))
-    return found.made
+    return found.comparison
 
 
 def work(words):
