@@ -17,7 +17,7 @@ if TYPE_CHECKING:
 
 
 class Over:
-    """The value of what overflows: it is beyond the greatest amount. There is one, `OVER`."""
+    """The value after an overflow: it is beyond the greatest amount. There is one, `OVER`."""
 
     def __repr__(self) -> str:
         return "OVER"
@@ -91,11 +91,11 @@ class Answer(Mapping[str, Value]):
 
     @property
     def notes(self) -> tuple[Note, ...]:
-        return self._told()[0]
+        return self._notes_and_stop()[0]
 
     @property
     def stop(self) -> Stop | None:
-        return self._told()[1]
+        return self._notes_and_stop()[1]
 
     def __getitem__(self, name: str) -> Value:
         try:
@@ -116,7 +116,7 @@ class Answer(Mapping[str, Value]):
         return name in self.values
 
     def __eq__(self, other: object) -> bool:
-        return isinstance(other, Answer) and (self.values, *self._told()) == (other.values, *other._told())
+        return isinstance(other, Answer) and (self.values, *self._notes_and_stop()) == (other.values, *other._notes_and_stop())
 
     __hash__ = None  # type: ignore[assignment]
 
@@ -150,18 +150,18 @@ class Answer(Mapping[str, Value]):
             raise Stopped(self.stop.line)
         return values[name]
 
-    def _told(self) -> tuple[tuple[Note, ...], Stop | None]:
+    def _notes_and_stop(self) -> tuple[tuple[Note, ...], Stop | None]:
         """The notes and the stop."""
         if self._block is not None:
             self._leave(self._block)
         if self._rest is None:
             begin = after_notes(self._lines)
-            told = self._lines if self._lines.startswith(STOPS, begin) else self._lines[:begin]
-            self._rest = parts_of(lines_of(told))[1:]
+            lines = self._lines if self._lines.startswith(STOPS, begin) else self._lines[:begin]
+            self._rest = parts_of(lines_of(lines))[1:]
         return self._rest
 
     def _leave(self, block: Block) -> None:
-        """Takes its own lines out of the block in which they are, and lets go of it."""
+        """Copies its own lines out of its block, and releases the block."""
         self._lines, self._form, self._values, self._rest, self._block = block.lines(self._index), block.form, None, None, None
         self._columns = NO_COLUMNS
         block.is_left = True
@@ -230,14 +230,14 @@ class Form:
         return found
 
     def values(self, lines: str) -> dict[str, Value]:
-        """The values that lines tell."""
+        """The values in lines."""
         begin = after_notes(lines)
         match = self.match(lines, begin)
         if match:
             return dict(zip(self.names, map(Decimal, match.groups())))
-        told = lines[begin:]
-        found = [] if told.startswith(STOPS) else VALUES.findall(told)
-        if len(found) != told.count("\n"):
+        rest = lines[begin:]
+        found = [] if rest.startswith(STOPS) else VALUES.findall(rest)
+        if len(found) != rest.count("\n"):
             return parts_of(lines_of(lines))[0]
         return {name: Decimal(number) if number else None if undefined else OVER for name, number, undefined, _ in found}
 
@@ -258,7 +258,7 @@ VALUES = re.compile("(?m)^" + VALUE.pattern + "$")
 
 
 def lines_of(lines: str) -> Iterator[str]:
-    """The lines that stand so, one by one."""
+    """Lines one by one."""
     return iter(lines[1:].split("\n")[:-1])
 
 
@@ -275,7 +275,7 @@ def after_notes(lines: str) -> int:
 
 
 def parts_of(lines: Iterator[str]) -> Read:
-    """The values, the notes and the stop that lines tell."""
+    """The values, the notes and the stop in lines."""
     values: dict[str, Value] = {}
     notes: list[Note] = []
     for line in lines:
@@ -292,7 +292,7 @@ def parts_of(lines: Iterator[str]) -> Read:
 
 
 def value_of(line: str) -> Value:
-    """The value that a line tells: `NAME = AMOUNT`, `NAME undefined` or `NAME over`."""
+    """The value in a line: `NAME = AMOUNT`, `NAME undefined` or `NAME over`."""
     match = VALUE.fullmatch(line)
     if match is None:
         raise Broken(f"a line that is no answer: {line}")

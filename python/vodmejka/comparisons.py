@@ -232,7 +232,7 @@ class Computation:
         return made
 
     def close(self) -> None:
-        """Ends what still runs."""
+        """Ends the programs that still run."""
         for run in itertools.chain.from_iterable(runs for _, runs in self._waiting):
             run.end()
         for order, _ in self._ordered:

@@ -18,7 +18,7 @@ NO_SEPARATORS = bytes(set(range(256)) - set(b",\n"))
 
 
 class Part(NamedTuple):
-    """Some records of a table, each with a line feed, how many they are, and how many stand before them."""
+    """Some records of a table, each with a line feed, how many they are, and how many precede them."""
 
     text: bytes
     rows: int
@@ -79,7 +79,7 @@ class LongTable:
 
 
 def is_plain(text: bytes) -> bool:
-    """Whether fields of these records are what stands between commas."""
+    """Whether each comma of these records separates two fields."""
     return b'"' not in text and b"\r" not in text
 
 

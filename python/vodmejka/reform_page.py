@@ -45,8 +45,8 @@ def page(words, found, step, heads, lines):
     whole = groups[0]
     total = whole.weight + whole.apart_weight
     cells = "\n".join("<tr>" + "".join(f"<td>{html.escape(str(field))}</td>" for field in shown(line, words.by)) + "</tr>" for line in lines)
-    of, is_told = html.escape(words.of), words.more_is_gain or words.less_is_gain
-    gain = said("reform.more_gain" if sign > 0 else "reform.less_gain" if is_told else "reform.less_taken")
+    of, is_given = html.escape(words.of), words.more_is_gain or words.less_is_gain
+    gain = said("reform.more_gain" if sign > 0 else "reform.less_gain" if is_given else "reform.less_taken")
     code = lambda text: f"<code>{html.escape(text)}</code>"
     sums = {key: f"<b id={key}>{plain(sum_)}</b>" for key, sum_ in (("before", whole.before), ("after", whole.after), ("difference", whole.after - whole.before))}
     parts = [
@@ -66,8 +66,8 @@ def page(words, found, step, heads, lines):
         gains = [(group.name.split()[1], [group.mean_gain]) for group in tenths]
         parts += [f"<h2>{said('reform.tenths', name=html.escape(words.by))}</h2><p>{said('reform.mean_gain')}</p>", bars(gains, "")]
     if step:
-        told = said("reform.rates_told", amount=html.escape(step[1]), code=html.escape(step[0]))
-        parts += [f"<h2>{said('reform.rates')}</h2><p>{told}</p>", marginal_picture(found.rates, total)]
+        text = said("reform.rates_told", amount=html.escape(step[1]), code=html.escape(step[0]))
+        parts += [f"<h2>{said('reform.rates')}</h2><p>{text}</p>", marginal_picture(found.rates, total)]
     head = "".join(f"<th>{html.escape(said('reform.head.' + name))}</th>" for name in heads)
     parts.append(f"<h2>{said('reform.figures')}</h2><div class=wide><table><tr>{head}</tr>{cells}</table></div>")
     before, after = map(code, found.comparison.digests)

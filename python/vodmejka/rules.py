@@ -4,6 +4,7 @@ from __future__ import annotations
 import contextlib
 import os
 import re
+from pathlib import Path
 from typing import TYPE_CHECKING, Any, Callable, Generator, Iterable, Mapping, Sequence, overload
 
 from .answers import Answer, Form, answer_of
@@ -80,9 +81,8 @@ class Rules:
     @classmethod
     def _by_code(cls, code: bytes, program: Program, timeout: float | None) -> Rules:
         made = cls.__new__(cls)
-        made._program, made._sources, made._cache, made.timeout = program, None, None, timeout
+        made._program, made._sources, made._cache, made.timeout, made.digest = program, None, None, timeout, digest_of(code)
         made.program, made._room, made._names, made._words = program.path, Folder(), {}, []
-        made.digest = digest_of(code)
         made._code = made._path(made._put("code", code))
         made._lines = made._interface()
         return made
@@ -91,8 +91,7 @@ class Rules:
         """As it is pickled: the sources themselves, which another process or machine compiles by the same program."""
         code = None
         if self._sources is None:
-            with open(self._code, "rb") as file:
-                code = file.read()
+            code = Path(self._code).read_bytes()
         survey = None
         with contextlib.suppress(Broken):  # (an older installation has no m_survey)
             survey = self.survey_digest
@@ -111,10 +110,10 @@ class Rules:
         content = fetched(os.fspath(list))
         return self._with(lambda sources: sources._replace(listing=content, rules=fetched_rules(named(content))))
 
-    # ---- what is computed
+    # ---- computing
 
     def run(self, household: Household) -> Answer:
-        """What the household is told. `household` has amounts by codes: Decimal, int or text, and None for nothing."""
+        """The answer to a household. `household` has amounts by codes: Decimal, int or text, and None for nothing."""
         name = self._room.put(household_bytes(household))
         try:
             text, _ = self._run("exec", self._code, name)
@@ -125,9 +124,9 @@ class Rules:
     def map(
         self, frame: DaskFrame, *, numbers: str = "float64", stops: str = "raise", keep: Iterable[str] = (), meta: pandas.DataFrame | None = None
     ) -> DaskFrame:
-        """What the households of a frame of Dask are told: a frame of Dask with its partitions, each of which is what `batch` makes of it where it is
-        computed. Its columns and types are those of `meta`, an empty frame, or what `batch` makes of no households. A household that is stopped is an
-        error, when the partition is computed, unless stops="keep" is given."""
+        """The answers to the households of a frame of Dask: a frame of Dask with its partitions, each of which `batch` computes on its worker. Its columns and
+        types are those of `meta`, an empty frame, or those that `batch` gives for no households. A household that is stopped is an error, when the partition
+        is computed, unless stops="keep" is given."""
         return mapped(self, frame, {"numbers": numbers, "stops": stops, "keep": [*keep]}, meta)
 
     @overload
@@ -142,7 +141,7 @@ class Rules:
         self, rows: pandas.DataFrame | Iterable[Household], rows_at_once: int = ROWS_AT_ONCE, *, numbers: str = "float64", stops: str = "raise",
         keep: Iterable[str] = (),
     ) -> pandas.DataFrame | Answers:
-        """What households are told, in their order, as they are computed: any number of them, of which some thousand are in memory at once.
+        """The answers to households, in their order, as they are computed: any number of them, of which some thousand are in memory at once.
 
         `rows` is an iterable of households; then this is an iterator of answers. Or it is a frame of pandas, whose columns are codes; then this is a frame with
         its index, with the columns that `keep` names, a column for each value, `over` with the names of the values that overflow and `notes` with the errors
@@ -160,7 +159,7 @@ class Rules:
         self, path: str | os.PathLike[str], out: str | os.PathLike[str], format: str = "csv", *, numbers: str = "float64", stops: str = "raise",
         keep: Iterable[str] = (), rows_at_once: int = ROWS_AT_ONCE,
     ) -> int:
-        """Writes what the households of a table of any length are told, whole or not at all, and answers how many they are.
+        """Writes the answers to the households of a table of any length, whole or not at all, and returns how many households it has.
 
         The table is csv: `name` and codes in the first line, and the columns that `keep` names. With format="csv" the file has `name`, these columns, `stop`,
         `notes`, and a column for each value with its amount; with format="parquet", by pyarrow, it has the columns that a frame has, after `name`. A household
@@ -192,7 +191,7 @@ class Rules:
         return mismatches_of(lines_of(text).split("\n")[:-1], self.digests)
 
     def facts(self, ranges: Mapping[str, Within] | None = None) -> Facts:
-        """What holds of the requested values for all households whose amounts lie within ranges: `{"1AJ": (0, 10**6)}` are households that have no 1AJ, or one
+        """Facts about the requested values for all households whose amounts are within ranges: `{"1AJ": (0, 10**6)}` are households that have no 1AJ, or one
         of 0 to 1,000,000, and anything elsewhere. An input may also be "yes", "no" or "maybe" given, or a `Range`."""
         if not self._words:
             raise Broken("facts need rules: a code file has no sources")
@@ -207,7 +206,7 @@ class Rules:
                 os.unlink(self._path(name))
         return facts_of(lines_of(text), (self.digest, program.digest))
 
-    # ---- what the rules are
+    # ---- the contents of the rules
 
     def inputs(self) -> dict[str, Variable]:
         """The inputs by their codes, in order, each with its name, description, type and attributes; of a code file with its type alone."""
@@ -226,7 +225,7 @@ class Rules:
         return {name: "" if self._sources is None else self._variables().description(name) for name in self._outputs()}
 
     def variable(self, name: str) -> Variable:
-        """What the rule files say of a variable, by its name or its code: its declaration, and the formulas that set it, with their places."""
+        """A variable by its name or its code: its declaration, and the formulas that set it, with their places."""
         if self._sources is None:
             raise Broken("variables need rules: a code file has no sources")
         return self._variables().variable(name)
@@ -251,8 +250,7 @@ class Rules:
         if self._sources is None:
             return f"<Rules of a code file: {counts}>"
         application = self._sources.listing.replace(b"\r\n", b"\n").split(b"\n")[0].decode(ENCODING)
-        driver = "a driver" if self._sources.driver is not None else "no driver"
-        files = len(self._sources.rules)
+        driver, files = "no driver" if self._sources.driver is None else "a driver", len(self._sources.rules)
         return f"<Rules of {application}: {files} rule file{'' if files == 1 else 's'}, {driver}, {counts}>"
 
     def _repr_html_(self) -> str:
@@ -263,8 +261,7 @@ class Rules:
 
     def write_code(self, path: str | os.PathLike[str]) -> None:
         """Writes the code file, which `Rules.from_code` and the program's `exec` take."""
-        with open(self._code, "rb") as file:
-            put_whole(os.path.abspath(os.fspath(path)), file.read())
+        put_whole(os.path.abspath(os.fspath(path)), Path(self._code).read_bytes())
 
     # ---- inside
 
@@ -277,14 +274,14 @@ class Rules:
         return made
 
     def _variables(self) -> Variables:
-        """What the rule files say, which is read when it is asked for first."""
+        """The variables of the rule files, which are read when they are first needed."""
         if self._read is None:
             assert self._sources is not None
             self._read = Variables(self._sources)
         return self._read
 
     def _outputs(self) -> list[str]:
-        """The names of what is asked for, in order."""
+        """The names of the requested values, in order."""
         return [line.split(" ")[1] for line in self._lines if line.startswith("output ")]
 
     def _interface(self) -> list[str]:
@@ -304,23 +301,22 @@ class Rules:
         return os.path.join(self._room.name, name)
 
     def _put(self, name: str, content: bytes) -> str:
-        with open(self._path(name), "wb") as out:
-            out.write(content)
+        Path(self._path(name)).write_bytes(content)
         return name
 
     def _run(self, *words: str, program: Program | None = None) -> tuple[bytes, int]:
         program = program or self._program
         try:
-            told = run(program.path, *words, folder=self._room.name, timeout=self.timeout)
-            program.check()
-            return told
+            found = run(program.path, *words, folder=self._room.name, timeout=self.timeout)
         except Refused as refused:
-            raise Refused(self._told(refused.line)) from None
+            raise Refused(self._original_names(refused.line)) from None
         except NotFound as missing:
-            raise NotFound(self._told(str(missing))) from None
+            raise NotFound(self._original_names(str(missing))) from None
+        program.check()
+        return found
 
-    def _told(self, line: str) -> str:
-        """A line of the program, with the names of the files as they are."""
+    def _original_names(self, line: str) -> str:
+        """A line of the program, with the original names of the files."""
         line = re.sub(r"\bhousehold-[a-z0-9_]+\.csv\b", "household.csv", line)
         return re.sub(r"\br[0-9]+\.m\b", lambda match: self._names.get(match[0], match[0]), line)
 
@@ -341,9 +337,9 @@ class Rules:
         form = Form(self._outputs(), self.digests)
         notes = sum(line.startswith("note ") for line in self._lines)
         size = part_size(at_once, len(form.names) + notes)
-        # (an iterator may hand out one mapping again and again, changed each time: a part is read before it is written)
+        # (an iterator may yield one mapping again and again, changed each time: a part is copied before it is written)
         taken: Iterable[Household] = rows if isinstance(rows, (list, tuple)) else (dict(row) for row in rows)
-        batch = Batch(self._program, ["batch", *self._words], self._room.name, form, size, self.types(), self._told, self.timeout)
+        batch = Batch(self._program, ["batch", *self._words], self._room.name, form, size, self.types(), self._original_names, self.timeout)
         return batch.answers(taken)
 
     def _alone(self, rows: Iterable[Household]) -> Generator[list[Answer], None, None]:
@@ -370,11 +366,11 @@ class Rules:
             self._surveyor = Program(None, "m_survey", self.program)
         if self._survey_digest not in (None, self._surveyor.digest):
             raise Broken(f"{self._surveyor.path} is another program than the one that these rules were made with")
-        return Survey(self._surveyor, self._words or [self._code], self._room.name, self._told, self.timeout)
+        return Survey(self._surveyor, self._words or [self._code], self._room.name, self._original_names, self.timeout)
 
     def survey_of(self, names: Sequence[str]) -> tuple[Survey, list[str]]:
-        """The program of tables, and what it is asked for: some values alone, or by a code file all. It may be handed to another process for as long as these
-        rules are there."""
+        """The program of tables, and the names of its values: the requested ones, or by a code file all. Another process may use it as long as these rules
+        exist."""
         whole = self._survey()
         if not self._words:
             return Survey(whole.program, whole.words, whole.folder, str, self.timeout), self._outputs()
