@@ -207,6 +207,17 @@ class OfFiles(Changed):
         whole = compare_file(self.before, self.after, path, of="NON").comparison.all
         self.assertEqual((whole.undefined, whole.over, whole.households, whole.before), (1, 1, 3, 9_000_000))
 
+    def test_amounts_of_codes(self):
+        """A code counts as the program reads it: empty is 0, and the seventh decimal is rounded. 2000.1234565 and 1000 more pay 10 % of them above 1000."""
+        lines = io.BytesIO()
+        path = self.put("table.csv", 'name,1AJ\n"a, ""b""",2000.1234565\nb,\n=c,-3\n')
+        found = compare_file(self.before, self.after, path, of="1AJ - TAX", step=("1AJ", "1000"), inputs=True, lines=lines).comparison
+        self.assertEqual((found.all.before, found.all.after), (2000_123_457 - 100_012_346, 2000_123_457 - 12_346))
+        self.assertEqual(lines.getvalue().decode().splitlines(), [
+            "name,weight,by,before,after,difference,marginal before,marginal after,1AJ",
+            '"a, ""b""",1,,1900.111111,2000.111111,100,0.9,0.9,2000.1234565', "b,1,,0,0,0,1,1,", "'=c,1,,,,,,,-3",
+        ])
+
     def test_what_is_refused(self):
         for text, words, line in (
             ("name,1AJ\na,1\n", {"of": "NONE"}, "NONE is neither a requested value nor a code"), ("name,1AJ,x\n", {}, "these columns are no codes of the rules: x"),

@@ -91,7 +91,8 @@ class Comparer:
         """The results of a part."""
         table, request = columns_of(part.text, part.rows, self.head, self.path), self.request
         answers = self.answers(table, part)
-        more = self.answers(self.with_step(table, request.step), part) if request.step else []
+        stepped = self.with_step(table, request.step) if request.step else table
+        more = self.answers(stepped, part) if request.step else []
         before, after = (self.sum_of(answer, table) for answer in answers)
         reasons = {**after[1], **before[1]}
         rows = Rows(self.weights(table, part.rows), without(before[0], reasons), without(after[0], reasons), reasons)
@@ -99,7 +100,7 @@ class Comparer:
         made = self.summed(table, rows)
         made.ordered = [ordered(name, column, rows, made.whole) for (name, _), column in zip(request.tenths, keys)]
         count(made.gains, self.gain_edges, map(operator.mul, itertools.repeat(request.sign), differences(rows.befores, rows.afters)), rows.weights, reasons)
-        later = [self.sum_of(answer, table) for answer in more]
+        later = [self.sum_of(answer, stepped) for answer in more]
         for counts, first, second in zip(made.rates, (rows.befores, rows.afters), later):
             count(counts, self.rate_edges(), differences(first, second[0]), rows.weights, {**reasons, **second[1]})
         made.lines = self.lines(table, rows, keys[0] if keys else None, self.texts_of(answers, rows), later, is_plain(part.text))
