@@ -2,7 +2,6 @@
 from __future__ import annotations
 
 import csv
-import io
 import os
 import re
 from typing import TYPE_CHECKING, BinaryIO, Iterator, Mapping, Sequence
@@ -11,7 +10,7 @@ from .answers import LABEL
 from .errors import Broken, Refused, Stopped
 from .frames import STOPS, FrameAnswers, Households, quoted
 from .limits import FILE_BYTES
-from .long_tables import LongTable, Part, column_named, fields_of, of_width
+from .long_tables import LongTable, Part, column_named, columns_of, is_plain, joined
 from .program import ENCODING, csv_text, whole_file
 from .source import MASK
 from .surveys import FIRST, Run, Survey, body_of, in_table
@@ -41,16 +40,17 @@ class HouseholdFile:
         self.is_plain, self.with_labels = with_labels and len(self.codes) == len(head) - 1, with_labels
         self.head = csv_text([["name", *(head[at] for at in self.codes)]]).encode(ENCODING)
 
-    def records(self, part: Part) -> Iterator[list[str]]:
-        """The fields of the records of a part."""
-        return of_width(fields_of(part.text, self.table.path), self.table.head, self.table.path)
+    def columns(self, part: Part) -> list[list[str]]:
+        """The columns of a part."""
+        return columns_of(part.text, part.rows, self.table.head, self.table.path)
 
     def of_codes(self, part: Part) -> bytes:
         """The table of a part for the program."""
         if self.is_plain:
             return self.head + part.text
-        rows = ([row[0] if self.with_labels else LABEL, *(row[at] for at in self.codes)] for row in self.records(part))
-        return self.head + csv_text(rows).encode(ENCODING)
+        columns = self.columns(part)
+        labels = columns[0] if self.with_labels else [LABEL] * part.rows
+        return self.head + joined([labels, *(columns[at] for at in self.codes)], is_plain(part.text))
 
     def runs(self, survey: Survey, rows: int) -> Iterator[tuple[Part, Run]]:
         """The program on each part, started while the one before it is written."""
@@ -106,7 +106,7 @@ class Csv:
     """The program's output, with the columns that are kept after the label."""
 
     def __init__(self, households: HouseholdFile, names: Sequence[str], stops: str):
-        self._households, self._stops, self._is_begun = households, stops, False
+        self._households, self._stops, self._is_begun, self._names = households, stops, False, [*FIRST, *names]
         head = households.table.head
         self._head = csv_text([["name", *(head[at] for at in households.kept), *FIRST[1:], *names]]).encode(ENCODING)
 
@@ -128,9 +128,9 @@ class Csv:
             file.write(self._head)
 
     def _with_kept(self, part: Part, body: bytes) -> bytes:
-        answers = csv.reader(io.StringIO(body.decode(ENCODING), newline=""), strict=True)
-        kept = self._households.kept
-        return csv_text([row[0], *(given[at] for at in kept), *row[1:]] for given, row in zip(self._households.records(part), answers)).encode(ENCODING)
+        labels, *answers = columns_of(body, part.rows, self._names, "an answer")
+        given = self._households.columns(part)
+        return joined([labels, *(given[at] for at in self._households.kept), *answers], is_plain(part.text) and is_plain(body))
 
 
 class Parquet:
@@ -160,9 +160,9 @@ class Parquet:
         import pandas
 
         head, encoding = self._households.table.head, "utf-8" if is_utf8(part.text) else ENCODING
-        columns = [0, *self._households.kept]
-        rows = [[row[at].encode(ENCODING).decode(encoding) for at in columns] for row in self._households.records(part)]
-        given = pandas.DataFrame(rows, columns=[head[at] for at in columns], dtype=object)
+        columns = self._households.columns(part)
+        texts = {head[at]: [text.encode(ENCODING).decode(encoding) for text in columns[at]] for at in [0, *self._households.kept]}
+        given = pandas.DataFrame(texts, dtype=object)
         given.index = pandas.Index(given["name"], dtype=object)
         answers = FrameAnswers(Households(given, {}, list(given.columns)), self._names, self._numbers, self._stops)
         if part.rows:

@@ -16,8 +16,8 @@ from .columns import INPUTS, MICROS, PLAIN, Reasons, inputs, numbers, rounded, s
 from .errors import Failed, Refused
 from .expressions import Expression
 from .groups import Group, Rows, by_label, merged
-from .long_tables import Part, columns_of, is_plain, shown
-from .program import ENCODING, csv_text
+from .long_tables import Part, columns_of, is_plain, joined, shown
+from .program import ENCODING
 from .surveys import Survey, in_table, values_of
 from .tenths import OrderedPart, ordered_part
 
@@ -91,7 +91,7 @@ class Comparer:
         """The results of a part."""
         table, request = columns_of(part.text, part.rows, self.head, self.path), self.request
         answers = self.answers(table, part)
-        stepped = self.with_step(table, request.step) if request.step else table
+        stepped: Sequence[Sequence[str]] = self.with_step(table, request.step) if request.step else table
         more = self.answers(stepped, part) if request.step else []
         before, after = (self.sum_of(answer, table) for answer in answers)
         reasons = {**after[1], **before[1]}
@@ -285,13 +285,6 @@ def plain_keys(keys: Sequence[int | None]) -> list[str]:
     known: dict[int | None, str] = {key: PLAIN[key] for key in set(keys) if key is not None}
     known[None] = ""
     return list(map(known.__getitem__, keys))
-
-
-def joined(columns: Sequence[Sequence[str]], plain: bool) -> bytes:
-    """Columns as records. Fields are plain where they have no comma, no quote and no line end."""
-    if plain:
-        return "\n".join([*map(",".join, zip(*columns)), ""]).encode(ENCODING)
-    return csv_text(zip(*columns)).encode(ENCODING)
 
 
 def guarded(texts: Sequence[str]) -> Sequence[str]:

@@ -12,7 +12,7 @@ from typing import BinaryIO, Iterator, NamedTuple, Sequence
 from . import records
 from .errors import NotFound, Refused
 from .limits import FILE_BYTES
-from .program import ENCODING
+from .program import ENCODING, csv_text
 
 NO_SEPARATORS = bytes(set(range(256)) - set(b",\n"))
 
@@ -105,6 +105,13 @@ def fields_of(text: bytes, path: str) -> Iterator[list[str]]:
         yield from csv.reader(io.StringIO(text.decode(ENCODING), newline=""), strict=True)
     except csv.Error as fault:
         raise Refused(f"{path}: {fault}") from None
+
+
+def joined(columns: Sequence[Sequence[str]], plain: bool) -> bytes:
+    """Columns as records. Fields are plain where they have no comma, no quote and no line end."""
+    if plain:
+        return "\n".join([*map(",".join, zip(*columns)), ""]).encode(ENCODING)
+    return csv_text(zip(*columns)).encode(ENCODING)
 
 
 def shown(text: str) -> str:
