@@ -21,7 +21,7 @@ for one in rules.batch([{"1AJ": 3}]):
 count: int = rules.batch_file(Path("a.csv"), "b.csv", stops="keep")
 mismatches: Mismatches = rules.cases(Path("cases.csv"))
 source, program = answer.digests
-one: Compared = compare(rules, rules, [], of="T").households[0]
+household: Compared = compare(rules, rules, [], of="T").households[0]
 fact: Fact = rules.facts({"1AJ": (0, 10**6), "0CF": "no"})["T"]
 winners: int = compare_file(rules, rules, "a.csv", of="T").comparison.all.winners
 picture: str = compare(rules, rules, [], of="T").plot()

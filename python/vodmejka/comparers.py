@@ -91,7 +91,7 @@ class Comparer:
         """The results of a part."""
         table, request = columns_of(part.text, part.rows, self.head, self.path), self.request
         answers = self.answers(table, part)
-        stepped: Sequence[Sequence[str]] = self.with_step(table, request.step) if request.step else table
+        stepped = self.with_step(table, request.step)
         more = self.answers(stepped, part) if request.step else []
         before, after = (self.sum_of(answer, table) for answer in answers)
         reasons = {**after[1], **before[1]}
@@ -122,8 +122,10 @@ class Comparer:
             found.append(values_of(printed, side.names, part.rows))
         return found
 
-    def with_step(self, table: Sequence[Sequence[str]], step: Step) -> list[Sequence[str]]:
+    def with_step(self, table: Sequence[Sequence[str]], step: Step | None) -> Sequence[Sequence[str]]:
         """The columns with so much more of one code."""
+        if step is None:
+            return table
         made, at = list(table), self.head.index(step.code)
         more = {text: PLAIN[INPUTS[text] + step.amount] for text in set(table[at])}
         made[at] = list(map(more.__getitem__, table[at]))
