@@ -90,7 +90,8 @@ def metadata():
     texts = dict(re.findall(r'^([a-z-]+) = "(.*)"$', project, re.MULTILINE))
     classifiers = re.findall(r'^    "(.*)",$', project, re.MULTILINE)
     heads = [("Metadata-Version", "2.1"), ("Name", NAME), ("Version", version()), ("Summary", texts["description"])]
-    heads += [("Requires-Python", texts["requires-python"]), *(("Classifier", one) for one in classifiers)]
+    keywords = re.findall('"(.*?)"', re.search(r"^keywords = (.*)$", project, re.MULTILINE)[1])
+    heads += [("Keywords", ",".join(keywords)), ("Requires-Python", texts["requires-python"]), *(("Classifier", one) for one in classifiers)]
     heads.append(("Description-Content-Type", "text/markdown"))
     return "".join(f"{head}: {text}\n" for head, text in heads).encode() + b"\n" + content_of(texts["readme"])
 

@@ -2,9 +2,9 @@
 """Times a million households as frames and as files, and what a reform does to them: frames.py PROGRAM FOLDER [ROWS]
 
 At the top of the repository, by a Python that has pandas. The rules are those of examples/impot2023 with their driver: nine codes, eight values; PROGRAM is
-m_tax, next to m_survey. Each line is a process of its own. Seconds are by the clock, and of the processor, of Python and of the programs that it starts;
-the peak is that of the process, in MiB. A frame is made before the clock runs, and is part of the peak, which is also printed less what
-the process had before. The same households are computed by columns of numpy, which give one value; the number of those that differ is printed.
+m_tax, with m_survey in the same folder. Each line is a process of its own. Seconds are by the clock, and of the processor, of Python and of the programs that it
+starts; the peak is that of the process, in MiB. A frame is made before the clock runs, and is part of the peak, which is also printed less
+what the process had before. The same households are computed by columns of numpy, which give one value; how many of these differ is printed.
 """
 import json
 import os
@@ -54,28 +54,34 @@ def spent(who):
 
 def timed(what, folder, rows):
     """Does one thing in this process, and prints seconds and peaks."""
+    import numpy
     import pandas
     from by_numpy import total
-    from vodmejka import Rules
+    from vodmejka import Rules, compare
 
     rules = Rules(*WORDS)
     table = os.path.join(folder, "table.csv")
-    box = columns(rows) if what in ("float64", "micros", "numpy") else {}
+    box = columns(rows) if what in ("float64", "micros", "numpy", "compare") else {}
     frame = pandas.DataFrame(box, copy=False)
+    if what == "compare":
+        frame["weight"] = numpy.random.default_rng(7).integers(1_000, 6_000, rows) / 10
+        frame["region"] = pandas.Categorical.from_codes(numpy.arange(rows) % 4, list("nsew"))
     if what in ("float64", "micros"):
         rules.batch(frame[:10], numbers=what)
     (own, before), (programs, _), begin = spent(resource.RUSAGE_SELF), spent(resource.RUSAGE_CHILDREN), time.monotonic()
     differ = None
     if what in ("float64", "micros"):
-        told = rules.batch(frame, numbers=what)
+        answers = rules.batch(frame, numbers=what)
     elif what == "numpy":
-        told = total({code: column.astype("float64") for code, column in box.items()})
+        answers = total({code: column.astype("float64") for code, column in box.items()})
+    elif what == "compare":
+        compare(rules, rules.with_list(AFTER), frame, of="TOTAL", weight="weight", by=["tenth:RNI", "region"])
     elif what == "file":
         rules.batch_file(table, os.path.join(folder, "out.csv"), keep=["weight", "region"])
     clock = time.monotonic() - begin
     (own_after, peak), (programs_after, _) = spent(resource.RUSAGE_SELF), spent(resource.RUSAGE_CHILDREN)
     if what == "numpy":
-        differ = int((told[:DRAWN] != rules.batch(frame[:DRAWN])["TOTAL"].to_numpy()).sum())
+        differ = int((answers[:DRAWN] != rules.batch(frame[:DRAWN])["TOTAL"].to_numpy()).sum())
     print(json.dumps([clock, own_after - own, programs_after - programs, peak, peak - before, differ]))
 
 
@@ -97,11 +103,12 @@ def main():
     written(os.path.join(folder, "table.csv"), rows)
     print(f"{machine()}\n\n| {rows:,} households | by the clock | Python's | the programs' | peak of Python | above what it was |\n|---|---:|---:|---:|---:|---:|")
     found = {}
-    for what, name in (("float64", "`batch` of a frame"), ("micros", "the same in millionths"), ("numpy", "one value by numpy"), ("file", "`batch_file`, csv, two columns kept")):
+    for what, name in (("float64", "`batch` of a frame"), ("micros", "the same in millionths"), ("numpy", "one value by numpy"), ("file", "`batch_file`, csv, two columns kept"),
+                       ("compare", "`compare` of a frame, tenths and groups")):
         words = [sys.executable, "-B", __file__, sys.argv[1], folder, str(rows), what]
-        *told, differ = json.loads(subprocess.run(words, cwd=ROOT, check=True, capture_output=True, text=True).stdout)
-        found[what] = told
-        print("| " + " | ".join([name, *(f"{value:.2f}" for value in told[:3]), *(f"{value:.0f}" for value in told[3:])]) + " |", flush=True)
+        *measured, differ = json.loads(subprocess.run(words, cwd=ROOT, check=True, capture_output=True, text=True).stdout)
+        found[what] = measured
+        print("| " + " | ".join([name, *(f"{value:.2f}" for value in measured[:3]), *(f"{value:.0f}" for value in measured[3:])]) + " |", flush=True)
         if differ:
             print(f"(by numpy {differ} of {DRAWN:,} differ)")
     for name, more in (("`tools/reform`, tenths and groups", []), ("the same with `--step`", ["--step", "1AJ=1000"])):
@@ -114,6 +121,7 @@ def main():
     figure("python.frame_seconds", found["float64"][0], "<=8")
     figure("python.frame_mebibytes", found["float64"][3], "<=300")
     figure("python.frame_to_numpy_seconds", found["float64"][0] / found["numpy"][0])
+    figure("python.compare_less_batch_seconds", found["compare"][0] - found["float64"][0], "<=15")
     figure("python.reform_seconds", found["reform0"][0], "<=15")
     figure("python.reform_with_step_seconds", found["reform2"][0], "<=15")
     return None

@@ -1,4 +1,5 @@
 """Tests of what the package says of rules: inputs, variables, why, cases, and what notebooks show."""
+import pickle
 import unittest
 from decimal import Decimal
 
@@ -96,6 +97,23 @@ class Asked(Room):
         self.assertEqual(self.rules.cases(self.put("met.csv", "\n".join(rows[:2]) + "\n")), [])
         with self.assertRaisesRegex(Refused, "household line 1: unknown output"):
             self.rules.cases(self.put("bad.csv", "name,1AJ,=NONE\n"))
+
+    def test_digests(self):
+        """Each result has the digests of the source and of the program that computed it."""
+        expected = (self.rules.digest, self.rules.program_digest)
+        self.assertEqual(self.rules.run({"1AJ": 2500}).digests, expected)
+        answers = list(self.rules.batch([{"1AJ": 2500}, {"1AJ": -1}] * 2))
+        self.assertEqual([answer.digests for answer in answers], [expected] * 4)
+        self.assertEqual((pickle.loads(pickle.dumps(answers[1])).digests, answers[1].stop.error), (expected, "A20"))
+        self.assertEqual([answer.digests for answer in answers], [expected] * 4)
+        self.assertEqual(self.rules.cases(self.put("cases.csv", "name,1AJ,=IRN\na,2500,7\n")).digests, expected)
+        self.assertEqual(self.rules.facts().digests, (self.rules.digest, self.rules.survey_digest))
+        variant = self.rules.variant(outputs=["IRN"])
+        self.assertEqual(variant.run({}).digests, (variant.digest, self.rules.program_digest))
+
+    def test_digests_of_sessions(self):
+        with self.rules.session({"1AJ": 2500}) as session:
+            self.assertEqual((session.show().digests, session.why("IRN").digests), (self.rules.digests,) * 2)
 
     def test_notebooks(self):
         self.put("html.m", RULES.replace('"household ~"', '"a<b"'))

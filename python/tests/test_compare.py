@@ -5,6 +5,7 @@ The rules: TAX is 10 % of what 1AJ has above 1000, and from 5000 on 50 more at o
 import unittest
 from decimal import Decimal
 from fractions import Fraction
+from unittest import mock
 
 from room import Room
 from vodmejka import Refused, Rules, Stopped, compare, sweep
@@ -81,6 +82,51 @@ class Compared(Changed):
         self.assertEqual([(group.name, group.households) for group in made.groups[1:3]], [("region n", 2), ("region None", 1)])
         self.assertEqual(compare(self.before, self.after, pandas.DataFrame(index=[1, 2]), of="TAX").all.households, 2)
 
+    def test_in_parts(self):
+        """The same by parts of two households, of a list, of an iterator that yields one dict again and again, and of a frame."""
+        words = {"of": "TAX", "weight": "w", "by": ["region", "tenth:TAX", "tenth:1AJ"], "net": "1AJ - TAX"}
+        whole = compare(self.before, self.after, HOUSEHOLDS, **words)
+        one = {}
+        given = [HOUSEHOLDS, (one.update(household) or one for household in HOUSEHOLDS)]
+        try:
+            import pandas
+
+            given.append(pandas.DataFrame(HOUSEHOLDS))
+        except ImportError:
+            pass
+        sums = lambda made: [(group.name, group.households, group.weight, group.before, group.after, group.gained, group.apart) for group in made.groups]
+        for households in given:
+            with mock.patch("vodmejka.comparisons.PORTION", 2):
+                made = compare(self.before, self.after, households, **words)
+            self.assertEqual((sums(made), list(made.households), made.gini), (sums(whole), list(whole.households), whole.gini))
+            self.assertEqual(made.program, self.before.survey_digest)
+
+    def test_households(self):
+        """By number, by slice and from the end; the last one is stopped, and orders by 1AJ all the same."""
+        made = self.compared(by=["region", "tenth:1AJ"], net="1AJ - TAX")
+        first = made.households[1]
+        self.assertEqual((first.number, first.weight, first.groups, first.before, first.after), (1, 10**6, ("sud", 2000 * 10**6), 100 * 10**6, 0))
+        self.assertEqual((first.kept, first.why), ((1900 * 10**6, 2000 * 10**6), ""))
+        self.assertEqual(made.households[-1][1:], (4 * 10**6, ("sud", -(10**6)), None, None, (None, None), "stopped"))
+        self.assertEqual([one.number for one in made.households[1:4:2]], [1, 3])
+        with self.assertRaises(IndexError):
+            made.households[5]
+
+    def test_frames_that_are_refused(self):
+        try:
+            import pandas
+        except ImportError:
+            self.skipTest("no pandas")
+        for columns, words, line in (
+            ({"1AJ": [1], "age": [3]}, {}, 'column "age" is no code of the rules: keep=\\["age"\\]'), ({"1AJ": [1]}, {"weight": "w"}, 'the frame has no column "w"'),
+            ({"1AJ": [1, 2], "w": [1.5, -1]}, {"weight": "w"}, "household 1: the weight w is below 0"),
+            ({"1AJ": [1], "w": [0.1234567]}, {"weight": "w"}, "household 0: the weight w is below 0, or has more than six decimals: 0.1234567"),
+            ({"1AJ": [1, 2], "w": [1, None]}, {"weight": "w"}, "household 1: the weight w is no number"),
+            ({"1AJ": [1], "w": ["x"]}, {"weight": "w"}, "household 0: the weight w is no number: 'x'"), ({"1AJ": ["x"]}, {}, "household 0, code 1AJ: x is no amount"),
+        ):
+            with self.assertRaisesRegex(Refused, line):
+                compare(self.before, self.after, pandas.DataFrame(columns), of="TAX", **words)
+
     def test_more_is_gain(self):
         made = self.compared(gain="more")
         self.assertEqual((made.cost, made.winners, made.losers), (Decimal(-625), 0, Decimal("4.5")))
@@ -154,10 +200,11 @@ class Sums(unittest.TestCase):
 
     def test_gini(self):
         """All the same: 0. One of n has all: (n - 1) / n. A weight of 2 is two households."""
-        self.assertEqual(gini_of([(1, Fraction(3))] * 4), 0)
-        self.assertEqual(gini_of([(1, Fraction(0))] * 3 + [(1, Fraction(8))]), Fraction(3, 4))
-        self.assertEqual(gini_of([(2, Fraction(1)), (1, Fraction(4))]), gini_of([(1, Fraction(1)), (1, Fraction(1)), (1, Fraction(4))]))
-        self.assertIsNone(gini_of([(1, Fraction(0))]))
+        self.assertEqual(gini_of([1] * 4, [3] * 4), 0)
+        self.assertEqual(gini_of([1] * 4, [0, 0, 8, 0]), Fraction(3, 4))
+        self.assertEqual(gini_of([2, 1], [1, 4]), gini_of([1, 1, 1], [4, 1, 1]))
+        self.assertIsNone(gini_of([1], [0]))
+        self.assertIsNone(gini_of([], []))
 
 
 if __name__ == "__main__":

@@ -2,6 +2,7 @@
 import csv
 import io
 import os
+import random
 import sys
 import types
 import unittest
@@ -12,7 +13,8 @@ from room import Room
 from test_compare import HOUSEHOLDS, Changed
 from vodmejka import Broken, NotFound, Refused, Rules, Stopped, compare, compare_file
 from vodmejka.long_tables import LongTable
-from vodmejka.sorting import Ordered, packed
+from vodmejka.groups import Rows
+from vodmejka.tenths import Ordered, groups_of, names_of, ordered_part, packed, unpacked
 
 TABLE = 'name,1AJ,w,1BB\nNA,2000.5,"1,5",1\n"a, b",500,2,\n"x ""y""",-5,"q""",0\n~,9500,,\n'
 # IRN: 2000.5 - 1000 + 1, nothing, a stop, 8500 with a note. C is the cube of 1AJ: 2000.5 cubed is 8006001500.125, 500 cubed 125000000, 9500 cubed 857375000000.
@@ -160,7 +162,7 @@ class OfFiles(Changed):
         words = {"of": "TAX", "weight": "w", "by": ["region", "tenth:TAX", "tenth:1AJ"]}
         for of in ("TAX", "1AJ - 0.5 * TAX"):
             words["of"] = of
-            made, found = compare(self.before, self.after, HOUSEHOLDS, **words), compare_file(self.before, self.after, self.path, **words).made
+            made, found = compare(self.before, self.after, HOUSEHOLDS, **words), compare_file(self.before, self.after, self.path, **words).comparison
             for one, other in zip(made.groups, found.groups, strict=True):
                 for what in ("name", "households", "weight", "before", "after", "winners", "losers", "unchanged", "gained", "lost", "stopped", "apart_weight"):
                     self.assertEqual(getattr(one, what), getattr(other, what), (of, one.name, what))
@@ -170,12 +172,12 @@ class OfFiles(Changed):
     def test_by_code_files(self):
         """They give all values; more than the one that is asked for."""
         words = {"of": "TAX", "weight": "w", "by": ["tenth:TAX", "region"]}
-        found = compare_file(self.before, self.after, self.path, **words).made
+        found = compare_file(self.before, self.after, self.path, **words).comparison
         codes = []
         for rules in (self.before, self.after):
             rules.write_code(self.room.name + "/a.code")
             codes.append(Rules.from_code(self.room.name + "/a.code"))
-        made = compare_file(*codes, self.path, **words).made
+        made = compare_file(*codes, self.path, **words).comparison
         self.assertEqual([(group.name, group.before, group.after) for group in made.groups], [(group.name, group.before, group.after) for group in found.groups])
 
     def test_in_parts(self):
@@ -184,7 +186,7 @@ class OfFiles(Changed):
         whole, lines = compare_file(self.before, self.after, self.path, **words, lines=(first := io.BytesIO())), io.BytesIO()
         with mock.patch("vodmejka.file_comparisons.ROWS", 2):
             parts = compare_file(self.before, self.after, self.path, **words, lines=lines)
-        told = [[(group.name, group.households, group.weight, group.before, group.after) for group in one.made.groups] for one in (whole, parts)]
+        told = [[(group.name, group.households, group.weight, group.before, group.after) for group in one.comparison.groups] for one in (whole, parts)]
         self.assertEqual(*told)
         self.assertEqual((first.getvalue(), whole.gains), (lines.getvalue(), parts.gains))
 
@@ -202,8 +204,19 @@ class OfFiles(Changed):
 
     def test_undefined_and_over(self):
         path = self.put("table.csv", "name,1AJ\na,\nb,10000000\nc,3\n")
-        whole = compare_file(self.before, self.after, path, of="NON").made.all
+        whole = compare_file(self.before, self.after, path, of="NON").comparison.all
         self.assertEqual((whole.undefined, whole.over, whole.households, whole.before), (1, 1, 3, 9_000_000))
+
+    def test_amounts_of_codes(self):
+        """A code counts as the program reads it: empty is 0, and the seventh decimal is rounded. 2000.1234565 and 1000 more pay 10 % of them above 1000."""
+        lines = io.BytesIO()
+        path = self.put("table.csv", 'name,1AJ\n"a, ""b""",2000.1234565\nb,\n=c,-3\n')
+        found = compare_file(self.before, self.after, path, of="1AJ - TAX", step=("1AJ", "1000"), inputs=True, lines=lines).comparison
+        self.assertEqual((found.all.before, found.all.after), (2000_123_457 - 100_012_346, 2000_123_457 - 12_346))
+        self.assertEqual(lines.getvalue().decode().splitlines(), [
+            "name,weight,by,before,after,difference,marginal before,marginal after,1AJ",
+            '"a, ""b""",1,,1900.111111,2000.111111,100,0.9,0.9,2000.1234565', "b,1,,0,0,0,1,1,", "'=c,1,,,,,,,-3",
+        ])
 
     def test_what_is_refused(self):
         for text, words, line in (
@@ -227,21 +240,55 @@ class OfFiles(Changed):
         self.assertEqual(compare(self.before, self.after, HOUSEHOLDS[:2], of="TAX", keep=["w", "region"]).plot().count("<rect"), 1)
 
 
-class Order(unittest.TestCase):
-    def test_rows_in_order(self):
-        """Equal ones stand as they came, within a part and from part to part."""
+class Tenths(unittest.TestCase):
+    @staticmethod
+    def tenths(parts):
+        """How many households each tenth has of each part, whose rows are pairs of a key and a weight."""
         order = Ordered()
-        parts = [[(3, "c"), (1, "b"), (3, "a")], [], [(2, "d"), (3, "e"), (1, "f")], [(10**20, "g"), (-10**20, "h")]]
         for part in parts:
-            order.add(packed(part))
-        self.assertEqual("".join(name for _, name in order.rows()), "hbfdcaeg")
+            weights = [weight for _, weight in part]
+            order.add(ordered_part([key for key, _ in part], Rows(weights, [0] * len(part), [1] * len(part), {})))
+        found = [[group.households for group in groups_of(order.file, names_of("N"), 1, 1, share)] for share in order.shares()]
         order.close()
-        many = [(k * 7919 % 1000, k) for k in range(2000)]
-        order = Ordered()
-        for begin in range(0, 2000, 600):
-            order.add(packed(many[begin : begin + 600]))
-        self.assertEqual(list(order.rows()), sorted(many))
-        order.close()
+        return found
+
+    def test_one_part(self):
+        """Weights of 1: of ten households each tenth has one; of five every second one."""
+        self.assertEqual(self.tenths([[(k, 1) for k in range(10)]]), [[1] * 10])
+        self.assertEqual(self.tenths([[(k, 1) for k in range(5)]]), [[1, 0] * 5])
+
+    def test_parts(self):
+        """In order of the keys the weights are 2, 1, 4 and 3 of 10, which begin at 0, 2, 3 and 7: in the tenths 1, 3, 4 and 8."""
+        self.assertEqual(self.tenths([[(5, 4), (1, 2)], [], [(7, 3), (-2, 0), (3, 1)]]),
+                         [[1, 0, 0, 1, 0, 0, 0, 0, 0, 0], [0] * 10, [1, 0, 1, 0, 0, 0, 0, 1, 0, 0]])
+
+    def test_equal_keys_stand_in_their_order(self):
+        """Four of the weight 5 in two parts begin at 0, 5, 10 and 15 of 20: in the tenths 1 and 3 of the first, 6 and 8 of the second part."""
+        first, second = self.tenths([[(3, 5), (3, 5)], [(3, 5), (3, 5)]])
+        self.assertEqual((first, second), ([1, 0, 1] + [0] * 7, [0] * 5 + [1, 0, 1, 0, 0]))
+
+    def test_no_weight(self):
+        """Without any weight each begins at 0."""
+        self.assertEqual(self.tenths([[(1, 0), (2, 0)], [(0, 0)]]), [[2] + [0] * 9, [1] + [0] * 9])
+        self.assertEqual(self.tenths([]), [])
+
+    def test_great_numbers(self):
+        """Keys and weights may have more than 64 bits: 3 and 1 of 4 begin at 0 and 7.5 tenths."""
+        self.assertEqual(self.tenths([[(10**20, 10**19), (-(10**20), 3 * 10**19)]]), [[1, 0, 0, 0, 0, 0, 0, 1, 0, 0]])
+        for numbers in ([1, -5, 2**63 - 1], [2**63, -(10**30)], []):
+            self.assertEqual(list(unpacked(packed(numbers))), numbers)
+
+    def test_as_by_a_walk(self):
+        """The same as a walk through all households in order: a household is in the tenth in which its own weight begins."""
+        draw = random.Random(3)
+        for _ in range(50):
+            parts = [[(draw.randrange(8), draw.randrange(4)) for _ in range(draw.randrange(9))] for _ in range(draw.randrange(1, 5))]
+            rows = sorted(((key, weight, at) for at, part in enumerate(parts) for key, weight in part), key=lambda row: row[0])
+            whole, passed, expected = sum(weight for _, weight, _ in rows), 0, [[0] * 10 for _ in parts]
+            for _, weight, at in rows:
+                expected[at][min(9, passed * 10 // whole) if whole else 0] += 1
+                passed += weight
+            self.assertEqual(self.tenths(parts), expected, parts)
 
 
 if __name__ == "__main__":

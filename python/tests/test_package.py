@@ -103,7 +103,7 @@ class Wheels(unittest.TestCase):
         folder = self.unpacked(backend(self.package).build_wheel(self.room))
         with open(f"{folder}/vodmejka-{vodmejka.__version__}.dist-info/METADATA", encoding="utf-8") as file:
             heads, _, text = file.read().partition("\n\n")
-        for line in ("Version: 1.0.0", "Requires-Python: >=3.10", "Classifier: Operating System :: POSIX :: Linux", "Description-Content-Type: text/markdown"):
+        for line in ("Version: 1.0.0", "Requires-Python: >=3.10", "Keywords: income tax,microsimulation,M,France", "Classifier: Operating System :: POSIX :: Linux", "Description-Content-Type: text/markdown"):
             self.assertIn(line, heads.split("\n"))
         self.assertTrue(text.startswith("# vodmejka\n"))
 
@@ -158,19 +158,20 @@ class Found(unittest.TestCase):
             with mock.patch.dict(os.environ, {"M_SURVEY": room + "/bin/m_survey"}):
                 self.assertEqual(program.program_path(None, "m_survey", room + "/other/m_tax"), room + "/bin/m_survey")
 
-    def test_commands_of_an_installed_package(self):
-        """They have the program that the package finds; in a repository they have its script."""
-        with tempfile.TemporaryDirectory() as room, mock.patch.dict(os.environ, {"PATH": room, "M_TAX": ""}), \
-                mock.patch.object(program, "TOP", room + "/nowhere"), mock.patch.object(runs, "TOP", room + "/nowhere"):
-            path = room + "/m_tax"
-            with open(path, "w", encoding="ascii") as file:
-                file.write("#!/bin/sh\n")
-            self.assertEqual(runs.program_path(), room + "/nowhere/m_tax")
-            os.chmod(path, 0o755)
-            self.assertEqual(runs.program_path(), path)
-            os.mkdir(room + "/nowhere")
-            shutil.copy(path, room + "/nowhere/m_tax")
-            self.assertEqual(runs.program_path(), room + "/nowhere/m_tax")
+    def test_commands_have_the_same_program(self):
+        """They compute by the program that the package finds, and name the one of the repository where there is none."""
+        with tempfile.TemporaryDirectory() as room, mock.patch.dict(os.environ, {"PATH": room + "/bin", "M_TAX": "", "M_SURVEY": ""}), \
+                mock.patch.object(program, "TOP", room + "/top"), mock.patch.object(program, "clone", lambda: []):
+            self.assertEqual(runs.program_path(), room + "/top/m_tax")
+            with self.assertRaises(FileNotFoundError):
+                runs.found()
+            for name in ("top/m_tax", "bin/m_tax", "top/out/m_tax"):
+                path = put_program(room, name)
+                self.assertEqual((runs.program_path(), runs.found().path, runs.found().digest), (path, path, program.Program().digest))
+            put_program(room, "top/out/m_survey")
+            self.assertEqual(runs.found("m_survey").path, room + "/top/out/m_survey")
+            with mock.patch.dict(os.environ, {"M_TAX": room + "/gone"}):
+                self.assertEqual(runs.program_path(), room + "/gone")
 
 
 if __name__ == "__main__":

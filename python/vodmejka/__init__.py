@@ -18,8 +18,8 @@ from .version import VERSION as __version__
 
 if TYPE_CHECKING:
     from .answers import OVER, Answer, Note, Over, Stop, Value
-    from .cases import Mismatch
-    from .comparisons import Comparison, compare
+    from .cases import Mismatch, Mismatches
+    from .comparisons import Compared, Comparison, compare
     from .errors import Broken, Interrupted, NotFound, Refused, Stopped, VodmejkaError
     from .facts import Fact, Facts, Range
     from .file_comparisons import FileComparison, compare_file
@@ -30,16 +30,16 @@ if TYPE_CHECKING:
     from .whys import Why
 
 __all__ = [
-    "OVER", "Answer", "Broken", "Comparison", "Fact", "Facts", "FileComparison", "Formula", "Interrupted", "Mismatch", "Note", "NotFound", "Over", "Range",
-    "Refused", "Rules", "Session", "Stop", "Stopped", "Sweep", "Value", "Variable", "VodmejkaError", "Why", "__version__", "compare",
-    "compare_file", "sweep",
+    "Answer", "Broken", "Compared", "Comparison", "Fact", "Facts", "FileComparison", "Formula", "Interrupted", "Mismatch", "Mismatches", "NotFound",
+    "Note", "OVER", "Over", "Range", "Refused", "Rules", "Session", "Stop", "Stopped", "Sweep", "Value", "Variable", "VodmejkaError", "Why",
+    "__version__", "compare", "compare_file", "sweep",
 ]
 
 # The module of each name. It is imported when the name is used first: a command that needs none of them starts a quarter of a second earlier.
 _MODULES = {
     "answers": ("OVER", "Answer", "Note", "Over", "Stop", "Value"),
-    "cases": ("Mismatch",),
-    "comparisons": ("Comparison", "compare"),
+    "cases": ("Mismatch", "Mismatches"),
+    "comparisons": ("Compared", "Comparison", "compare"),
     "errors": ("Broken", "Interrupted", "NotFound", "Refused", "Stopped", "VodmejkaError"),
     "facts": ("Fact", "Facts", "Range"),
     "file_comparisons": ("FileComparison", "compare_file"),

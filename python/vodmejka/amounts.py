@@ -6,7 +6,7 @@ import re
 from fractions import Fraction
 
 from . import limits
-from .runs import Failed
+from .errors import Failed
 
 UNIT = 1_000_000
 HALF = Fraction(1, 2)

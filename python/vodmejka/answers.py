@@ -1,6 +1,7 @@
-"""What a household is told, read from the lines of the program."""
+"""The answer to a household, read from the lines of the program."""
 from __future__ import annotations
 
+import functools
 import mmap
 import re
 from dataclasses import dataclass
@@ -16,7 +17,7 @@ if TYPE_CHECKING:
 
 
 class Over:
-    """The value of what overflows: it is beyond the greatest amount. There is one, `OVER`."""
+    """The value after an overflow: it is beyond the greatest amount. There is one, `OVER`."""
 
     def __repr__(self) -> str:
         return "OVER"
@@ -57,20 +58,22 @@ Read = tuple[dict[str, Value], tuple[Note, ...], Union[Stop, None]]
 
 
 class Answer(Mapping[str, Value]):
-    """What a household is told: the values by their names in order, and the notes; or the stop, and then there are no values.
+    """The values by their names in order, and the notes; or the stop, and then there are no values. `digests` are those of the source and of the program.
 
     It is a mapping of names to values. Of a household that a verification stopped it is empty, and `answer[NAME]` raises `Stopped`.
 
-    Of a batch the lines of the program are read when something of them is asked for, and of a single value its line alone, so that many answers cost little.
+    Of a batch the lines of the program are read when something of them is requested, and of a single value its line alone, so that many answers cost little.
     """
 
     __slots__ = ("_block", "_columns", "_index", "_lines", "_form", "_values", "_rest")
     _index: int
 
-    def __init__(self, values: dict[str, Value] | None = None, notes: tuple[Note, ...] = (), stop: Stop | None = None):
+    def __init__(
+        self, values: dict[str, Value] | None = None, notes: tuple[Note, ...] = (), stop: Stop | None = None, digests: tuple[str, str] = ("", "")
+    ):
         self._block: Block | None = None
         self._columns: dict[str, list[Decimal] | None] = NO_COLUMNS
-        self._lines, self._form = "", NO_FORM
+        self._lines, self._form = "", empty_form(digests)
         self._values: dict[str, Value] | None = {} if values is None else values
         self._rest: tuple[tuple[Note, ...], Stop | None] | None = (notes, stop)
 
@@ -83,12 +86,16 @@ class Answer(Mapping[str, Value]):
         return self._values
 
     @property
+    def digests(self) -> tuple[str, str]:
+        return (self._form if self._block is None else self._block.form).digests
+
+    @property
     def notes(self) -> tuple[Note, ...]:
-        return self._told()[0]
+        return self._notes_and_stop()[0]
 
     @property
     def stop(self) -> Stop | None:
-        return self._told()[1]
+        return self._notes_and_stop()[1]
 
     def __getitem__(self, name: str) -> Value:
         try:
@@ -109,7 +116,7 @@ class Answer(Mapping[str, Value]):
         return name in self.values
 
     def __eq__(self, other: object) -> bool:
-        return isinstance(other, Answer) and (self.values, *self._told()) == (other.values, *other._told())
+        return isinstance(other, Answer) and (self.values, *self._notes_and_stop()) == (other.values, *other._notes_and_stop())
 
     __hash__ = None  # type: ignore[assignment]
 
@@ -124,7 +131,7 @@ class Answer(Mapping[str, Value]):
         return section([f"{len(values)} values", *notes], table(["name", "value"], values))
 
     def __reduce__(self) -> tuple[type, tuple[object, ...]]:
-        return Answer, (self.values, self.notes, self.stop)
+        return Answer, (self.values, self.notes, self.stop, self.digests)
 
     def _value(self, name: str) -> Value:
         """A value of which there is no column yet, or none at all."""
@@ -143,18 +150,18 @@ class Answer(Mapping[str, Value]):
             raise Stopped(self.stop.line)
         return values[name]
 
-    def _told(self) -> tuple[tuple[Note, ...], Stop | None]:
+    def _notes_and_stop(self) -> tuple[tuple[Note, ...], Stop | None]:
         """The notes and the stop."""
         if self._block is not None:
             self._leave(self._block)
         if self._rest is None:
             begin = after_notes(self._lines)
-            told = self._lines if self._lines.startswith(STOPS, begin) else self._lines[:begin]
-            self._rest = parts_of(lines_of(told))[1:]
+            lines = self._lines if self._lines.startswith(STOPS, begin) else self._lines[:begin]
+            self._rest = parts_of(lines_of(lines))[1:]
         return self._rest
 
     def _leave(self, block: Block) -> None:
-        """Takes its own lines out of the block in which they are, and lets go of it."""
+        """Copies its own lines out of its block, and releases the block."""
         self._lines, self._form, self._values, self._rest, self._block = block.lines(self._index), block.form, None, None, None
         self._columns = NO_COLUMNS
         block.is_left = True
@@ -175,14 +182,15 @@ def decimal_of(text: bytes) -> Decimal:
 
 
 class Form:
-    """How answers of rules tell values of these names, where all are amounts: how each line begins, and the form of all lines together.
+    """How answers of rules print values of these names, where all are amounts: how each line begins, and the form of all lines together. `digests` are those of
+    the source and of the program.
 
     The lines of an answer have a line feed before the first one and after each. The last line that begins with a name and ` = ` is that name's, or the text of
     a note or a stop, and this is no amount, since it has the colons between the error's texts. So a line that is a label, or a name with an amount, is no text.
     """
 
-    def __init__(self, names: list[str]):
-        self.names = names
+    def __init__(self, names: list[str], digests: tuple[str, str] = ("", "")):
+        self.names, self.digests = names, digests
         self.begins = {name: f"\n{name} = " for name in names}
         self._finders: dict[str, Callable[[Printed, int, int], list[bytes]]] = {}
         self._known: dict[bytes, Decimal] | None = Known()
@@ -222,14 +230,14 @@ class Form:
         return found
 
     def values(self, lines: str) -> dict[str, Value]:
-        """The values that lines tell."""
+        """The values in lines."""
         begin = after_notes(lines)
         match = self.match(lines, begin)
         if match:
             return dict(zip(self.names, map(Decimal, match.groups())))
-        told = lines[begin:]
-        found = [] if told.startswith(STOPS) else VALUES.findall(told)
-        if len(found) != told.count("\n"):
+        rest = lines[begin:]
+        found = [] if rest.startswith(STOPS) else VALUES.findall(rest)
+        if len(found) != rest.count("\n"):
             return parts_of(lines_of(lines))[0]
         return {name: Decimal(number) if number else None if undefined else OVER for name, number, undefined, _ in found}
 
@@ -250,7 +258,7 @@ VALUES = re.compile("(?m)^" + VALUE.pattern + "$")
 
 
 def lines_of(lines: str) -> Iterator[str]:
-    """The lines that stand so, one by one."""
+    """Lines one by one."""
     return iter(lines[1:].split("\n")[:-1])
 
 
@@ -267,7 +275,7 @@ def after_notes(lines: str) -> int:
 
 
 def parts_of(lines: Iterator[str]) -> Read:
-    """The values, the notes and the stop that lines tell."""
+    """The values, the notes and the stop in lines."""
     values: dict[str, Value] = {}
     notes: list[Note] = []
     for line in lines:
@@ -284,13 +292,19 @@ def parts_of(lines: Iterator[str]) -> Read:
 
 
 def value_of(line: str) -> Value:
-    """The value that a line tells: `NAME = AMOUNT`, `NAME undefined` or `NAME over`."""
+    """The value in a line: `NAME = AMOUNT`, `NAME undefined` or `NAME over`."""
     match = VALUE.fullmatch(line)
     if match is None:
         raise Broken(f"a line that is no answer: {line}")
     return Decimal(match[2]) if match[2] else None if match[3] else OVER
 
 
-def answer_of(lines: Iterator[str]) -> Answer:
+@functools.lru_cache(maxsize=64)
+def empty_form(digests: tuple[str, str]) -> Form:
+    """The form of answers whose values were read already."""
+    return Form([], digests)
+
+
+def answer_of(lines: Iterator[str], digests: tuple[str, str]) -> Answer:
     """The answer of which these are all lines."""
-    return Answer(*parts_of(lines))
+    return Answer(*parts_of(lines), digests)

@@ -1,20 +1,19 @@
-"""Files of households of any length: a table as csv, and what its households are told as csv or as a file of Parquet, in parts."""
+"""Files of households of any length: a table as csv, and the answers to its households as csv or as a file of Parquet, in parts."""
 from __future__ import annotations
 
 import csv
-import io
 import os
 import re
 from typing import TYPE_CHECKING, BinaryIO, Iterator, Mapping, Sequence
 
 from .answers import LABEL
 from .errors import Broken, Refused, Stopped
-from .frames import REFUSED, STOPS, Households, Told, quoted
+from .frames import STOPS, FrameAnswers, Households, quoted
 from .limits import FILE_BYTES
-from .long_tables import LongTable, Part, column_named, fields_of, of_width
+from .long_tables import LongTable, Part, column_named, columns_of, is_plain, joined
 from .program import ENCODING, csv_text, whole_file
 from .source import MASK
-from .surveys import FIRST, Run, Survey, body_of
+from .surveys import FIRST, Run, Survey, body_of, in_table
 
 if TYPE_CHECKING:
     import pandas
@@ -24,7 +23,7 @@ STOPPED = re.compile(rb'(?m)^("(?:[^"]|"")*"|[^",\n]*),([^,\n]+),')
 
 
 class HouseholdFile:
-    """A table of households, whose columns are codes of the rules, or are carried over."""
+    """A table of households, whose columns are codes of the rules, or are copied."""
 
     def __init__(self, path: str | os.PathLike[str], types: Mapping[str, str], keep: Sequence[str], with_labels: bool):
         self.table = LongTable(path)
@@ -41,19 +40,20 @@ class HouseholdFile:
         self.is_plain, self.with_labels = with_labels and len(self.codes) == len(head) - 1, with_labels
         self.head = csv_text([["name", *(head[at] for at in self.codes)]]).encode(ENCODING)
 
-    def records(self, part: Part) -> Iterator[list[str]]:
-        """The fields of the records of a part."""
-        return of_width(fields_of(part.text, self.table.path), self.table.head, self.table.path)
+    def columns(self, part: Part) -> list[list[str]]:
+        """The columns of a part."""
+        return columns_of(part.text, part.rows, self.table.head, self.table.path)
 
     def of_codes(self, part: Part) -> bytes:
         """The table of a part for the program."""
         if self.is_plain:
             return self.head + part.text
-        rows = ([row[0] if self.with_labels else LABEL, *(row[at] for at in self.codes)] for row in self.records(part))
-        return self.head + csv_text(rows).encode(ENCODING)
+        columns = self.columns(part)
+        labels = columns[0] if self.with_labels else [LABEL] * part.rows
+        return self.head + joined([labels, *(columns[at] for at in self.codes)], is_plain(part.text))
 
     def runs(self, survey: Survey, rows: int) -> Iterator[tuple[Part, Run]]:
-        """The program on each part, begun while the one before it is handed out."""
+        """The program on each part, started while the one before it is written."""
         waiting: list[tuple[Part, Run]] = []
         try:
             for part in self.table.parts(rows, FILE_BYTES // 2):
@@ -72,7 +72,7 @@ def batch_file(
     survey: Survey, types: Mapping[str, str], names: Sequence[str], path: str | os.PathLike[str], out: str | os.PathLike[str], *,
     format: str, numbers: str, stops: str, keep: Sequence[str], rows: int,
 ) -> int:
-    """Writes what the households of a file are told, and answers how many they are."""
+    """Writes the answers to the households of a file, and returns how many they are."""
     if format not in FORMATS or stops not in STOPS:
         raise ValueError('format: "csv" or "parquet", and stops: "raise" or "keep"')
     if format == "parquet" and numbers == "decimal":
@@ -92,24 +92,21 @@ def batch_file(
 
 
 def printed_of(run: Run, part: Part, names: Sequence[str]) -> bytes:
-    """What the program printed of a part. What it refuses is told with the household's line in the file."""
+    """The program's output for a part. A message has the household's line in the file."""
     try:
         printed = body_of(run.printed(), names)[:]
     except Refused as refused:
-        found = REFUSED.fullmatch(refused.line)
-        if found is None or int(found[1]) < 2:
-            raise
-        raise Refused(refused.line.replace(f"line {found[1]}:", f"line {int(found[1]) + part.before}:", 1)) from None
+        raise in_table(refused, part.before) from None
     if printed.count(b"\n") != part.rows + 1:
         raise Broken(f"{printed.count(10) - 1} answers for {part.rows} households")
     return printed
 
 
 class Csv:
-    """What is printed, as it stands, with the columns that are kept after the label."""
+    """The program's output, with the columns that are kept after the label."""
 
     def __init__(self, households: HouseholdFile, names: Sequence[str], stops: str):
-        self._households, self._stops, self._is_begun = households, stops, False
+        self._households, self._stops, self._is_begun, self._names = households, stops, False, [*FIRST, *names]
         head = households.table.head
         self._head = csv_text([["name", *(head[at] for at in households.kept), *FIRST[1:], *names]]).encode(ENCODING)
 
@@ -126,14 +123,14 @@ class Csv:
         file.write(self._with_kept(part, body) if self._households.kept else body)
 
     def end(self, file: BinaryIO) -> None:
-        """Writes what a table without households has."""
+        """Writes the first line of a table without households."""
         if not self._is_begun:
             file.write(self._head)
 
     def _with_kept(self, part: Part, body: bytes) -> bytes:
-        told = csv.reader(io.StringIO(body.decode(ENCODING), newline=""), strict=True)
-        kept = self._households.kept
-        return csv_text([row[0], *(given[at] for at in kept), *row[1:]] for given, row in zip(self._households.records(part), told)).encode(ENCODING)
+        labels, *answers = columns_of(body, part.rows, self._names, "an answer")
+        given = self._households.columns(part)
+        return joined([labels, *(given[at] for at in self._households.kept), *answers], is_plain(part.text) and is_plain(body))
 
 
 class Parquet:
@@ -159,18 +156,18 @@ class Parquet:
         self._writer.close()  # type: ignore[attr-defined]
 
     def frame(self, part: Part, printed: bytes) -> pandas.DataFrame:
-        """A part as a frame; labels and what is kept are texts."""
+        """A part as a frame; labels and kept columns are texts."""
         import pandas
 
         head, encoding = self._households.table.head, "utf-8" if is_utf8(part.text) else ENCODING
-        columns = [0, *self._households.kept]
-        rows = [[row[at].encode(ENCODING).decode(encoding) for at in columns] for row in self._households.records(part)]
-        given = pandas.DataFrame(rows, columns=[head[at] for at in columns], dtype=object)
+        columns = self._households.columns(part)
+        texts = {head[at]: [text.encode(ENCODING).decode(encoding) for text in columns[at]] for at in [0, *self._households.kept]}
+        given = pandas.DataFrame(texts, dtype=object)
         given.index = pandas.Index(given["name"], dtype=object)
-        told = Told(Households(given, {}, list(given.columns)), self._names, self._numbers, self._stops)
+        answers = FrameAnswers(Households(given, {}, list(given.columns)), self._names, self._numbers, self._stops)
         if part.rows:
-            told.add(0, part.rows, printed)
-        return told.frame().reset_index(drop=True)
+            answers.add(0, part.rows, printed)
+        return answers.frame().reset_index(drop=True)
 
     def _write(self, file: BinaryIO, frame: pandas.DataFrame) -> None:
         texts = {name: "string" for name in frame.columns if frame[name].dtype == object}

@@ -14,7 +14,7 @@ import weakref
 from typing import BinaryIO, Callable, Generator, Iterable, Iterator
 
 from .answers import LABEL_LINE, NEXT_LABEL, Answer, Form, Printed
-from .blocks import Hands, Piece, Told
+from .blocks import Hands, Piece, BlockAnswer
 from .errors import Broken, NotFound, Refused
 from .guard import Child, memory_file
 from .limits import FILE_BYTES
@@ -32,7 +32,7 @@ class Answers:
 
     __slots__ = ("_lists", "_all")
 
-    def __init__(self, lists: Generator[list[Told], None, None] | Generator[list[Answer], None, None]):
+    def __init__(self, lists: Generator[list[BlockAnswer], None, None] | Generator[list[Answer], None, None]):
         self._lists, self._all = lists, itertools.chain.from_iterable(lists)
 
     def __iter__(self) -> Iterator[Answer]:
@@ -55,12 +55,12 @@ class Batch:
     """
 
     def __init__(
-        self, program: Program, words: list[str], folder: str, form: Form, size: int, codes: Iterable[str], told: Callable[[str], str],
+        self, program: Program, words: list[str], folder: str, form: Form, size: int, codes: Iterable[str], original_names: Callable[[str], str],
         timeout: float | None = None,
     ):
         self.program, self.timeout = program, timeout
         self.words, self.folder, self.form, self.size = [program.path, *words], folder, form, size
-        self.codes, self.told, self.tables = frozenset(codes), told, Tables()
+        self.codes, self.original_names, self.tables = frozenset(codes), original_names, Tables()
         self.hands = Hands()
         self.few: Form | None = None
 
@@ -79,10 +79,10 @@ class Batch:
         """The status of the program at its end."""
         return ended(child, self.program, self.timeout)
 
-    def _handed(self, rows: Iterable[Household]) -> Generator[list[Told], None, None]:
+    def _handed(self, rows: Iterable[Household]) -> Generator[list[BlockAnswer], None, None]:
         """The same, some hundred at a time."""
         parts = self._parts(iter(rows))
-        handed: list[Told] = []
+        handed: list[BlockAnswer] = []
         try:
             for piece in parts:
                 handed = self.hands.answers(piece)
@@ -100,7 +100,7 @@ class Batch:
         if 2 * len(wanted) > len(names):
             return None
         if self.few is None or self.few.names != wanted:
-            self.few = Form(wanted)
+            self.few = Form(wanted, self.form.digests)
         return self.few
 
     def _parts(self, left: Iterator[Household]) -> Generator[Piece, None, None]:
@@ -206,9 +206,9 @@ class Part:
         try:
             raise_for(b"" if status == 0 else printed_in(self.files[1])[:], status, printed_in(self.files[2])[:])
         except NotFound as missing:
-            raise NotFound(self.batch.told(str(missing))) from None
+            raise NotFound(self.batch.original_names(str(missing))) from None
         except Refused as refused:
-            line = self.batch.told(refused.line).replace(f"/proc/self/fd/{self.files[0]}", TABLE_NAME)
+            line = self.batch.original_names(refused.line).replace(f"/proc/self/fd/{self.files[0]}", TABLE_NAME)
             before, self.fault = self._taken(line), Refused(self._among_all(line))
             if before:
                 self.batch.tables = Tables()  # the one until now knows the codes of all households

@@ -10,7 +10,7 @@ from .answers import LABEL_LINE, NEXT_LABEL, NO_FORM, Answer, Form, Printed
 from .program import ENCODING
 
 
-class Told(Answer):
+class BlockAnswer(Answer):
     """An answer whose lines are in a block with others; made without a call of Python."""
 
     __slots__ = ()
@@ -105,9 +105,9 @@ class Turn:
 
     def __init__(self) -> None:
         self.block = Block()
-        self._made: list[Told] = []
+        self._made: list[BlockAnswer] = []
 
-    def answers(self, piece: Piece) -> list[Told]:
+    def answers(self, piece: Piece) -> list[BlockAnswer]:
         """The answers of a piece, where those of the one before it are settled."""
         self.block.take(piece)
         while len(self._made) < piece.size:
@@ -133,8 +133,8 @@ class Turn:
                 answer._block, answer._columns = self.block, self.block.columns
         return held > 0
 
-    def _new(self, index: int) -> Told:
-        answer: Told = Told()
+    def _new(self, index: int) -> BlockAnswer:
+        answer: BlockAnswer = BlockAnswer()
         answer._block, answer._columns, answer._index = self.block, self.block.columns, index
         return answer
 
@@ -148,7 +148,7 @@ class Hands:
         self._settled = 0
         self._is_more_wanted = False
 
-    def answers(self, piece: Piece) -> list[Told]:
+    def answers(self, piece: Piece) -> list[BlockAnswer]:
         """The answers of a piece."""
         self._now, self._before = self._before, self._now
         self._settle(self._now)

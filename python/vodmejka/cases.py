@@ -1,8 +1,8 @@
-"""Tables of cases: households with expected values, of which the program tells those that aren't met."""
+"""Tables of cases: households with expected values, of which the program prints those that aren't met."""
 from __future__ import annotations
 
 import re
-from typing import NamedTuple, Union
+from typing import Any, Iterable, NamedTuple, Union
 
 from .answers import Value, value_of
 from .errors import Broken
@@ -23,13 +23,24 @@ class Mismatch(NamedTuple):
     got: Expected
 
 
-def mismatches_of(lines: list[str]) -> list[Mismatch]:
-    """The mismatches that the program printed, in their order."""
-    *told, last = lines or [""]
-    count, found = LAST.fullmatch(last), [LINE.fullmatch(line) for line in told]
-    if count is None or int(count[2]) != len(told):
+class Mismatches(list[Mismatch]):
+    """The mismatches of a table, in their order. `digests` are those of the source and of the program."""
+
+    def __init__(self, found: Iterable[Mismatch], digests: tuple[str, str]):
+        super().__init__(found)
+        self.digests = digests
+
+    def __reduce__(self) -> tuple[Any, ...]:
+        return Mismatches, (list(self), self.digests)
+
+
+def mismatches_of(lines: list[str], digests: tuple[str, str]) -> Mismatches:
+    """The mismatches that the program printed."""
+    *printed, last = lines or [""]
+    count, found = LAST.fullmatch(last), [LINE.fullmatch(line) for line in printed]
+    if count is None or int(count[2]) != len(printed):
         raise Broken(f"a last line of cases that is none: {last}")
-    return [Mismatch(*parts(one, line)) for one, line in zip(found, told)]
+    return Mismatches((Mismatch(*parts(one, line)) for one, line in zip(found, printed)), digests)
 
 
 def parts(found: re.Match[str] | None, line: str) -> tuple[str, str, Expected, Expected]:

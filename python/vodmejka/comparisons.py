@@ -1,34 +1,38 @@
 """What a change of rules does to households: who gains, who loses, what it costs, over groups and tenths, with weights, in exact sums."""
 from __future__ import annotations
 
+import contextlib
 import itertools
-import operator
 from decimal import Decimal
 from fractions import Fraction
-from typing import TYPE_CHECKING, Any, Iterable, Iterator, Mapping, NamedTuple, Sequence
+from typing import TYPE_CHECKING, Any, Iterable, Mapping, NamedTuple, Sequence, overload
 
-from .answers import Answer, Over
 from .bar_pictures import Picture, bars
-from .cells import exact as exact_amount
-from .cells import narrow
-from .errors import Broken, Refused, Stopped
-from .expressions import UNIT, Amount, Expression, millionths
-from .groups import Group, Row, gini_of, group_line, tenths, whole_parts
+from .columns import Reasons, inputs, sums, values, without
+from .comparers import keys_of, ordered
+from .errors import Broken, Refused
+from .expressions import Expression
+from .groups import Group, Rows, by_label, gini_of, group_line, merge_into, merged
+from .populations import Names, Portion, portions
 from .rules import Rules
 from .shown import section, short, table
+from .surveys import Run, values_of
 from .sweeps import exact
+from .tenths import Ordered, groups_of, names_of
 
 if TYPE_CHECKING:
     import pandas
 
+PORTION = 25_000
 TENTH = "tenth:"
 GAINS = ("less", "more")
 
 
 class Compared(NamedTuple):
-    """A household: its number from 0, its weight in millionths, what it is grouped by, `of` before and after and what is kept before and after, in millionths.
+    """A household: its number from 0, its weight in millionths, its groups, `of` before and after and what is kept before and after, in millionths.
 
-    `why` is empty, or says why one of these is no number: `stopped`, `undefined` or `over`."""
+    A group is what the column has, or the number that orders households into tenths. `why` is empty, or says why one of the amounts is missing: `stopped`,
+    `undefined` or `over`."""
 
     number: int
     weight: int
@@ -38,9 +42,54 @@ class Compared(NamedTuple):
     kept: tuple[Fraction | None, Fraction | None]
     why: str
 
-    def row(self, scale: int) -> Row:
-        """What it adds to sums."""
-        return None, self.weight, whole_parts(self.before, scale), whole_parts(self.after, scale), self.why
+
+class ComparedHouseholds(Sequence[Compared]):
+    """The households of a comparison, as columns of whole numbers; each is made when it is read."""
+
+    def __init__(self, scales: Sequence[int], by: Sequence[str]):
+        self.scales, self.by, self.groups = list(scales), list(by), [list[Any]() for _ in by]
+        self.weights = list[int]()
+        self.reasons: Reasons = {}
+        self.amounts = [(list[int](), list[int]()) for _ in scales]
+
+    def add(self, weights: Sequence[int], groups: Sequence[Sequence[Any]], amounts: Sequence[Sequence[Sequence[int]]], reasons: Reasons) -> None:
+        """Adds households: the amounts before and after of each sum, in parts of a millionth."""
+        begin = len(self.weights)
+        self.weights += weights
+        for own, column in zip(itertools.chain(self.groups, *self.amounts), itertools.chain(groups, *amounts)):
+            own += column
+        self.reasons.update((begin + at, why) for at, why in reasons.items())
+
+    def columns(self, sum_: int) -> tuple[list[int], list[int], list[int]]:
+        """The weights and the amounts before and after of those that have amounts, of the sum of that number."""
+        are_numbers = [at not in self.reasons for at in range(len(self.weights))]
+        before, after = self.amounts[sum_]
+        weights, before, after = (list(itertools.compress(column, are_numbers)) for column in (self.weights, before, after))
+        return weights, before, after
+
+    def __len__(self) -> int:
+        return len(self.weights)
+
+    @overload
+    def __getitem__(self, at: int) -> Compared: ...
+
+    @overload
+    def __getitem__(self, at: slice) -> list[Compared]: ...
+
+    def __getitem__(self, at: int | slice) -> Compared | list[Compared]:
+        if isinstance(at, slice):
+            return [self[number] for number in range(*at.indices(len(self)))]
+        number = range(len(self))[at]
+        why, groups = self.reasons.get(number, ""), tuple(group_of(name, column[number]) for name, column in zip(self.by, self.groups))
+        pairs: list[tuple[Fraction | None, Fraction | None]] = [(None, None)] * 2
+        if not why:
+            pairs = [(Fraction(first[number], scale), Fraction(second[number], scale)) for (first, second), scale in zip(self.amounts, self.scales)] + pairs
+        return Compared(number, self.weights[number], groups, *pairs[0], pairs[1], why)
+
+
+def group_of(name: str, value: Any) -> Any:
+    """The group of a household: what its column has, or the number that orders households into tenths."""
+    return Fraction(value) if name.startswith(TENTH) and value is not None else value
 
 
 class Comparison:
@@ -52,9 +101,10 @@ class Comparison:
 
     def __init__(
         self, of: str, gain: str, net: str | None, by: Sequence[str], groups: Sequence[Group], digests: tuple[str, str], program: str,
-        households: Sequence[Compared] = (),
+        households: ComparedHouseholds | None = None,
     ):
-        self.of, self.gain, self.net, self.by, self.households = of, gain, net, list(by), list(households)
+        self.of, self.gain, self.net, self.by = of, gain, net, list(by)
+        self.households = ComparedHouseholds([1], []) if households is None else households
         self.groups, self.digests, self.program = list(groups), digests, program
 
     @property
@@ -81,11 +131,11 @@ class Comparison:
     @property
     def gini(self) -> tuple[Fraction | None, Fraction | None]:
         """The Gini coefficient before and after: of what is kept where `net` was given, else of `of`. None where the amounts have no sum above 0."""
-        pairs = [(one.weight, one.kept if self.net is not None else (one.before, one.after)) for one in self.households if not one.why]
-        return gini_of([(weight, kept[0]) for weight, kept in pairs]), gini_of([(weight, kept[1]) for weight, kept in pairs])
+        weights, before, after = self.households.columns(0 if self.net is None else 1)
+        return gini_of(weights, before), gini_of(weights, after)
 
     @property
-    def table(self) -> Any:
+    def table(self) -> pandas.DataFrame | list[dict[str, Any]]:
         """A row for each group, as a frame of pandas where it is installed, else as a list of dicts."""
         rows = [group_line(group) for group in self.groups]
         try:
@@ -110,36 +160,130 @@ class Comparison:
 
 
 def compare(
-    before: Rules, after: Rules, households: Any, *, of: str, weight: str | None = None, by: Sequence[str] = (), net: str | None = None, gain: str = "less",
-    keep: Sequence[str] = (),
+    before: Rules, after: Rules, households: pandas.DataFrame | Iterable[Mapping[str, Any]], *, of: str, weight: str | None = None, by: Sequence[str] = (),
+    net: str | None = None, gain: str = "less", keep: Sequence[str] = (),
 ) -> Comparison:
     """What a change of rules does to households.
 
     `households` is an iterable of mappings, or a frame, with amounts by codes and further columns: `weight` names one with a weight of 0 or more, `by` has
-    names of columns, or `tenth:NAME` for tenths of the weight by a requested value before the change, or by a code, and `keep` names columns that are passed
-    over. The two may have other inputs, drivers and requested values; a code that one hasn't is left out of its households. `of` is a requested value of both,
+    names of columns, or `tenth:NAME` for tenths of the weight by a requested value before the change, or by a code, and `keep` names columns that are ignored.
+    The two may have other inputs, drivers and requested values; a code that one hasn't is left out of its households. `of` is a requested value of both,
     or a sum as `TOTAL + LEVIES`; `net` a sum of codes and values that says what a household keeps. With gain="less" less of `of` is a gain, as of a tax, with
-    "more" more of it.
+    "more" more of it. All are computed by the program m_survey.
     """
-    sign_of(gain)
+    sign = sign_of(gain)
     if before.program_digest != after.program_digest:
         raise Broken("the rules before and after are computed by two programs")
-    sums = [Expression(text) for text in (of, *([net] if net is not None else []))]
-    codes = [set(before.inputs()), set(after.inputs())]
-    tenths = [name.removeprefix(TENTH) for name in by if name.startswith(TENTH)]
-    for name in tenths:
+    expressions = [Expression(text) for text in (of, *([net] if net is not None else []))]
+    codes = (set(before.types()), set(after.types()))
+    for name in (name.removeprefix(TENTH) for name in by if name.startswith(TENTH)):
         if name not in before.outputs() and name not in codes[0]:
             raise Refused(f"by: {name} is neither a requested value nor a code of the rules before the change")
-    for base, own in zip((before, after), codes):
-        for name in itertools.chain.from_iterable(sum_.names for sum_ in sums):
-            if name not in base.outputs() and name not in codes[0] | codes[1]:
-                raise Refused(f"{name} is neither a requested value nor a code of the rules; there are {', '.join(base.outputs())}")
-    columns = [name for name in ([weight] if weight is not None else []) + list(by) if not name.startswith(TENTH)]
-    made = list(compared(before, after, codes, rows_of(households, columns, keep, codes), sums, weight, by))
-    sign, scale = sign_of(gain), sums[0].scale
-    entries = [one.row(scale) for one in made]
-    groups = [group_of_rows("all", entries, sign, scale), *itertools.chain.from_iterable(grouped(made, entries, by, sign, scale))]
-    return Comparison(of, gain, net, by, groups, (before.digest, after.digest), before.program_digest, made)
+    for base, expression in itertools.product((before, after), expressions):
+        check_names(expression, list(base.outputs()), codes[0] | codes[1])
+    names = Names(codes, weight, [name for name in by if not name.startswith(TENTH)], list(keep))
+    made = Computation(before, after, expressions, by, sign)
+    with contextlib.closing(made):
+        for portion in portions(households, names, PORTION):
+            made.begin(portion)
+        groups = made.groups()
+    return Comparison(of, gain, net, by, groups, (before.digest, after.digest), before.survey_digest, made.households)
+
+
+class Computation:
+    """The households of a comparison as they are computed: each part by both programs, while the part before it is added up."""
+
+    def __init__(self, before: Rules, after: Rules, expressions: Sequence[Expression], by: Sequence[str], sign: int):
+        self.expressions, self.by, self.sign, self.scale = expressions, list(by), sign, expressions[0].scale
+        ordering = [name.removeprefix(TENTH) for name in by if name.startswith(TENTH)]
+        self.sides = []
+        for rules, more in ((before, ordering), (after, list[str]())):
+            wanted = dict.fromkeys([name for expression in expressions for name in expression.names] + more)
+            requested = rules.outputs()
+            self.sides.append(rules.survey_of([name for name in wanted if name in requested]))
+        self.households = ComparedHouseholds([expression.scale for expression in expressions], by)
+        self._whole = Group("all", sign, self.scale)
+        self._labelled: list[dict[str, Group]] = [{} for name in by if not name.startswith(TENTH)]
+        self._ordered = [(Ordered(), Group(f"no {name}", sign, self.scale)) for name in ordering]
+        self._waiting: list[tuple[Portion, list[Run]]] = []
+
+    def begin(self, portion: Portion) -> None:
+        """Starts the programs on some households, and adds up those before."""
+        runs: list[Run] = []
+        self._waiting.append((portion, runs))
+        runs += [survey.begun(table) for (survey, _), table in zip(self.sides, portion.tables)]
+        if len(self._waiting) > 1:
+            self._finish()
+
+    def groups(self) -> list[Group]:
+        """All groups, when all households have been added up."""
+        while self._waiting:
+            self._finish()
+        made, labelled, ordered_ = [self._whole], iter(self._labelled), iter(self._ordered)
+        for name in self.by:
+            if not name.startswith(TENTH):
+                made += next(labelled).values()
+                continue
+            order, others = next(ordered_)
+            tenths = names_of(name.removeprefix(TENTH))
+            shares = [groups_of(order.file, tenths, self.sign, self.scale, share) for share in order.shares()]
+            made += [merged(tenth, self.sign, self.scale, (share[k] for share in shares)) for k, tenth in enumerate(tenths)]
+            made += [others] if others.households else []
+        return made
+
+    def close(self) -> None:
+        """Ends the programs that still run."""
+        for run in itertools.chain.from_iterable(runs for _, runs in self._waiting):
+            run.end()
+        for order, _ in self._ordered:
+            order.close()
+
+    def _finish(self) -> None:
+        """Adds up the households whose programs were started first."""
+        portion, runs = self._waiting[0]
+        answers = []
+        for (_, names), run in zip(self.sides, runs):
+            try:
+                answers.append(values_of(run.printed(), names, portion.count))
+            except Refused as refused:
+                raise portion.refusal(refused) from None
+            finally:
+                run.end()
+        self._waiting.pop(0)
+        self._add(portion, answers)
+
+    def _add(self, portion: Portion, answers: Sequence[dict[str, list[str]]]) -> None:
+        """Adds up some households."""
+        pairs = [[self._sum(expression, portion, answer) for answer in answers] for expression in self.expressions]
+        reasons: Reasons = {}
+        for side in (1, 0):
+            for pair in pairs[::-1]:
+                reasons.update(pair[side][1])
+            reasons.update((at, "stopped") for at, stop in enumerate(answers[side]["stop"]) if stop)
+        amounts = [[without(column, reasons) for column, _ in pair] for pair in pairs]
+        rows = Rows(portion.weights, amounts[0][0], amounts[0][1], reasons)
+        labelled, ordered_, groups, at = iter(self._labelled), iter(self._ordered), list[Sequence[Any]](), iter(portion.groups)
+        for name in self.by:
+            if name.startswith(TENTH):
+                keys, others = self._keys(name.removeprefix(TENTH), portion, answers[0]), next(ordered_)
+                part, without_key = ordered(name.removeprefix(TENTH), keys, rows, self._whole)
+                others[0].add(part)
+                others[1].merge(without_key)
+                groups.append(keys)
+            else:
+                groups.append(next(at))
+                merge_into(next(labelled), by_label(name, map(str, groups[-1]), rows, self.sign, self.scale))
+        self._whole.add(rows)
+        self.households.add(portion.weights, groups, amounts, reasons)
+
+    def _sum(self, expression: Expression, portion: Portion, answer: dict[str, list[str]]) -> tuple[list[int], Reasons]:
+        """A sum for each household; undefined before over."""
+        column = lambda name: values(answer[name]) if name in answer else inputs(portion.amounts(name))
+        return sums(expression, portion.count, column)
+
+    def _keys(self, name: str, portion: Portion, answer: dict[str, list[str]]) -> list[int | None]:
+        """The numbers that order households: values before the change, or amounts of a code; None where there is none."""
+        return keys_of(*(values(answer[name]) if name in answer else inputs(portion.amounts(name))))
 
 
 def short_name(name: str) -> str:
@@ -154,130 +298,8 @@ def sign_of(gain: str) -> int:
     return -1 if gain == "less" else 1
 
 
-def rows_of(households: Any, columns: Sequence[str], keep: Sequence[str], codes: Sequence[set[str]]) -> Iterator[Mapping[str, Any]]:
-    """The households as mappings, of which each name is a code or a column that is asked for."""
-    known = codes[0] | codes[1] | set(columns) | set(keep)
-    if hasattr(households, "columns") and hasattr(households, "itertuples"):
-        households = rows_in(households, codes[0] | codes[1])
-    for number, household in enumerate(households):
-        if not known.issuperset(household):
-            unknown = next(name for name in household if name not in known)
-            raise Refused(f"household {number}: column {unknown!r} is no code of the rules: keep=[{unknown!r}]?")
-        missing = [name for name in columns if name not in household]
-        if missing:
-            raise Refused(f"household {number}: there is no column {missing[0]!r}")
-        yield household
-
-
-def rows_in(frame: pandas.DataFrame, codes: set[str]) -> Iterator[dict[str, Any]]:
-    """The rows of a frame, in which the amounts of codes are as `Rules.batch` takes them."""
-    names = [str(name) for name in frame.columns]
-    columns: list[Iterable[Any]] = []
-    for at, name in enumerate(names):
-        column = frame.iloc[:, at]
-        missing, shown = column.isna().tolist(), narrow(column.dtype)
-        columns.append([None if is_missing else exact_amount(name, value, shown) for value, is_missing in zip(column, missing)] if name in codes else column)
-    if not names:
-        return iter([dict[str, Any]() for _ in range(len(frame))])
-    return (dict(zip(names, row)) for row in zip(*columns))
-
-
-def compared(
-    before: Rules, after: Rules, codes: Sequence[set[str]], rows: Iterator[Mapping[str, Any]], sums: Sequence[Expression], weight: str | None, by: Sequence[str]
-) -> Iterator[Compared]:
-    """The households with what they are told by both rules; they are read once, and in step."""
-    own, first, second = itertools.tee(rows, 3)
-    outputs = [set(base.outputs()) for base in (before, after)]
-    told = zip(before.batch(with_codes(first, codes[0])), after.batch(with_codes(second, codes[1])))
-    for number, (household, answers) in enumerate(zip(own, told)):
-        groups = tuple(group_of(name, household, answers[0], outputs[0]) for name in by)
-        weighed = UNIT if weight is None else weight_of(number, weight, household[weight])
-        values = [values_of(sums, household, answer, names) for answer, names in zip(answers, outputs)]
-        why = reason_of(values[0]) or reason_of(values[1])
-        if why:
-            yield Compared(number, weighed, groups, None, None, (None, None), why)
-        else:
-            (of_before, *kept_before), (of_after, *kept_after) = values  # type: ignore[misc]
-            kept: Any = (kept_before[0], kept_after[0]) if kept_before else (None, None)
-            yield Compared(number, weighed, groups, of_before, of_after, kept, "")  # type: ignore[arg-type]
-
-
-def with_codes(rows: Iterable[Mapping[str, Any]], codes: set[str]) -> Iterator[dict[str, Any]]:
-    """The households with the codes of one rule base alone."""
-    return ({name: amount for name, amount in row.items() if name in codes} for row in rows)
-
-
-def amount_in(name: str, household: Mapping[str, Any], answer: Answer, outputs: set[str]) -> Amount:
-    """The amount of a requested value, or of a code: a box that isn't filled is 0. Stopped is raised where there is no value."""
-    if name in outputs:
-        return millionths(answer[name])
-    given = household.get(name)
-    return Fraction(0) if given is None or given == "" or given != given else Fraction(str(given)) * UNIT
-
-
-def values_of(sums: Sequence[Expression], household: Mapping[str, Any], answer: Answer, outputs: set[str]) -> list[Amount] | None:
-    """The values of sums; None where the household is stopped."""
-    if outputs.isdisjoint(itertools.chain.from_iterable(sum_.names for sum_ in sums)) and answer.stop is not None:
-        return None
-    try:
-        return [sum_.value(lambda name: amount_in(name, household, answer, outputs)) for sum_ in sums]
-    except Stopped:
-        return None
-
-
-def reason_of(values: Sequence[Amount] | None) -> str:
-    """Why one of these is no number; nothing where they are."""
-    if values is None:
-        return "stopped"
-    return "undefined" if None in values else "over" if any(isinstance(value, Over) for value in values) else ""
-
-
-def group_of(name: str, household: Mapping[str, Any], answer: Answer, outputs: set[str]) -> Any:
-    """What a household is grouped by: the text of a column, or the number by which it is put into tenths; None where that is none."""
-    if not name.startswith(TENTH):
-        return household[name]
-    try:
-        value = amount_in(name.removeprefix(TENTH), household, answer, outputs)
-    except Stopped:
-        return None
-    return value if isinstance(value, Fraction) else None
-
-
-def weight_of(number: int, name: str, given: Any) -> int:
-    """A weight in millionths."""
-    try:
-        weight = Fraction(str(given)) * UNIT
-    except (ValueError, ZeroDivisionError):
-        raise Refused(f"household {number}: the weight {name} is no number: {given!r}") from None
-    if weight < 0 or weight.denominator != 1:
-        raise Refused(f"household {number}: the weight {name} is below 0, or has more than six decimals: {given}")
-    return int(weight)
-
-
-def grouped(households: Sequence[Compared], entries: Sequence[Row], by: Sequence[str], sign: int, scale: int) -> Iterator[list[Group]]:
-    """The groups of each grouping: those of a column in the order in which they are met, those of tenths from the least to the greatest, and those that have
-    no value for these."""
-    for at, name in enumerate(by):
-        if name.startswith(TENTH):
-            rows = [(one.groups[at], *entry[1:]) for one, entry in zip(households, entries)]
-            yield in_tenths(rows, name.removeprefix(TENTH), sign, scale)
-            continue
-        found: dict[str, list[Row]] = {}
-        for one, entry in zip(households, entries):
-            found.setdefault(f"{name} {one.groups[at]}", []).append(entry)
-        yield [group_of_rows(label, members, sign, scale) for label, members in found.items()]
-
-
-def in_tenths(rows: Sequence[Row], name: str, sign: int, scale: int) -> list[Group]:
-    """The tenths of households by what orders them, and those without it, if any."""
-    ordered = sorted((row for row in rows if row[0] is not None), key=operator.itemgetter(0))
-    apart = group_of_rows(f"no {name}", [row for row in rows if row[0] is None], sign, scale)
-    found = tenths(name, ordered, sum(row[1] for row in ordered), sign, scale)
-    return [*found, apart] if apart.households else found
-
-
-def group_of_rows(name: str, rows: Iterable[Row], sign: int, scale: int) -> Group:
-    """A group of these households."""
-    made = Group(name, sign, scale)
-    made.add(rows)
-    return made
+def check_names(sum_: Expression, requested: Sequence[str], codes: set[str]) -> None:
+    """Refuses a sum with a name that is neither a requested value nor a code."""
+    for name in sum_.names:
+        if name not in requested and name not in codes:
+            raise Refused(f"{name} is neither a requested value nor a code of the rules; there are {', '.join(requested)}")

@@ -1,4 +1,4 @@
-"""Frames of Dask: each partition is computed as a frame of pandas, where it is, by rules that are pickled with their sources."""
+"""Frames of Dask: each partition is computed as a frame of pandas, on its worker, by rules that are pickled with their sources."""
 from __future__ import annotations
 
 from typing import TYPE_CHECKING, Any
@@ -13,7 +13,7 @@ if TYPE_CHECKING:
 
 
 def mapped(rules: Rules, frame: Any, words: dict[str, Any], meta: Any) -> Any:
-    """A frame of Dask with the answers for the households of another one. The rules are one task of its own, which each worker gets once."""
+    """A frame of Dask with the answers to the households of another one. The rules are a task of their own, which each worker gets once."""
     if not hasattr(frame, "map_partitions"):
         raise TypeError(f"map takes a frame of Dask, and not {type(frame).__name__}: batch takes one of pandas")
     from dask.delayed import delayed
@@ -21,11 +21,11 @@ def mapped(rules: Rules, frame: Any, words: dict[str, Any], meta: Any) -> Any:
     empty = rules.batch(frame._meta.iloc[:0], **words)
     made = digests(empty)
     shared = delayed(rules, name=f"rules-{digest_of(*(part.encode() for part in made))}", traverse=False)
-    return frame.map_partitions(told, shared, words, made, meta=empty if meta is None else meta)
+    return frame.map_partitions(answers, shared, words, made, meta=empty if meta is None else meta)
 
 
-def told(part: pandas.DataFrame, rules: Rules, words: dict[str, Any], made: tuple[str, str]) -> pandas.DataFrame:
-    """The answers for the households of a partition. A worker has the program of the others, or none."""
+def answers(part: pandas.DataFrame, rules: Rules, words: dict[str, Any], made: tuple[str, str]) -> pandas.DataFrame:
+    """The answers to the households of a partition. A worker must have the same program."""
     found: pandas.DataFrame = rules.batch(part, **words)
     if digests(found) != made:
         raise Broken("the program of this worker is another one than that with which the frame was made")

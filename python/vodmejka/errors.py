@@ -10,15 +10,23 @@ PLACED = re.compile(r"refused (.*) line ([0-9]+) byte ([0-9]+): (.*)", re.DOTALL
 LINED = re.compile(r"refused (driver|requests|household|list|code|report) line ([0-9]+)(?:: (.*))?", re.DOTALL)
 
 
+class Failed(Exception):
+    """A check of a command fails, or a batch that it started; `goes_on` where the same words may succeed later."""
+
+    def __init__(self, why: str, goes_on: bool = True):
+        super().__init__(why)
+        self.goes_on = goes_on
+
+
 class VodmejkaError(Exception):
     """All errors of this package."""
 
 
 class Refused(VodmejkaError):
-    """The program rejected an input.
+    """The program rejects an input.
 
     `line` is what it printed. Of a fault in a rule file `file`, `row` (from 1) and `byte` (from 0) are its place; of one in a driver, requests, a household, a
-    list, a code file or a report `file` names which of these it is, and `row` its line. `hint` is a sentence on what to fix, if there is one.
+    list, a code file or a report `file` says which of these it is, and `row` its line. `hint` says what to correct, where there is a sentence for it.
     """
 
     def __init__(self, line: str):
@@ -38,15 +46,15 @@ class Refused(VodmejkaError):
 
 
 class Stopped(VodmejkaError):
-    """A value is wanted of a household that a verification or a driver's condition stopped; `line` is what the program printed of it, and `said`, where it is
-    given, the same with the household's name."""
+    """A value is read of a household that a verification or a driver's condition stopped; `line` is the line that the program printed, and `message`, where it
+    is given, the same with the household's name."""
 
-    def __init__(self, line: str, said: str = ""):
-        super().__init__(line, said)
-        self.line, self.said = line, said
+    def __init__(self, line: str, message: str = ""):
+        super().__init__(line, message)
+        self.line, self.message = line, message
 
     def __str__(self) -> str:
-        return self.said or self.line
+        return self.message or self.line
 
 
 class NotFound(VodmejkaError):
@@ -58,11 +66,11 @@ class Interrupted(VodmejkaError):
 
 
 class Broken(VodmejkaError):
-    """The program isn't there, or prints what it never should."""
+    """There is no program, or it was replaced, or its output has not its form."""
 
 
 def hint_of(line: str) -> str | None:
-    """What to mend, for a line of the program."""
+    """What to correct, for a line of the program."""
     if match := PLACED.fullmatch(line):
         return next((text for what, text in sentences.RULES.items() if match[4] == what or match[4].startswith(what + " ")), None)
     if match := LINED.fullmatch(line):

@@ -17,8 +17,8 @@ TOKEN = re.compile(r"\s*(?:(?P<number>[0-9]+(?:\.[0-9]+)?)(?![0-9A-Za-z_\[.])|(?
 
 
 class Expression:
-    """A sum of terms; each is a name, a number, or a number times a name. `names` has the names in order, each once; of whole millionths it is a whole number
-    of parts, of which a millionth has `scale`."""
+    """A sum of terms; each is a name, a number, or a number times a name. `names` has the names in order, each once, `single` the name where the sum is one
+    value or code alone. Of whole millionths the sum is a whole number of parts, of which a millionth has `scale`."""
 
     def __init__(self, text: str):
         self.text = text
@@ -35,7 +35,7 @@ class Expression:
         if not self.terms:
             raise Refused(f"expression {text!r}: it has no code and no value")
         self.names = list(self.terms)
-        self._only = self.names[0] if not self.constant and list(self.terms.values()) == [1] else None
+        self.single = self.names[0] if not self.constant and list(self.terms.values()) == [1] else None
         self.scale = math.lcm(*(number.denominator for number in (self.constant, *self.terms.values())))
 
     def __repr__(self) -> str:
@@ -43,8 +43,8 @@ class Expression:
 
     def value(self, amount_of: Callable[[str], Amount]) -> Amount:
         """Its value where each name has this amount: undefined where one is undefined, else over where one is over."""
-        if self._only is not None:
-            return amount_of(self._only)
+        if self.single is not None:
+            return amount_of(self.single)
         sum_, is_over = self.constant, False
         for name, factor in self.terms.items():
             amount = amount_of(name)

@@ -1,4 +1,4 @@
-"""What holds of values for all households whose amounts lie within ranges, as the command `facts` of m_survey finds it."""
+"""Facts about values for all households whose amounts are within ranges, as the command `facts` of m_survey finds them."""
 from __future__ import annotations
 
 import re
@@ -29,7 +29,7 @@ Within = Union[Range, tuple[Amount, Amount], str]
 
 
 class Fact(NamedTuple):
-    """What may be of a value: an amount from `least` to `greatest` where these are there, undefined, beyond the greatest amount; and the codes of the inputs on
+    """What a value may be: an amount from `least` to `greatest` where it has these, undefined, beyond the greatest amount; and the codes of the inputs on
     which it may depend."""
 
     least: Decimal | None
@@ -83,7 +83,7 @@ def ranges_text(ranges: Mapping[str, Within]) -> bytes:
 
 
 def facts_of(text: str, digests: tuple[str, str]) -> Facts:
-    """The facts that the lines of the program tell."""
+    """The facts in the lines of the program."""
     facts: dict[str, Fact] = {}
     depends: dict[str, tuple[str, ...]] = {}
     never = []
@@ -102,7 +102,7 @@ def facts_of(text: str, digests: tuple[str, str]) -> Facts:
 
 
 def fact_of(line: str) -> tuple[str, Fact]:
-    """The fact that a line tells, as `IRN 0 to 9000 or undefined`."""
+    """The fact in a line, as `IRN 0 to 9000 or undefined`."""
     name, _, rest = line.partition(" ")
     kinds = rest.split(" or ") if rest else []
     least = greatest = None
@@ -117,5 +117,5 @@ def fact_of(line: str) -> tuple[str, Fact]:
 
 
 def without_facts(refused: Refused) -> Refused | Broken:
-    """What is said where the program has no such command."""
+    """The error where the program has no such command."""
     return Broken("this m_survey has no command facts: a newer one has") if refused.line.startswith("usage: ") else refused

@@ -1,4 +1,4 @@
-"""Frames of pandas: households as rows, whose columns are codes, and what they are told as a frame.
+"""Frames of pandas: households as rows, whose columns are codes, and their answers as a frame.
 
 Tables and answers are csv of the program m_survey: columns are written by numpy and read by the C parser of pandas, some ten thousand households at a time,
 so that no object of Python is made for a household or a number.
@@ -9,14 +9,14 @@ import decimal
 import io
 import re
 from decimal import Decimal
-from typing import TYPE_CHECKING, Any, Iterable, Iterator, Mapping, Sequence
+from typing import TYPE_CHECKING, Any, Callable, Iterable, Iterator, Mapping, Sequence
 
 from .answers import LABEL, OVER
 from .cells import NoAmount, exact, narrow, rows_of
 from .errors import Broken, Refused, Stopped
 from .limits import AMOUNT, FILE_BYTES
 from .program import ENCODING
-from .surveys import FIRST, Run, Survey, body_of
+from .surveys import FIRST, REFUSED, Run, Survey, body_of
 
 if TYPE_CHECKING:
     import numpy
@@ -25,16 +25,15 @@ if TYPE_CHECKING:
 NUMBERS = ("float64", "micros", "decimal")
 STOPS = ("raise", "keep")
 MILLIONTH = Decimal(1).scaleb(-6)
-EXACT = Decimal(2**53).scaleb(-6)  # below it a float tells all millionths apart, but for parts of amounts from APART on
+EXACT = Decimal(2**53).scaleb(-6)  # below it floats of all millionths differ, except for parts of amounts from APART on
 APART = 2**33
 INT64 = 2**63
 SURE = 2**30  # below it a float has its millionths, by a multiplication and rounding
-REFUSED = re.compile(r"refused household line ([0-9]+): .*", re.DOTALL)
 OVERS = re.compile(rb",over(?=[,\n])")
 
 
 class Households:
-    """The rows of a frame as households. `types` are the types of the codes, and `keep` names the columns that are carried over."""
+    """The rows of a frame as households. `types` are the types of the codes, and `keep` names the columns that are copied."""
 
     def __init__(self, frame: pandas.DataFrame, types: Mapping[str, str], keep: Sequence[str]):
         names = [str(column) for column in frame.columns]
@@ -51,7 +50,7 @@ class Households:
         self.columns = {name: frame.iloc[:, at] for at, name in enumerate(names)}
 
     def label(self, row: int) -> str:
-        """A row as it is named to people: by its label in the index."""
+        """A row as messages name it: by its label in the index."""
         label = self.frame.index[row]
         return f"household {quoted(label) if isinstance(label, str) else label}"
 
@@ -67,7 +66,7 @@ class Households:
             raise NoAmount(begin + fault.row, f"{self.label(begin + fault.row)}, {fault.why}") from None
 
     def runs(self, survey: Survey, rows: int) -> Iterator[tuple[int, int, Run]]:
-        """The program on so many rows at a time, each begun while the one before it is handed out. Where a cell is no amount, the rows before it come first."""
+        """The program on so many rows at a time, each started while the one before it is read. Where a cell is no amount, the rows before it come first."""
         left = [(begin, min(begin + rows, len(self.frame))) for begin in range(0, len(self.frame), rows)][::-1]
         waiting: list[tuple[int, int, Run]] = []
         try:
@@ -85,23 +84,23 @@ class Households:
                     continue
                 if begin < end:
                     waiting.append((begin, end, survey.begun(table)))
-                yield from self._handed(waiting, 0 if fault else 1)
+                yield from self._yielded(waiting, 0 if fault else 1)
                 if fault is not None:
                     raise fault
-            yield from self._handed(waiting, 0)
+            yield from self._yielded(waiting, 0)
         finally:
             for _, _, run in waiting:
                 run.end()
 
     @staticmethod
-    def _handed(waiting: list[tuple[int, int, Run]], left: int) -> Iterator[tuple[int, int, Run]]:
-        """Hands out runs until so many are left."""
+    def _yielded(waiting: list[tuple[int, int, Run]], left: int) -> Iterator[tuple[int, int, Run]]:
+        """Yields runs until so many are left."""
         while len(waiting) > left:
             yield waiting[0]
             waiting.pop(0)[2].end()
 
     def named(self, refused: Refused, begin: int) -> Refused:
-        """What the program refuses of rows from one on, with the label of the household, and the cell."""
+        """A message of the program about rows from one on, with the label of the household, and the cell."""
         found = REFUSED.fullmatch(refused.line)
         if found is None or int(found[1]) < 2:
             return refused
@@ -130,7 +129,7 @@ def missing_value(value: Any) -> bool:
 
 
 def fault_of(text: str, type_: str) -> str | None:
-    """What is wrong with an amount of a type; None where that is nothing."""
+    """What is wrong with an amount of a type; None where nothing is."""
     try:
         amount = Decimal(text)
     except decimal.InvalidOperation:
@@ -148,8 +147,8 @@ def fault_of(text: str, type_: str) -> str | None:
 # ---- answers
 
 
-class Told:
-    """What the households of a frame are told, as columns, which are filled some rows at a time."""
+class FrameAnswers:
+    """The answers to the households of a frame, as columns, which are filled some rows at a time."""
 
     def __init__(self, households: Households, names: Sequence[str], numbers: str, stops: str):
         import numpy
@@ -158,7 +157,7 @@ class Told:
             raise ValueError(f"numbers: one of {', '.join(NUMBERS)}, and not {numbers!r}")
         if stops not in STOPS:
             raise ValueError(f'stops: "raise" or "keep", and not {stops!r}')
-        self.households, self.asked, self.names = households, list(names), list(dict.fromkeys(names))
+        self.households, self.requested, self.names = households, list(names), list(dict.fromkeys(names))
         self.numbers, self.stops, count = numbers, stops, len(households.frame)
         self.heads = [*households.keep, *self.names, "over", "notes", *(["stop"] if stops == "keep" else [])]
         twice = [name for name in self.heads if self.heads.count(name) > 1]
@@ -170,19 +169,19 @@ class Told:
         self.over, self.notes, self.stop = (numpy.full(count, text, object) for text in ("", "", None))
 
     def add(self, begin: int, end: int, printed: bytes) -> None:
-        """Takes in what the program printed of some rows."""
-        texts = read(printed, self.asked, FIRST[1:], "category")
+        """Adds the program's output for some rows."""
+        texts = read(printed, self.requested, FIRST[1:], "category")
         if len(texts) != end - begin:
             raise Broken(f"{len(texts)} answers for {end - begin} households")
         self.stop[begin:end] = by_category(texts["stop"], lambda line: line, None)
         self.notes[begin:end] = by_category(texts["notes"], lambda line: " ".join(note.split(" ")[1] for note in line.split("; ")), "")
         if self.names and self.numbers == "decimal":
-            self._decimals(begin, end, read(printed, self.asked, self.names, "str"))
+            self._decimals(begin, end, read(printed, self.requested, self.names, "str"))
         elif self.names:
-            self._floats(begin, read(OVERS.sub(b",inf", printed) if b",over" in printed else printed, self.asked, self.names, "float64"), printed)
+            self._floats(begin, read(OVERS.sub(b",inf", printed) if b",over" in printed else printed, self.requested, self.names, "float64"), printed)
 
     def _decimals(self, begin: int, end: int, part: pandas.DataFrame) -> None:
-        """Takes in values as decimals."""
+        """Adds values as decimals."""
         known: dict[str, Any] = {"": None, "over": OVER}
         for name in self.names:
             column = part[name].tolist()
@@ -191,7 +190,7 @@ class Told:
             self._note_over(begin, name, (part[name] == "over").to_numpy())
 
     def _floats(self, begin: int, part: pandas.DataFrame, printed: bytes) -> None:
-        """Takes in values that were read as floats. Those of great amounts are looked at by their texts."""
+        """Adds values that were read as floats. Great amounts are checked by their texts."""
         import numpy
 
         end = begin + len(part)
@@ -199,8 +198,8 @@ class Told:
             column = part[name].to_numpy()
             is_over, size = numpy.isinf(column), numpy.abs(column)
             great = numpy.flatnonzero(~is_over & (size >= (APART if self.numbers == "float64" else SURE)))
-            amounts = [Decimal(text) for text in read(printed, self.asked, [name], "str")[name].to_numpy()[great]] if len(great) else []
-            self._look(begin, name, great, amounts)
+            amounts = [Decimal(text) for text in read(printed, self.requested, [name], "str")[name].to_numpy()[great]] if len(great) else []
+            self._check(begin, name, great, amounts)
             if self.numbers == "float64":
                 self.values[name][begin:end] = column
             else:
@@ -209,8 +208,8 @@ class Told:
                 self.values[name][begin + great] = [int(amount.scaleb(6)) for amount in amounts]
             self._note_over(begin, name, is_over)
 
-    def _look(self, begin: int, name: str, rows: Iterable[int], amounts: Sequence[Decimal]) -> None:
-        """Refuses amounts that a number of the form that is asked for doesn't tell from others."""
+    def _check(self, begin: int, name: str, rows: Iterable[int], amounts: Sequence[Decimal]) -> None:
+        """Refuses amounts that the requested form of numbers doesn't distinguish from others."""
         for row, amount in zip(rows, amounts):
             if self.numbers == "float64" and (abs(amount) >= EXACT or amount != amount.to_integral_value()):
                 self._refuse(begin + int(row), name, f'{amount} is not exact in float64: numbers="micros" or numbers="decimal"')
@@ -226,7 +225,7 @@ class Told:
             self.over[begin + row] = f"{self.over[begin + row]} {name}".strip()
 
     def frame(self) -> pandas.DataFrame:
-        """All that was taken in. Stopped households are an error, unless they are kept."""
+        """All rows. Stopped households are an error, unless they are kept."""
         import pandas
 
         stopped = [row for row, line in enumerate(self.stop) if line is not None] if self.stops == "raise" else []
@@ -256,11 +255,11 @@ def read(printed: bytes, names: Sequence[str], columns: Sequence[str], kind: str
     return part.rename(columns=dict(zip(places, columns)))
 
 
-def by_category(column: pandas.Series[Any], told: Any, missing: Any) -> Any:
-    """What each text of a column is told as; an empty one is missing."""
+def by_category(column: pandas.Series[Any], convert: Callable[[str], Any], missing: Any) -> Any:
+    """Each text of a column, converted; an empty one is missing."""
     import numpy
 
-    known = [told(text) for text in column.cat.categories]
+    known = [convert(text) for text in column.cat.categories]
     made = numpy.empty(len(known) + 1, object)
     made[:] = [*known, missing]
     return made[column.cat.codes.to_numpy()]
@@ -269,12 +268,12 @@ def by_category(column: pandas.Series[Any], told: Any, missing: Any) -> Any:
 def frame_of(
     survey: Survey, households: Households, names: Sequence[str], numbers: str, stops: str, rows: int
 ) -> pandas.DataFrame:
-    """What the households of a frame are told, so many rows at a time."""
-    told = Told(households, names, numbers, stops)
+    """The answers to the households of a frame, so many rows at a time."""
+    answers = FrameAnswers(households, names, numbers, stops)
     for begin, end, run in households.runs(survey, rows):
         try:
             printed = run.printed()
         except Refused as refused:
             raise households.named(refused, begin) from None
-        told.add(begin, end, body_of(printed, names)[:])
-    return told.frame()
+        answers.add(begin, end, body_of(printed, names)[:])
+    return answers.frame()

@@ -1,18 +1,46 @@
-"""Sums of some households of a comparison in whole numbers, tenths of them, and the Gini coefficient."""
+"""Sums of some households of a comparison in whole numbers, and the Gini coefficient."""
 from __future__ import annotations
 
 import itertools
-import math
+import operator
+from dataclasses import dataclass
 from fractions import Fraction
-from typing import Any, Iterable, Iterator, Sequence
+from typing import Any, Iterable, Mapping, Sequence
 
 from .expressions import UNIT
 from .sweeps import exact
 
+POSITIVE, NEGATIVE = (0).__lt__, (0).__gt__
 
-Row = tuple[Any, int, Any, Any, str]
-"""What a household adds to sums: what orders it, its weight in millionths, the amounts before and after, in millionths or parts of these, and nothing, or why
-one of them is no number: `stopped`, `undefined` or `over`."""
+
+@dataclass
+class Rows:
+    """Households as columns: weights in millionths, amounts before and after in millionths or parts of these, and by its place why a household has no amount:
+    `stopped`, `undefined` or `over`. Its amounts are 0."""
+
+    weights: Sequence[int]
+    befores: Sequence[int]
+    afters: Sequence[int]
+    reasons: Mapping[int, str]
+
+    def chosen(self, places: Sequence[int]) -> Rows:
+        """The households at these places."""
+        weights, befores, afters = (list(map(column.__getitem__, places)) for column in (self.weights, self.befores, self.afters))
+        reasons = {at: self.reasons[place] for at, place in enumerate(places) if place in self.reasons} if self.reasons else {}
+        return Rows(weights, befores, afters, reasons)
+
+    def cut(self, begin: int, end: int) -> Rows:
+        """The households from one place up to another."""
+        weights, befores, afters = (column[begin:end] for column in (self.weights, self.befores, self.afters))
+        return Rows(weights, befores, afters, {at - begin: why for at, why in self.reasons.items() if begin <= at < end})
+
+    def numbered(self) -> Rows:
+        """The households that have amounts."""
+        if not self.reasons:
+            return self
+        are_numbers = [at not in self.reasons for at in range(len(self.weights))]
+        weights, befores, afters = (list(itertools.compress(column, are_numbers)) for column in (self.weights, self.befores, self.afters))
+        return Rows(weights, befores, afters, {})
 
 
 class Group:
@@ -22,12 +50,14 @@ class Group:
     one has `scale`.
     """
 
-    def __init__(self, name: str, sign: int, scale: int = 1):
+    def __init__(self, name: str, sign: int, scale: int = 1, rows: Rows | None = None):
         self.name, self.sign, self.scale = name, sign, scale
         self.households = self.weight = self.apart_weight = 0
         self.stopped = self.undefined = self.over = 0
         self.winners = self.losers = self.unchanged = 0
         self._sums = [0, 0, 0, 0]
+        if rows is not None:
+            self.add(rows)
 
     @property
     def before(self) -> Fraction:
@@ -48,7 +78,7 @@ class Group:
 
     @property
     def mean_gain(self) -> Fraction:
-        """What a household gains in the mean, in whole units; it is 0 where there is none."""
+        """The mean gain of a household, in whole units; 0 where there is none."""
         return (self.after - self.before) * self.sign / (self.weight or 1)
 
     @property
@@ -56,28 +86,21 @@ class Group:
         """How many households are in no sum."""
         return self.stopped + self.undefined + self.over
 
-    def add(self, rows: Iterable[Row]) -> None:
+    def add(self, rows: Rows) -> None:
         """Adds households."""
-        count = whole = sum_before = sum_after = winners = losers = gained = lost = 0
-        for _, weight, before, after, why in rows:
-            count += 1
-            if why:
-                setattr(self, why, getattr(self, why) + 1)
-                self.apart_weight += weight
-                continue
-            whole += weight
-            sum_before += weight * before
-            sum_after += weight * after
-            if before != after:
-                gain = (after - before) * self.sign
-                if gain > 0:
-                    winners += weight
-                    gained += weight * gain
-                else:
-                    losers += weight
-                    lost -= weight * gain
-        self.households += count
-        self._count(whole, winners, losers, whole - winners - losers, (sum_before, sum_after, gained, lost))
+        self.households += len(rows.weights)
+        for at, why in rows.reasons.items():
+            setattr(self, why, getattr(self, why) + 1)
+            self.apart_weight += rows.weights[at]
+        numbered = rows.numbered()
+        weights = numbered.weights
+        changes = list(map(operator.sub, numbered.afters, numbered.befores))
+        products = list(map(operator.mul, weights, changes))
+        whole, before, change = sum(weights), sum(map(operator.mul, weights, numbered.befores)), sum(products)
+        rise = sum(filter(POSITIVE, products))
+        more, less = (sum(itertools.compress(weights, map(is_so, changes))) for is_so in (POSITIVE, NEGATIVE))
+        winners, losers, gained, lost = (more, less, rise, rise - change) if self.sign > 0 else (less, more, rise - change, rise)
+        self._count(whole, winners, losers, whole - winners - losers, (before, before + change, gained, lost))
 
     def merge(self, other: Group) -> None:
         """Adds the households of another group."""
@@ -98,24 +121,29 @@ class Group:
         return Fraction(self._sums[at]) / (UNIT * self.scale)
 
 
-def whole_parts(amount: Fraction | None, scale: int) -> int | None:
-    """An amount of millionths in parts of which a millionth has so many."""
-    return None if amount is None else int(amount * scale)
+def by_label(name: str, texts: Iterable[str], rows: Rows, sign: int, scale: int) -> dict[str, Group]:
+    """The groups of households that have the same text in a column of this name, in the order in which these occur first."""
+    places: dict[str, list[int]] = {}
+    for at, text in enumerate(texts):
+        places.setdefault(text, []).append(at)
+    return {f"{name} {text}": Group(f"{name} {text}", sign, scale, rows.chosen(found)) for text, found in places.items()}
 
 
-def tenths(name: str, rows: Iterable[Row], whole: int, sign: int, scale: int) -> list[Group]:
-    """The tenths of households that come in order, whose weights are so much together: a household stands in the tenth in which its own weight begins."""
-    found = [Group(f"tenth {k} of {name}", sign, scale) for k in range(1, 11)]
+def merge_into(groups: dict[str, Group], more: Mapping[str, Group]) -> None:
+    """Adds groups to those of the same names."""
+    for label, group in more.items():
+        if label in groups:
+            groups[label].merge(group)
+        else:
+            groups[label] = group
 
-    def numbered() -> Iterator[tuple[int, Row]]:
-        passed = 0
-        for row in rows:
-            yield min(9, passed * 10 // whole) if whole else 0, row
-            passed += row[1]
 
-    for number, members in itertools.groupby(numbered(), lambda pair: pair[0]):
-        found[number].add(row for _, row in members)
-    return found
+def merged(name: str, sign: int, scale: int, groups: Iterable[Group]) -> Group:
+    """The households of several groups as one."""
+    made = Group(name, sign, scale)
+    for group in groups:
+        made.merge(group)
+    return made
 
 
 def group_line(group: Group) -> dict[str, Any]:
@@ -131,15 +159,12 @@ def group_line(group: Group) -> dict[str, Any]:
     }
 
 
-def gini_of(pairs: Sequence[tuple[int, Fraction | None]]) -> Fraction | None:
+def gini_of(weights: Sequence[int], amounts: Sequence[int]) -> Fraction | None:
     """The Gini coefficient of amounts with weights: one less twice the area under the Lorenz curve. None where the amounts have no sum above 0."""
-    scale = math.lcm(*(amount.denominator for _, amount in pairs if amount is not None))
-    ordered = sorted((int(amount * scale), weight) for weight, amount in pairs if amount is not None)
-    weights, sum_ = sum(weight for _, weight in ordered), sum(amount * weight for amount, weight in ordered)
-    if sum_ <= 0:
+    order = sorted(range(len(amounts)), key=amounts.__getitem__)
+    ordered = list(map(weights.__getitem__, order))
+    below = [0, *itertools.accumulate(map(operator.mul, ordered, map(amounts.__getitem__, order)))]
+    if below[-1] <= 0:
         return None
-    area = passed = 0
-    for amount, weight in ordered:
-        area += weight * (2 * passed + amount * weight)
-        passed += amount * weight
-    return 1 - Fraction(area, weights * sum_)
+    area = sum(map(operator.mul, ordered, map(operator.add, below, below[1:])))
+    return 1 - Fraction(area, sum(weights) * below[-1])

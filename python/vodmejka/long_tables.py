@@ -1,20 +1,24 @@
-"""Tables of households of any length, in parts of whole records. A table is csv; its first column has the labels, and each other one a code or what is said
-beside it."""
+"""Tables of households of any length, in parts of whole records. A table is csv; its first column has the labels, and each other one amounts of a code or
+something else."""
 from __future__ import annotations
 
+import bisect
 import csv
 import io
+import itertools
 import os
 from typing import BinaryIO, Iterator, NamedTuple, Sequence
 
 from . import records
 from .errors import NotFound, Refused
 from .limits import FILE_BYTES
-from .program import ENCODING
+from .program import ENCODING, csv_text
+
+NO_SEPARATORS = bytes(set(range(256)) - set(b",\n"))
 
 
 class Part(NamedTuple):
-    """Some records of a table, each with a line feed, how many they are, and how many stand before them."""
+    """Some records of a table, each with a line feed, how many they are, and how many precede them."""
 
     text: bytes
     rows: int
@@ -31,9 +35,10 @@ class LongTable:
         except (OSError, ValueError) as fault:
             raise NotFound(f"unreadable {self.path}") from fault
         self._state = records.state(self._file)
-        self._records = self._read()
-        first = next(self._records, b"")
-        head = list(fields_of(first + b"\n", self.path))
+        self._blocks = self._read()
+        block = next(self._blocks, [b""])
+        head = list(fields_of(block[0] + b"\n", self.path))
+        self._blocks = itertools.chain([block[1:]], self._blocks)
         self.head: list[str] = head[0] if head else []
         if not self.head or self.head[0] != "name" or len(set(self.head)) < len(self.head):
             raise Refused(f"{self.path}: its first line is name and columns, each once")
@@ -42,12 +47,17 @@ class LongTable:
         """The records after the first, at most so many and so many bytes at a time, or a single longer one."""
         kept: list[bytes] = []
         length = before = 0
-        for record in self._records:
-            if kept and (len(kept) == rows or length + len(record) >= size):
-                yield Part(b"\n".join([*kept, b""]), len(kept), before)
-                before, kept, length = before + len(kept), [], 0
-            kept.append(record)
-            length += len(record) + 1
+        for block in self._blocks:
+            at, ends = 0, [0, *itertools.accumulate(len(record) + 1 for record in block)]
+            while at < len(block):
+                end = min(len(block), at + rows - len(kept), bisect.bisect_right(ends, ends[at] + size - length) - 1)
+                end = max(end, at if kept else at + 1)
+                kept += block[at:end]
+                length += ends[end] - ends[at]
+                at = end
+                if at < len(block):
+                    yield Part(b"\n".join([*kept, b""]), len(kept), before)
+                    before, kept, length = before + len(kept), [], 0
         if kept:
             yield Part(b"\n".join([*kept, b""]), len(kept), before)
 
@@ -59,14 +69,34 @@ class LongTable:
     def close(self) -> None:
         self._file.close()
 
-    def _read(self) -> Iterator[bytes]:
+    def _read(self) -> Iterator[list[bytes]]:
         try:
-            for record, _ in records.records(self._file, FILE_BYTES):
-                yield record
+            yield from records.blocks(self._file, FILE_BYTES)
         except records.Strange as fault:
             raise Refused(f"{self.path}: {fault}") from None
         except OSError as fault:
             raise NotFound(f"unreadable {self.path}") from fault
+
+
+def is_plain(text: bytes) -> bool:
+    """Whether each comma of these records separates two fields."""
+    return b'"' not in text and b"\r" not in text
+
+
+def columns_of(text: bytes, count: int, head: Sequence[str], path: str) -> list[list[str]]:
+    """The columns of so many records, which have as many fields as the first line, and a label that can be printed on a line."""
+    width = len(head)
+    if is_plain(text) and text.translate(None, NO_SEPARATORS) == (b"," * (width - 1) + b"\n") * count:
+        fields = text.decode(ENCODING).replace("\n", ",").split(",")
+        columns = [fields[at : count * width : width] for at in range(width)]
+    else:
+        columns = [list(column) for column in zip(*of_width(fields_of(text, path), head, path))] or [[] for _ in head]
+    labels = "".join(columns[0])
+    if "" in columns[0] or not (labels.isprintable() or min(labels) >= " "):
+        at = next(at for at, label in enumerate(columns[0]) if not label or min(label) < " ")
+        row = ",".join(column[at] for column in columns)
+        raise Refused(f"{path}: a label is empty or has a line end: {shown(row[:80])!r}")
+    return columns
 
 
 def fields_of(text: bytes, path: str) -> Iterator[list[str]]:
@@ -75,6 +105,13 @@ def fields_of(text: bytes, path: str) -> Iterator[list[str]]:
         yield from csv.reader(io.StringIO(text.decode(ENCODING), newline=""), strict=True)
     except csv.Error as fault:
         raise Refused(f"{path}: {fault}") from None
+
+
+def joined(columns: Sequence[Sequence[str]], plain: bool) -> bytes:
+    """Columns as records. Fields are plain where they have no comma, no quote and no line end."""
+    if plain:
+        return "\n".join([*map(",".join, zip(*columns)), ""]).encode(ENCODING)
+    return csv_text(zip(*columns)).encode(ENCODING)
 
 
 def shown(text: str) -> str:
@@ -88,10 +125,8 @@ def column_named(word: str) -> str:
 
 
 def of_width(rows: Iterator[list[str]], head: Sequence[str], path: str) -> Iterator[list[str]]:
-    """Records that have as many fields as the first one, and a label that can be printed on a line."""
+    """Records that have as many fields as the first one."""
     for row in rows:
         if len(row) != len(head):
             raise Refused(f"{path}: a row of {len(row)} fields where the first line has {len(head)}: {shown(','.join(row)[:80])}")
-        if not row[0] or not (row[0].isprintable() or min(row[0]) >= " "):
-            raise Refused(f"{path}: a label is empty or has a line end: {shown(','.join(row)[:80])!r}")
         yield row

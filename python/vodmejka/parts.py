@@ -7,8 +7,9 @@ import re
 import tempfile
 
 from . import csv_answers, records, runs, source
+from .errors import Failed
 from .program import digest_of
-from .runs import Failed, file_digest
+from .runs import file_digest
 
 
 def remove_dead(path):

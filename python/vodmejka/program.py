@@ -1,4 +1,4 @@
-"""The program, and the files that are handed to it."""
+"""The program, and the files that it is given."""
 from __future__ import annotations
 
 import contextlib
@@ -25,9 +25,9 @@ INSIDE = os.path.join(os.path.dirname(os.path.realpath(__file__)), "bin")
 
 
 def program_path(program: str | None = None, name: str = "m_tax", beside: str | None = None) -> str:
-    """The program of a name: the one that is named, or the one of the variable M_TAX or M_SURVEY, which must be there then; else the one beside another
-    program, the one inside this package, what `./build` made in the repository round it, or from which it was installed, the one of the path, or the script of
-    the repository."""
+    """The program of a name: the one that is named, or the one of the variable M_TAX or M_SURVEY, which must be there then; else the one in the folder of
+    another program, the one inside this package, what `./build` made in the repository around it, or from which it was installed, the one of the path, or the
+    script of the repository."""
     variable = name.upper()
     named = program or os.environ.get(variable)
     tops = [TOP, *clone()]
@@ -117,7 +117,7 @@ def digest_of(*pieces: bytes) -> str:
 
 
 class Folder:
-    """A folder for files, which goes with this object, or with the process that made it: one that was forked since has no part in that."""
+    """A folder for files, which is removed with this object, or with the process that made it, but not with a process that was forked since."""
 
     def __init__(self) -> None:
         self.name = tempfile.mkdtemp(prefix="vodmejka-")
@@ -148,7 +148,7 @@ def started(words: list[str], **options: Any) -> Child:
 
 
 def ended(child: Child, program: Program, timeout: float | None) -> int:
-    """The status of a program at its end. What it printed counts only where the program is the one that it was before."""
+    """The status of a program at its end. Its output counts only where the program is the same as before."""
     try:
         status = child.wait(timeout)
     except subprocess.TimeoutExpired:
@@ -158,7 +158,7 @@ def ended(child: Child, program: Program, timeout: float | None) -> int:
 
 
 def run(program: str, *words: str, folder: str | None = None, timeout: float | None = None) -> tuple[bytes, int]:
-    """What the program prints, and its status: 0 or 6. What else it says is an error."""
+    """The output of the program, and its status: 0 or 6. Any other status is an error."""
     with started([program, *words], stdin=subprocess.DEVNULL, stdout=subprocess.PIPE, stderr=subprocess.PIPE, cwd=folder) as child:
         try:
             text, messages = child.communicate(timeout=timeout)
@@ -184,8 +184,8 @@ def raise_for(text: bytes, status: int, messages: bytes = b"") -> None:
     known = {4: "the output could not be written", 5: "out of memory", 70: "a trial of the sources can't do this: ./build makes the program, which can"}
     if status in known or status < 0:
         raise Interrupted(known.get(status, f"the program ended with status {status}"))
-    said = messages.decode("utf-8", "replace").strip()[-500:]
-    raise Broken(f"the program ended with status {status} and printed no line of its own{f': {said}' if said else ''}")
+    message = messages.decode("utf-8", "replace").strip()[-500:]
+    raise Broken(f"the program ended with status {status} and printed no line of its own{f': {message}' if message else ''}")
 
 
 @contextlib.contextmanager
@@ -234,3 +234,10 @@ def csv_text(rows: Iterable[Iterable[object]]) -> str:
         if "\r" not in out.getvalue():
             break
     return out.getvalue()
+
+
+def lines_of(output: bytes) -> str:
+    """The lines of an output, each with its line feed."""
+    if output and not output.endswith(b"\n"):
+        raise Broken(f"a last line without its end: {output[-200:]!r}")
+    return output.decode(ENCODING)

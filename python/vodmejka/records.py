@@ -18,6 +18,7 @@ MARK = b"\xef\xbb\xbf"
 
 # A field is bytes without a comma and a line end; one that begins with a quote goes on to the next quote that isn't doubled, and then as others do.
 FIELD = rb'(?:"[^"]*(?:""[^"]*)*"(?!")[^,\r\n]*|[^",\r\n][^,\r\n]*|)'
+FIRST_FIELD = re.compile(FIELD).match
 RECORD = re.compile(rb"((" + FIELD + rb")(?:," + FIELD + rb")*)(?:\r\n|\r|\n)")
 QUOTED = re.compile(rb'"((?:[^"]|"")*)"(?!")')
 
@@ -68,8 +69,15 @@ def unlike_a_formula(text: bytes) -> bytes:
 
 
 def records(source: IO[bytes], longest: int, is_whole: bool = True) -> Iterator[tuple[bytes, bytes]]:
-    """The records of a table, each without its end and with what its first field says; blank lines are none. A record has at most so many bytes. A whole table
-    may begin with a byte order mark."""
+    """The records of a table, each without its end and with the text of its first field; blank lines are skipped. A record has at most so many bytes. A whole
+    table may begin with a byte order mark."""
+    for block in blocks(source, longest, is_whole):
+        for record in block:
+            yield record, unquoted(FIRST_FIELD(record)[0]) if record[:1] == b'"' else record.partition(b",")[0]  # type: ignore[index]
+
+
+def blocks(source: IO[bytes], longest: int, is_whole: bool = True) -> Iterator[list[bytes]]:
+    """The records of a table in lists, each without its end."""
     buffer, at, count, is_first, ended = b"", 0, 0, is_whole, False
     while True:
         match = RECORD.match(buffer, at)
@@ -77,7 +85,7 @@ def records(source: IO[bytes], longest: int, is_whole: bool = True) -> Iterator[
             at = match.end()
             if match[1]:
                 count += 1
-                yield match[1], unquoted(match[2])
+                yield [match[1]]
             continue
         if ended:
             if at < len(buffer):
@@ -96,11 +104,10 @@ def records(source: IO[bytes], longest: int, is_whole: bool = True) -> Iterator[
                 buffer += b"\n"
         end = buffer.rfind(b"\n") + 1
         if not is_first and end > at and b'"' not in buffer and b"\r" not in buffer:
-            # (without quotes and carriage returns each line is a record, and its first field is what it says)
-            for line in buffer[at : end - 1].split(b"\n"):
-                if line:
-                    count += 1
-                    yield line, line.partition(b",")[0]
+            # (without quotes and carriage returns each line is a record)
+            lines = [line for line in buffer[at : end - 1].split(b"\n") if line]
+            count += len(lines)
+            yield lines
             at = end
 
 

@@ -5,7 +5,7 @@ from fractions import Fraction
 
 from .amounts import plain
 from .bar_pictures import bars
-from .file_comparisons import RATES
+from .comparers import RATES
 from .texts import Language, said
 
 
@@ -41,12 +41,12 @@ def shown(line, by):
 
 def page(words, found, step, heads, lines):
     """The report: of a comparison of the words' file, with the lines of its groups, whose table has these heads."""
-    groups, sign = found.made.groups, found.made.all.sign
+    groups, sign = found.comparison.groups, found.comparison.all.sign
     whole = groups[0]
     total = whole.weight + whole.apart_weight
     cells = "\n".join("<tr>" + "".join(f"<td>{html.escape(str(field))}</td>" for field in shown(line, words.by)) + "</tr>" for line in lines)
-    of, is_told = html.escape(words.of), words.more_is_gain or words.less_is_gain
-    gain = said("reform.more_gain" if sign > 0 else "reform.less_gain" if is_told else "reform.less_taken")
+    of, is_given = html.escape(words.of), words.more_is_gain or words.less_is_gain
+    gain = said("reform.more_gain" if sign > 0 else "reform.less_gain" if is_given else "reform.less_taken")
     code = lambda text: f"<code>{html.escape(text)}</code>"
     sums = {key: f"<b id={key}>{plain(sum_)}</b>" for key, sum_ in (("before", whole.before), ("after", whole.after), ("difference", whole.after - whole.before))}
     parts = [
@@ -66,10 +66,10 @@ def page(words, found, step, heads, lines):
         gains = [(group.name.split()[1], [group.mean_gain]) for group in tenths]
         parts += [f"<h2>{said('reform.tenths', name=html.escape(words.by))}</h2><p>{said('reform.mean_gain')}</p>", bars(gains, "")]
     if step:
-        told = said("reform.rates_told", amount=html.escape(step[1]), code=html.escape(step[0]))
-        parts += [f"<h2>{said('reform.rates')}</h2><p>{told}</p>", marginal_picture(found.rates, total)]
+        text = said("reform.rates_told", amount=html.escape(step[1]), code=html.escape(step[0]))
+        parts += [f"<h2>{said('reform.rates')}</h2><p>{text}</p>", marginal_picture(found.rates, total)]
     head = "".join(f"<th>{html.escape(said('reform.head.' + name))}</th>" for name in heads)
     parts.append(f"<h2>{said('reform.figures')}</h2><div class=wide><table><tr>{head}</tr>{cells}</table></div>")
-    before, after = map(code, found.made.digests)
-    parts.append(f"<p>{said('reform.digests', before=before, after=after, program=code(found.made.program))}</p></html>\n")
+    before, after = map(code, found.comparison.digests)
+    parts.append(f"<p>{said('reform.digests', before=before, after=after, program=code(found.comparison.program))}</p></html>\n")
     return "\n".join(parts)

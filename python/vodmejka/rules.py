@@ -2,21 +2,22 @@
 from __future__ import annotations
 
 import contextlib
-import hashlib
 import os
 import re
-from typing import TYPE_CHECKING, Any, Generator, Iterable, Mapping, Sequence, overload
+from pathlib import Path
+from typing import TYPE_CHECKING, Any, Callable, Generator, Iterable, Mapping, Sequence, overload
 
 from .answers import Answer, Form, answer_of
 from .batch_files import batch_file
 from .batches import Answers, Batch
-from .cases import Mismatch, mismatches_of
+from .cases import Mismatches, mismatches_of
+from .code_cache import keep, kept_code, kept_path, put_whole
 from .dask import mapped
 from .errors import Broken, NotFound, Refused
 from .facts import Facts, Within, facts_of, ranges_text, without_facts
 from .frames import Households, frame_of
 from .limits import CODE_FILE_BYTES, ROWS
-from .program import ENCODING, Folder, Program, digest_of, household_bytes, is_trial, run, whole_file
+from .program import ENCODING, Folder, Program, digest_of, household_bytes, is_trial, lines_of, run
 from .session import Session
 from .shown import section, short, table
 from .sources import Sources, fetched, fetched_rules, named
@@ -27,6 +28,7 @@ from .variants import Number, Text, varied
 
 if TYPE_CHECKING:
     import pandas
+    from dask.dataframe import DataFrame as DaskFrame
 
 ROWS_AT_ONCE = 50_000
 VALUES = 4_000_000
@@ -79,9 +81,8 @@ class Rules:
     @classmethod
     def _by_code(cls, code: bytes, program: Program, timeout: float | None) -> Rules:
         made = cls.__new__(cls)
-        made._program, made._sources, made._cache, made.timeout = program, None, None, timeout
+        made._program, made._sources, made._cache, made.timeout, made.digest = program, None, None, timeout, digest_of(code)
         made.program, made._room, made._names, made._words = program.path, Folder(), {}, []
-        made.digest = digest_of(code)
         made._code = made._path(made._put("code", code))
         made._lines = made._interface()
         return made
@@ -90,8 +91,7 @@ class Rules:
         """As it is pickled: the sources themselves, which another process or machine compiles by the same program."""
         code = None
         if self._sources is None:
-            with open(self._code, "rb") as file:
-                code = file.read()
+            code = Path(self._code).read_bytes()
         survey = None
         with contextlib.suppress(Broken):  # (an older installation has no m_survey)
             survey = self.survey_digest
@@ -103,38 +103,30 @@ class Rules:
     ) -> Rules:
         """The same rules with other values of constants (or of cells whose only formula is a number), other texts of rule files by their names, another
         driver, or other requested values. What isn't named stays as it is."""
-        if self._sources is None:
-            raise Broken("a variant needs rules: a code file has no sources")
-        made = Rules.__new__(Rules)
-        made._begin(varied(self._sources, values, replace, driver, outputs), self._program, self._cache, self.timeout)
-        return made
+        return self._with(lambda sources: varied(sources, values, replace, driver, outputs))
 
     def with_list(self, list: str | os.PathLike[str]) -> Rules:
         """Rules of another list, with the same driver and requests."""
-        if self._sources is None:
-            raise Broken("a variant needs rules: a code file has no sources")
         content = fetched(os.fspath(list))
-        made = Rules.__new__(Rules)
-        made._begin(self._sources._replace(listing=content, rules=fetched_rules(named(content))), self._program, self._cache, self.timeout)
-        return made
+        return self._with(lambda sources: sources._replace(listing=content, rules=fetched_rules(named(content))))
 
-    # ---- what is computed
+    # ---- computing
 
     def run(self, household: Household) -> Answer:
-        """What the household is told. `household` has amounts by codes: Decimal, int or text, and None for nothing."""
+        """The answer to a household. `household` has amounts by codes: Decimal, int or text, and None for nothing."""
         name = self._room.put(household_bytes(household))
         try:
             text, _ = self._run("exec", self._code, name)
         finally:
             os.unlink(self._path(name))
-        return answer_of(iter(lines_of(text).split("\n")[:-1]))
+        return answer_of(iter(lines_of(text).split("\n")[:-1]), self.digests)
 
     def map(
-        self, frame: Any, *, numbers: str = "float64", stops: str = "raise", keep: Iterable[str] = (), meta: pandas.DataFrame | None = None
-    ) -> Any:
-        """What the households of a frame of Dask are told: a frame of Dask with its partitions, each of which is what `batch` makes of it where it is
-        computed. Its columns and types are those of `meta`, an empty frame, or what `batch` makes of no households. A household that is stopped is an
-        error, when the partition is computed, unless stops="keep" is given."""
+        self, frame: DaskFrame, *, numbers: str = "float64", stops: str = "raise", keep: Iterable[str] = (), meta: pandas.DataFrame | None = None
+    ) -> DaskFrame:
+        """The answers to the households of a frame of Dask: a frame of Dask with its partitions, each of which `batch` computes on its worker. Its columns and
+        types are those of `meta`, an empty frame, or those that `batch` gives for no households. A household that is stopped is an error, when the partition
+        is computed, unless stops="keep" is given."""
         return mapped(self, frame, {"numbers": numbers, "stops": stops, "keep": [*keep]}, meta)
 
     @overload
@@ -146,9 +138,10 @@ class Rules:
     ) -> pandas.DataFrame: ...
 
     def batch(
-        self, rows: Any, rows_at_once: int = ROWS_AT_ONCE, *, numbers: str = "float64", stops: str = "raise", keep: Iterable[str] = ()
-    ) -> Any:
-        """What households are told, in their order, as they are computed: any number of them, of which some thousand are in memory at once.
+        self, rows: pandas.DataFrame | Iterable[Household], rows_at_once: int = ROWS_AT_ONCE, *, numbers: str = "float64", stops: str = "raise",
+        keep: Iterable[str] = (),
+    ) -> pandas.DataFrame | Answers:
+        """The answers to households, in their order, as they are computed: any number of them, of which some thousand are in memory at once.
 
         `rows` is an iterable of households; then this is an iterator of answers. Or it is a frame of pandas, whose columns are codes; then this is a frame with
         its index, with the columns that `keep` names, a column for each value, `over` with the names of the values that overflow and `notes` with the errors
@@ -166,7 +159,7 @@ class Rules:
         self, path: str | os.PathLike[str], out: str | os.PathLike[str], format: str = "csv", *, numbers: str = "float64", stops: str = "raise",
         keep: Iterable[str] = (), rows_at_once: int = ROWS_AT_ONCE,
     ) -> int:
-        """Writes what the households of a table of any length are told, whole or not at all, and answers how many they are.
+        """Writes the answers to the households of a table of any length, whole or not at all, and returns how many households it has.
 
         The table is csv: `name` and codes in the first line, and the columns that `keep` names. With format="csv" the file has `name`, these columns, `stop`,
         `notes`, and a column for each value with its amount; with format="parquet", by pyarrow, it has the columns that a frame has, after `name`. A household
@@ -184,9 +177,9 @@ class Rules:
             raise Broken("a trial of the sources has no sessions: ./build makes the program, which has")
         self._program.check()
         words = [self.program, "serve", *self._words, self._room.put(household_bytes(household or {}))]
-        return Session(words, self._room, self.timeout, lambda: self._variables().reasons)
+        return Session(words, self._room, self.timeout, lambda: self._variables().reasons, self.digests)
 
-    def cases(self, table: str | os.PathLike[str]) -> list[Mismatch]:
+    def cases(self, table: str | os.PathLike[str]) -> Mismatches:
         """The expectations of a table of cases that aren't met, in their order; none where all are."""
         if not self._words:
             raise Broken("cases need rules: a code file has no sources")
@@ -195,10 +188,10 @@ class Rules:
             text, _ = self._run("cases", *self._words, name)
         finally:
             os.unlink(self._path(name))
-        return mismatches_of(lines_of(text).split("\n")[:-1])
+        return mismatches_of(lines_of(text).split("\n")[:-1], self.digests)
 
     def facts(self, ranges: Mapping[str, Within] | None = None) -> Facts:
-        """What holds of the requested values for all households whose amounts lie within ranges: `{"1AJ": (0, 10**6)}` are households that have no 1AJ, or one
+        """Facts about the requested values for all households whose amounts are within ranges: `{"1AJ": (0, 10**6)}` are households that have no 1AJ, or one
         of 0 to 1,000,000, and anything elsewhere. An input may also be "yes", "no" or "maybe" given, or a `Range`."""
         if not self._words:
             raise Broken("facts need rules: a code file has no sources")
@@ -213,7 +206,7 @@ class Rules:
                 os.unlink(self._path(name))
         return facts_of(lines_of(text), (self.digest, program.digest))
 
-    # ---- what the rules are
+    # ---- the contents of the rules
 
     def inputs(self) -> dict[str, Variable]:
         """The inputs by their codes, in order, each with its name, description, type and attributes; of a code file with its type alone."""
@@ -232,10 +225,15 @@ class Rules:
         return {name: "" if self._sources is None else self._variables().description(name) for name in self._outputs()}
 
     def variable(self, name: str) -> Variable:
-        """What the rule files say of a variable, by its name or its code: its declaration, and the formulas that set it, with their places."""
+        """A variable by its name or its code: its declaration, and the formulas that set it, with their places."""
         if self._sources is None:
             raise Broken("variables need rules: a code file has no sources")
         return self._variables().variable(name)
+
+    @property
+    def digests(self) -> tuple[str, str]:
+        """The digests of the source and of the program m_tax."""
+        return self.digest, self._program.digest
 
     @property
     def program_digest(self) -> str:
@@ -252,8 +250,7 @@ class Rules:
         if self._sources is None:
             return f"<Rules of a code file: {counts}>"
         application = self._sources.listing.replace(b"\r\n", b"\n").split(b"\n")[0].decode(ENCODING)
-        driver = "a driver" if self._sources.driver is not None else "no driver"
-        files = len(self._sources.rules)
+        driver, files = "no driver" if self._sources.driver is None else "a driver", len(self._sources.rules)
         return f"<Rules of {application}: {files} rule file{'' if files == 1 else 's'}, {driver}, {counts}>"
 
     def _repr_html_(self) -> str:
@@ -264,20 +261,27 @@ class Rules:
 
     def write_code(self, path: str | os.PathLike[str]) -> None:
         """Writes the code file, which `Rules.from_code` and the program's `exec` take."""
-        with open(self._code, "rb") as file:
-            put_whole(os.path.abspath(os.fspath(path)), file.read())
+        put_whole(os.path.abspath(os.fspath(path)), Path(self._code).read_bytes())
 
     # ---- inside
 
+    def _with(self, change: Callable[[Sources], Sources]) -> Rules:
+        """Rules of other sources by the same program."""
+        if self._sources is None:
+            raise Broken("a variant needs rules: a code file has no sources")
+        made = Rules.__new__(Rules)
+        made._begin(change(self._sources), self._program, self._cache, self.timeout)
+        return made
+
     def _variables(self) -> Variables:
-        """What the rule files say, which is read when it is asked for first."""
+        """The variables of the rule files, which are read when they are first needed."""
         if self._read is None:
             assert self._sources is not None
             self._read = Variables(self._sources)
         return self._read
 
     def _outputs(self) -> list[str]:
-        """The names of what is asked for, in order."""
+        """The names of the requested values, in order."""
         return [line.split(" ")[1] for line in self._lines if line.startswith("output ")]
 
     def _interface(self) -> list[str]:
@@ -297,53 +301,49 @@ class Rules:
         return os.path.join(self._room.name, name)
 
     def _put(self, name: str, content: bytes) -> str:
-        with open(self._path(name), "wb") as out:
-            out.write(content)
+        Path(self._path(name)).write_bytes(content)
         return name
 
     def _run(self, *words: str, program: Program | None = None) -> tuple[bytes, int]:
         program = program or self._program
         try:
-            told = run(program.path, *words, folder=self._room.name, timeout=self.timeout)
-            program.check()
-            return told
+            found = run(program.path, *words, folder=self._room.name, timeout=self.timeout)
         except Refused as refused:
-            raise Refused(self._told(refused.line)) from None
+            raise Refused(self._original_names(refused.line)) from None
         except NotFound as missing:
-            raise NotFound(self._told(str(missing))) from None
+            raise NotFound(self._original_names(str(missing))) from None
+        program.check()
+        return found
 
-    def _told(self, line: str) -> str:
-        """A line of the program, with the names of the files as they are."""
+    def _original_names(self, line: str) -> str:
+        """A line of the program, with the original names of the files."""
         line = re.sub(r"\bhousehold-[a-z0-9_]+\.csv\b", "household.csv", line)
         return re.sub(r"\br[0-9]+\.m\b", lambda match: self._names.get(match[0], match[0]), line)
 
     def _compiled(self, digest: str, cache: str | None) -> str:
-        """The code file of the source, from the cache where it is there. A user without a home has no cache but the one that is named."""
-        folder = cache or os.path.join(os.environ.get("XDG_CACHE_HOME") or os.path.expanduser("~/.cache"), "vodmejka")
-        kept = os.path.join(folder, digest + ".code") if cache or os.path.isabs(folder) else None
-        text = None if kept is None else kept_code(kept)
+        """The code file of the source, from the cache where it is there."""
+        path = kept_path(cache, digest)
+        text = None if path is None else kept_code(path)
         if text is None:
             text, _ = self._run("compile", *self._words)
-            with contextlib.suppress(OSError):
-                if kept is not None:
-                    os.makedirs(folder, exist_ok=True)
-                    put_whole(kept, hashlib.sha256(text).hexdigest().encode() + b"\n" + text)
+            if path is not None:
+                keep(path, text)
         self._put("code", text)
         return self._path("code")
 
     def _answers(self, rows: Iterable[Household], at_once: int) -> Answers:
         if not self._words:
             return Answers(self._alone(rows))
-        form = Form(self._outputs())
+        form = Form(self._outputs(), self.digests)
         notes = sum(line.startswith("note ") for line in self._lines)
         size = part_size(at_once, len(form.names) + notes)
-        # (an iterator may hand out one mapping again and again, changed each time: a part is read before it is written)
+        # (an iterator may yield one mapping again and again, changed each time: a part is copied before it is written)
         taken: Iterable[Household] = rows if isinstance(rows, (list, tuple)) else (dict(row) for row in rows)
-        batch = Batch(self._program, ["batch", *self._words], self._room.name, form, size, self.types(), self._told, self.timeout)
+        batch = Batch(self._program, ["batch", *self._words], self._room.name, form, size, self.types(), self._original_names, self.timeout)
         return batch.answers(taken)
 
     def _alone(self, rows: Iterable[Household]) -> Generator[list[Answer], None, None]:
-        """The answers of a code file, which has no batches. What is refused has the line that it would have in a table of all."""
+        """The answers of a code file, which has no batches. A message has the line of a table of all."""
         for number, row in enumerate(rows, 2):
             try:
                 yield [self.run(row)]
@@ -366,11 +366,11 @@ class Rules:
             self._surveyor = Program(None, "m_survey", self.program)
         if self._survey_digest not in (None, self._surveyor.digest):
             raise Broken(f"{self._surveyor.path} is another program than the one that these rules were made with")
-        return Survey(self._surveyor, self._words or [self._code], self._room.name, self._told, self.timeout)
+        return Survey(self._surveyor, self._words or [self._code], self._room.name, self._original_names, self.timeout)
 
     def survey_of(self, names: Sequence[str]) -> tuple[Survey, list[str]]:
-        """The program of tables, and what it is asked for: some values alone, or by a code file all. It may be handed to another process for as long as these
-        rules are there."""
+        """The program of tables, and the names of its values: the requested ones, or by a code file all. Another process may use it as long as these rules
+        exist."""
         whole = self._survey()
         if not self._words:
             return Survey(whole.program, whole.words, whole.folder, str, self.timeout), self._outputs()
@@ -381,14 +381,6 @@ class Rules:
 def part_size(at_once: int, values: int) -> int:
     """How many households with so many values are computed at once."""
     return max(1, min(at_once, ROWS, VALUES // (values + 1)))
-
-
-def kept_code(path: str) -> bytes | None:
-    """The code file that the cache keeps, after its digest; None where there is none, or it isn't what was kept: it was changed, or cut."""
-    with contextlib.suppress(OSError), open(path, "rb") as file:  # (it isn't there, or is another user's)
-        digest, text = file.readline().strip(), file.read()
-        return text if hashlib.sha256(text).hexdigest().encode() == digest else None
-    return None
 
 
 def unpickled(
@@ -406,16 +398,3 @@ def unpickled(
         made._begin(sources, program, cache, timeout)
     made._survey_digest = survey
     return made
-
-
-def put_whole(path: str, content: bytes) -> None:
-    """Writes a file whole, or not at all."""
-    with whole_file(path) as out:
-        out.write(content)
-
-
-def lines_of(output: bytes) -> str:
-    """The lines of an output, each with its line feed."""
-    if output and not output.endswith(b"\n"):
-        raise Broken(f"a last line without its end: {output[-200:]!r}")
-    return output.decode(ENCODING)

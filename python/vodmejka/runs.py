@@ -1,7 +1,10 @@
-"""Batches that `scale` starts: the source, which is read once and copied, the program, the sorting of labels, and the children and workers, which end with
-their parent."""
+"""Batches that commands start: the source, which is read once and copied, the program, the sorting of labels, and the child processes and workers, which end
+with their parent."""
+from __future__ import annotations
+
 import concurrent.futures
 import contextlib
+import errno
 import hashlib
 import multiprocessing
 import os
@@ -12,26 +15,18 @@ import subprocess
 import tempfile
 import threading
 import time
+from typing import IO, Any, Iterator, Sequence
 
-from . import source
-from .errors import Broken
+from . import program, source
+from .errors import Broken, Failed
 from .limits import CODE_FILE_BYTES
-from .program import TOP, digest_of
-from .program import program_path as installed_program_path
+from .program import Program, digest_of
 
 PIECE = 1_048_576
 
 
-class Failed(Exception):
-    """A check that fails, or a batch that does not do its part; `goes_on` where the same words may mend it."""
-
-    def __init__(self, why, goes_on=True):
-        super().__init__(why)
-        self.goes_on = goes_on
-
-
-def file_digest(path, out=None, below_head=False):
-    """The digest of a file's bytes, which also go to an output, perhaps without the first line."""
+def file_digest(path: str | os.PathLike[str], out: IO[bytes] | None = None, below_head: bool = False) -> str:
+    """The digest of a file's bytes, which are also written to an output, perhaps without the first line."""
     made = hashlib.sha256()
     with open(path, "rb") as file:
         if below_head:
@@ -43,8 +38,8 @@ def file_digest(path, out=None, below_head=False):
     return made.hexdigest()
 
 
-def fault_of(text, status):
-    """What to say of a program that ended with a status that isn't 0: its line, and the status where it had printed something else, as answers."""
+def fault_of(text: bytes, status: int) -> str:
+    """The message about a program that ended with a status that isn't 0: its line, or the status where it printed something else, as answers."""
     line = text[:8192].split(b"\n")[0].decode("utf-8", "surrogateescape")
     return line if re.match("refused |unreadable |usage: ", line) else f"the program ended with status {status}"
 
@@ -52,7 +47,7 @@ def fault_of(text, status):
 # ---- memory
 
 
-def free_memory():
+def free_memory() -> int:
     """How many bytes of memory are free on this machine, and in the group of processes where that has a limit."""
     free = [os.sysconf("SC_AVPHYS_PAGES") * os.sysconf("SC_PAGE_SIZE")]
     with contextlib.suppress(OSError, StopIteration), open("/proc/meminfo", encoding="ascii") as lines:
@@ -67,42 +62,35 @@ def free_memory():
 # ---- the program
 
 
-def program_path(name="m_tax"):
-    """The program of this name, m_tax or m_survey: the one that M_TAX or M_SURVEY names, the m_survey beside the one that M_TAX names, or else the script of
-    this repository; where the package is installed, the one that the package finds."""
-    told = os.environ.get(name.upper())
-    if not told and name != "m_tax" and os.environ.get("M_TAX"):
-        beside = os.path.join(os.path.dirname(program_path()), name)
-        told = beside if os.access(beside, os.X_OK) else None
-    program = told or os.path.join(TOP, name)
-    if not told and not os.path.exists(program):
-        with contextlib.suppress(Broken):
-            return installed_program_path(name=name)
-    return os.path.abspath(shutil.which(program) or program)
+def found(name: str = "m_tax") -> Program:
+    """The program of this name, m_tax or m_survey, found as the package finds it; an OSError where there is none."""
+    try:
+        return Program(None, name, None if name == "m_tax" else program_path())
+    except Broken:
+        raise FileNotFoundError(errno.ENOENT, os.strerror(errno.ENOENT), os.environ.get(name.upper()) or name) from None
 
 
-def digest_of_program(program, name="m_tax"):
-    """The digest of the program of this name: of the repository's script also what ./build made, or without it the sources of which the script makes a
-    trial."""
-    folder = os.path.dirname(os.path.realpath(program))
-    below = [made for made in [os.path.join(folder, "out", name)] if os.path.exists(made)]
-    if not below:
-        sources = os.walk(os.path.join(folder, "crates"))
-        below = sorted(os.path.join(at, name) for at, _, names in sources for name in names if name.endswith(".rt"))
-    return digest_of(*(file_digest(name).encode() for name in [program, *below]))
+def program_path(name: str = "m_tax") -> str:
+    """The path of this program; where there is none, the name by which it was looked for, which can't be started."""
+    try:
+        return program.program_path(None, name, None if name == "m_tax" else program_path())
+    except Broken:
+        return os.path.abspath(os.environ.get(name.upper()) or os.path.join(program.TOP, name))
 
 
-# ---- children
+# ---- child processes
 
 
 class Children:
-    """The batches that run. They are ended where this program is."""
+    """The batches that run. They are ended when this program is."""
 
-    def __init__(self):
-        self.running, self.lock, self.is_over = set(), threading.Lock(), False
+    def __init__(self) -> None:
+        self.running: set[subprocess.Popen[bytes]] = set()
+        self.lock, self.is_over = threading.Lock(), False
 
     @contextlib.contextmanager
-    def started(self, words, **options):
+    def started(self, words: Sequence[str], **options: Any) -> Iterator[subprocess.Popen[bytes]]:
+        """A process that runs these words; it is ended where what follows fails, and awaited otherwise."""
         child = None
         try:
             with self.lock, source.unbroken():
@@ -122,7 +110,8 @@ class Children:
                 with self.lock:
                     self.running.discard(child)
 
-    def end(self):
+    def end(self) -> None:
+        """Ends all."""
         with self.lock:
             self.is_over = True
             for child in self.running:
@@ -133,11 +122,11 @@ CHILDREN = Children()
 
 
 @contextlib.contextmanager
-def ended_after(child, seconds):
-    """Ends a child that takes longer than so many seconds, and refuses what it printed."""
+def ended_after(child: subprocess.Popen[bytes], seconds: float | None) -> Iterator[None]:
+    """Ends a process that takes longer than so many seconds, and rejects what it printed."""
     late = threading.Event()
 
-    def end():
+    def end() -> None:
         late.set()
         child.kill()
 
@@ -154,57 +143,64 @@ def ended_after(child, seconds):
         raise Failed(f"the program took more than {seconds} s, and was ended")
 
 
-def printed(*words, stdin=subprocess.DEVNULL, folder=None):
+def printed(*words: str, stdin: int | IO[bytes] = subprocess.DEVNULL, folder: str | None = None) -> tuple[bytes, int]:
     """What the program prints to these words, perhaps in a folder, and its status."""
     with CHILDREN.started([program_path(), *words], stdin=stdin, stdout=subprocess.PIPE, cwd=folder) as child:
-        return child.stdout.read(), child.wait()
+        return output_of(child).read(), child.wait()
 
 
-# ---- labels that stand twice
+def output_of(child: subprocess.Popen[bytes]) -> IO[bytes]:
+    """The pipe that a process writes to."""
+    assert child.stdout is not None
+    return child.stdout
+
+
+# ---- repeated labels
 
 
 class Sorter:
-    """Looks for labels that stand twice, by `sort`, which also sorts what the memory has no room for."""
+    """Looks for repeated labels by `sort`, which also sorts what memory has no room for."""
 
-    def __init__(self, stack):
+    def __init__(self, stack: contextlib.ExitStack):
         # (in a folder of its own, since a sort that is ended leaves what it wrote)
         room = stack.enter_context(tempfile.TemporaryDirectory(prefix="scale-"))
-        start = lambda *words, **options: stack.enter_context(
-            CHILDREN.started(words, stdout=subprocess.PIPE, env={**os.environ, "LC_ALL": "C"}, **options)
-        )
-        self.sort = start("sort", "-T", room, stdin=subprocess.PIPE)
-        self.twice = start("uniq", "-d", stdin=self.sort.stdout)
-        self.sort.stdout.close()
+        options: dict[str, Any] = {"stdout": subprocess.PIPE, "env": {**os.environ, "LC_ALL": "C"}}
+        self.sort = stack.enter_context(CHILDREN.started(["sort", "-T", room], stdin=subprocess.PIPE, **options))
+        self.repeated = stack.enter_context(CHILDREN.started(["uniq", "-d"], stdin=self.sort.stdout, **options))
+        output_of(self.sort).close()
 
-    def add(self, labels):
-        # (a sort that has ended tells its status at the end)
+    def add(self, labels: bytes) -> None:
+        """Adds labels, each with a line feed."""
+        assert self.sort.stdin is not None
+        # (a sort that has ended shows its status at the end)
         with contextlib.suppress(BrokenPipeError):
             self.sort.stdin.write(labels)
             self.sort.stdin.flush()
 
-    def first(self):
-        """The first label that stands twice, or nothing. Without a whole answer of both programs there is none to give."""
+    def first(self) -> str:
+        """The first repeated label, or an empty text. Without the whole output of both programs it is an error."""
+        assert self.sort.stdin is not None
         with contextlib.suppress(BrokenPipeError):
             self.sort.stdin.close()
-        told = self.twice.stdout.readline()
-        self.twice.stdout.close()
-        statuses = self.sort.wait(), self.twice.wait()
-        if not told and statuses != (0, 0):
+        label = output_of(self.repeated).readline()
+        output_of(self.repeated).close()
+        statuses = self.sort.wait(), self.repeated.wait()
+        if not label and statuses != (0, 0):
             raise Failed(f"sort and uniq ended with the statuses {statuses[0]} and {statuses[1]}, so nothing tells whether a label stands twice", False)
-        return told.decode("utf-8", "replace").strip("\n")
+        return label.decode("utf-8", "replace").strip("\n")
 
 
 # ---- workers
 
 
-def watch(parent):
+def watch(parent: int) -> None:
     """Ends this process soon after its parent has ended in any way."""
     while os.getppid() == parent:
         time.sleep(0.5)
     os._exit(1)
 
 
-def begin_worker(parent):
+def begin_worker(parent: int) -> None:
     """A worker leaves signals to its parent, and ends with it."""
     for number in (signal.SIGINT, *source.ENDING):
         signal.signal(number, signal.SIG_IGN)
@@ -212,7 +208,7 @@ def begin_worker(parent):
 
 
 @contextlib.contextmanager
-def workers():
+def workers() -> Iterator[concurrent.futures.ProcessPoolExecutor]:
     """Processes for pieces of work, as many as there are processors. They are forked here, before any thread, so that this process is their parent in every
     version of Python."""
     forked = multiprocessing.get_context("fork")
@@ -232,44 +228,54 @@ class Batches:
     """Batches of a program over one source, in a folder that has a copy of it. `form` is what they print: `lines`, as `m_tax batch`, or `csv`, as `m_survey
     table`. A batch that takes longer than `timeout` seconds is ended. `digest` is that of all that an answer depends on."""
 
-    def __init__(self, room, form="lines", timeout=None):
-        self.room, self.form, self.timeout = room, form, timeout
-        self.name, self.command = ("m_survey", "table") if form == "csv" else ("m_tax", "batch")
-        self.program = program_path(self.name)
-        self.program_digest = digest_of_program(self.program, self.name)
-        self.words, self.names, self.original = [], None, {}
+    digest: str
 
-    def put(self, name, content):
+    def __init__(self, room: str, form: str = "lines", timeout: float | None = None):
+        self.room, self.form, self.timeout = room, form, timeout
+        name, self.command = ("m_survey", "table") if form == "csv" else ("m_tax", "batch")
+        self.program = found(name)
+        self.words: list[str] = []
+        self.names: list[bytes] | None = None
+        self.original: dict[str, str] = {}
+
+    def put(self, name: str, content: bytes | None) -> str:
+        """Writes a file of the folder, and returns the word for it: `-` for none."""
         if content is None:
             return "-"
         source.put(os.path.join(self.room, name), content)
         return name
 
-    def told(self, line):
-        """A line of the program, with the names of the files as they are."""
+    def original_names(self, line: str) -> str:
+        """A line of the program, with the original names of the files."""
         return re.sub(r"\b(?:rules-[0-9]{6}\.m|source\.mcode)\b", lambda match: self.original.get(match[0], match[0]), line)
 
-    def batch(self, table, out):
-        """The answer of one batch."""
-        return self.said(out, self.command, os.path.abspath(table))
+    def batch(self, table: str, out: IO[bytes]) -> int:
+        """Writes the answers to a table; the status."""
+        return self.output(out, self.command, os.path.abspath(table))
 
-    def said(self, out, command, *more):
-        """What a command says over the source, through a pipe, so that a program whose parent was killed can't go on writing. The status comes back."""
-        words = [self.program, command, *self.words, *more]
+    def output(self, out: IO[bytes], command: str, *more: str) -> int:
+        """Writes what a command prints over the source; the status. It prints into a pipe, so that a program whose parent was killed can't go on writing."""
+        words = [self.program.path, command, *self.words, *more]
         with CHILDREN.started(words, cwd=self.room, stdin=subprocess.DEVNULL, stdout=subprocess.PIPE) as child:
             with ended_after(child, self.timeout):
-                shutil.copyfileobj(child.stdout, out, PIECE)
-                child.wait()
+                shutil.copyfileobj(output_of(child), out, PIECE)
+                status = child.wait()
         out.flush()
-        if digest_of_program(self.program, self.name) != self.program_digest:
-            raise Failed(f"{self.program} was changed meanwhile: the same words begin with the new one")
-        return child.returncode
+        try:
+            self.program.check()
+        except Broken:
+            raise Failed(f"{self.program.path} was changed meanwhile: the same words begin with the new one") from None
+        return status
+
+
+Read = tuple[str, list[tuple[str, bytes]], bytes | None, bytes | None]
+"""An application, rule files by their names, a driver and requests."""
 
 
 class Source(Batches):
     """A source that was read once: a copy of its files, a list with its rule files, a driver and requests."""
 
-    def __init__(self, words, room, timeout=None, form="lines"):
+    def __init__(self, words: Sequence[str], room: str, timeout: float | None = None, form: str = "lines"):
         super().__init__(room, form, timeout)
         first, again = self.read(words), self.read(words)
         if first != again:
@@ -285,38 +291,40 @@ class Source(Batches):
         pieces = [application.encode("latin-1")]
         for name, content in rules:
             pieces += [os.fsencode(name), content]
-        for content in (driver, requests):
-            pieces += [b"none"] if content is None else [b"some", content]
-        self.digest = digest_of(self.program_digest.encode(), *pieces)
+        for given in (driver, requests):
+            pieces += [b"none"] if given is None else [b"some", given]
+        self.digest = digest_of(self.program.digest.encode(), *pieces)
 
     @staticmethod
-    def read(words):
+    def read(words: Sequence[str]) -> Read:
+        """The files of a list, a driver and requests."""
         application, names = source.read_list(words[0])
         rules = list(zip(names, source.fetch_rules(names)))
-        return application, rules, *(None if word == "-" else source.fetch(word) for word in words[1:])
+        driver, requests = (None if word == "-" else source.fetch(word) for word in words[1:])
+        return application, rules, driver, requests
 
 
 class CodeFile(Batches):
     """A code file that was read once, which is a source of its own: no list, no rules. Its batches print csv."""
 
-    def __init__(self, path, room, timeout=None):
+    def __init__(self, path: str, room: str, timeout: float | None = None):
         super().__init__(room, "csv", timeout)
         content = source.fetch(path, CODE_FILE_BYTES)
         self.original = {"source.mcode": path}
         self.words = [self.put("source.mcode", content)]
-        self.digest = digest_of(self.program_digest.encode(), b"code", content)
+        self.digest = digest_of(self.program.digest.encode(), b"code", content)
 
 
-def two_sources(lists, drivers, requests, room):
+def two_sources(lists: Sequence[str], drivers: Sequence[str], requests: str, room: str) -> list[Source]:
     """Two sources with the same requests. What both have is read once."""
     copies = {"-": "-"}
     for name in (*drivers, requests):
         if name not in copies:
             copies[name] = os.path.join(room, f"other-{len(copies)}")
             source.put(copies[name], source.fetch(name))
-    found = []
+    made = []
     for list_name, driver in zip(lists, drivers):
-        found.append(Source([list_name, copies[driver], copies[requests]], tempfile.mkdtemp(dir=room)))
-    if found[0].program_digest != found[1].program_digest:
+        made.append(Source([list_name, copies[driver], copies[requests]], tempfile.mkdtemp(dir=room)))
+    if made[0].program.digest != made[1].program.digest:
         raise Failed("the program was changed meanwhile: begin again")
-    return found
+    return made

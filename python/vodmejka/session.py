@@ -1,4 +1,4 @@
-"""A session: one household that is edited, and what it is told."""
+"""A session: one household that is edited, and its answers."""
 from __future__ import annotations
 
 import contextlib
@@ -21,20 +21,23 @@ CLOSING = 2.0  # seconds
 
 
 class Room(Protocol):
-    """A folder, which is there as long as somebody holds this."""
+    """A folder that exists as long as this object."""
 
     name: str
 
 
 class Session:
-    """A household of rules, held by the program, which computes only what edits touch.
+    """A household of rules, held by the program, which computes only what edits affect. `digests` are those of the source and of the program.
 
-    The words of the program end with the name of the household's file, which goes with the session. All files stand in a folder of the rules. `rules` gives the
-    formulas, which `why` shows.
+    The words of the program end with the name of the household's file, which is removed with the session. All files are in a folder of the rules. `rules` gives
+    the formulas, which `why` shows.
     """
 
-    def __init__(self, words: list[str], room: Room, timeout: float | None = None, rules: Callable[[], reasons.Rules] | None = None):
-        self._rules = rules
+    def __init__(
+        self, words: list[str], room: Room, timeout: float | None = None, rules: Callable[[], reasons.Rules] | None = None,
+        digests: tuple[str, str] = ("", ""),
+    ):
+        self._rules, self.digests = rules, digests
         self._room, self._given, self._timeout, self._is_late = room, os.path.join(room.name, words[-1]), timeout, False
         self._messages = open(memory_file("messages"), "r+b", buffering=0)
         try:
@@ -61,16 +64,16 @@ class Session:
         self._edit("clear", code)
 
     def show(self) -> Answer:
-        """What the household is told as it is now."""
+        """The answer to the household as it is now."""
         with self._whole():
             self._say(b"show\n")
             lines = self._lines()
         if lines and lines[0].startswith("refused "):
             raise Refused(lines[0])
-        return answer_of(iter(lines))
+        return answer_of(iter(lines), self.digests)
 
     def why(self, name: str) -> Why:
-        """Why a variable, or a cell as `T[3]`, has its value, at one call of the rules for the household as it is now: the driver isn't asked."""
+        """Why a variable, or a cell as `T[3]`, has its value, at one call of the rules, without the driver, for the household as it is now."""
         assert self._rules is not None
         if name.split() != [name]:
             raise ValueError(f"a name is one word: {name!r}")
@@ -79,14 +82,14 @@ class Session:
             lines = self._lines()
         if lines and lines[0].startswith("refused "):
             raise Refused(f"{lines[0]}: {name}" if lines[0] == "refused unknown variable" else lines[0])
-        return Why(lines, self._rules)
+        return Why(lines, self._rules, self.digests)
 
     def __repr__(self) -> str:
         return f"<Session: {'ended' if self._child.poll() is not None else 'a household that is edited'}>"
 
     def close(self) -> None:
         """Ends the session. A session that is closed, or whose program has ended, can be closed again."""
-        self._shut()  # before it is waited for: a reply of which nobody reads the rest ends the program
+        self._shut()  # first, since a program whose reply isn't read to its end wouldn't end
         try:
             self._child.wait(CLOSING)
         except subprocess.TimeoutExpired:  # a process that was forked meanwhile holds the program's input open
@@ -102,7 +105,7 @@ class Session:
         self._child.stdout.close()
 
     def _drop(self) -> None:
-        """Drops the household's file, and what the program wrote on its standard error."""
+        """Removes the household's file, and the program's standard error."""
         self._messages.close()
         with contextlib.suppress(FileNotFoundError):
             os.unlink(self._given)
@@ -111,7 +114,7 @@ class Session:
 
     @contextlib.contextmanager
     def _whole(self) -> Iterator[None]:
-        """A line and its reply. What breaks in, as an exception of a signal, ends the session, since the rest of the reply would be taken for the next one."""
+        """A line and its reply. An exception in between, as of a signal, ends the session, since the rest of the reply would be read as the next one."""
         timer = None if self._timeout is None else threading.Timer(self._timeout, self._late)
         if timer is not None:
             timer.start()
@@ -142,7 +145,7 @@ class Session:
             raise Refused(reply)
 
     def _say(self, raw: bytes) -> None:
-        """Hands a line to the program."""
+        """Writes a line to the program."""
         assert self._child.stdin is not None
         try:
             self._child.stdin.write(raw)
@@ -159,8 +162,8 @@ class Session:
         return raw.decode(ENCODING)[:-1]
 
     def _lines(self) -> list[str]:
-        """The lines up to one with a point, or the line of what is refused. The text of a verification that failed or is noted may be a point; it stands right
-        behind its line."""
+        """The lines up to one with a point, or the line of what is refused. The text of a verification that failed or is noted may be a point; it comes right
+        after its line."""
         lines: list[str] = []
         in_text = False
         while True:
@@ -174,12 +177,12 @@ class Session:
             if self._child.poll() not in (None, 0):
                 self._ended("\n".join(lines).encode(ENCODING), None)
 
-    def _ended(self, said: bytes, fault: Exception | None) -> None:
+    def _ended(self, printed: bytes, fault: Exception | None) -> None:
         """The error of a program that ended."""
         status = self._child.wait()
         if self._child.stdout is not None and not self._child.stdout.closed:
-            said += self._child.stdout.read()
+            printed += self._child.stdout.read()
         if self._is_late:
             raise Interrupted(f"the session gave no reply within {self._timeout} s") from fault
-        raise_for(said, status, b"" if self._messages.closed else os.pread(self._messages.fileno(), 65_536, 0))
+        raise_for(printed, status, b"" if self._messages.closed else os.pread(self._messages.fileno(), 65_536, 0))
         raise Interrupted("the session has ended") from fault

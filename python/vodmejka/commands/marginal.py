@@ -3,7 +3,7 @@
     marginal LIST DRIVER HOUSEHOLD CODE FROM TO STEP --of NAME.. [--rules LIST DRIVER] [--household HOUSEHOLD] [--csv] [--lang en|fr] > FILE
     marginal LIST DRIVER HOUSEHOLD CODE FROM TO STEP --drops NET [--rules LIST DRIVER] [--household HOUSEHOLD]
 
-The household is computed with the amounts FROM, FROM + STEP and so on up to TO for CODE, and all its other amounts as they stand. At each amount the
+The household is computed with the amounts FROM, FROM + STEP and so on up to TO for CODE, and its other amounts unchanged. At each amount the
 marginal rate of NAME is what one STEP more adds to it, over STEP, and the mean rate is NAME over the amount. The picture is an SVG of its own, without
 scripts: marginal rates as lines, mean rates as dashes, both in per cent. --csv prints the figures instead: the amount, and for each NAME its value, its
 mean rate and its marginal rate; a field is empty where there is no number. --rules adds other rules and --household other households, each as often as
@@ -12,8 +12,8 @@ wanted: the picture and the figures have all of them by each other. DRIVER is - 
 --drops prints the amounts at which what is kept falls though the amount rises, as csv: the rules, the household, the amount, and how much less than one STEP
 before is kept. NET says what is kept, as `1AJ - TOTAL`: codes, names of values and numbers.
 
-Where a run stops, or NAME is undefined or over, the line has a gap; how many amounts that are is told on standard error. Any number of steps may be. The
-households are run as they stand before, so that their own faults are told with their places. Lists, rule files, drivers and households are read once. The
+Where a run stops, or NAME is undefined or over, the line has a gap; standard error has the number of these amounts. Any number of steps may be. The
+households are first run unchanged, so that their own faults are reported with their places. Lists, rule files, drivers and households are read once. The
 status is 0, 1 where the program refuses or no amount has a number, 2 for wrong words, 3 where a file can't be read, and 4 where the output is closed or full.
 The program is ./m_tax of this repository, or the one that M_TAX names.
 """
@@ -38,8 +38,8 @@ from ..sweeps import exact, sweep
 from ..texts import TEXTS, language_of, said
 
 
-class Told(NamedTuple):
-    """A value by one of the rules of one of the households: what it is called, its name, and at each amount its value, its mean rate and its marginal rate."""
+class Series(NamedTuple):
+    """A value by one of the rules of one of the households: its label, its name, and at each amount its value, its mean rate and its marginal rate."""
 
     name: str
     of: str
@@ -79,7 +79,7 @@ def pairs_of(path):
 
 
 def bases(words, names, households, code):
-    """The rules that the words name, which are asked for some names, and have run each household as it stands."""
+    """The rules that the words name, with requests for some names; each has run each household unchanged."""
     found = []
     with tempfile.TemporaryDirectory() as room:
         requests = os.path.join(room, "names")
@@ -95,29 +95,29 @@ def bases(words, names, households, code):
 
 
 def called_of(value, rules, path, is_csv):
-    """What a value is called by its rules and its household, where there are several; in csv in English."""
-    tell = (lambda key, **values: TEXTS[key][0].format(**values)) if is_csv else said
-    by = value if rules is None else tell("marginal.by", name=value, rules=rules)
-    return by if path is None else tell("marginal.of", name=by, household=path)
+    """The label of a value by its rules and its household, where there are several; in csv in English."""
+    text = (lambda key, **values: TEXTS[key][0].format(**values)) if is_csv else said
+    by = value if rules is None else text("marginal.by", name=value, rules=rules)
+    return by if path is None else text("marginal.of", name=by, household=path)
 
 
 def curves(along, of, names, step):
-    """What is told of each name by each of the rules, which are called as `names` say."""
+    """The series of each name by each of the rules, which have the labels of `names`."""
     for base, called in enumerate(names):
         for value in of:
             rates = along.rates(base, value)
-            found = [told if isinstance(told, Decimal) else None for told in along.values_of(value, base)]
-            yield Told(called(value), value, found[:-1], [mean for _, _, mean in rates[:-1]], [marginal for _, marginal, _ in rates[1:]])
+            found = [one if isinstance(one, Decimal) else None for one in along.values_of(value, base)]
+            yield Series(called(value), value, found[:-1], [mean for _, _, mean in rates[:-1]], [marginal for _, marginal, _ in rates[1:]])
 
 
-def figures(amounts, told, code):
+def figures(amounts, series, code):
     """The rates as csv."""
     out = io.StringIO()
     writer = csv.writer(out, lineterminator="\n")
-    writer.writerow([code, *(f"{one.name}{kind}" for one in told for kind in ("", " mean", " marginal"))])
+    writer.writerow([code, *(f"{one.name}{kind}" for one in series for kind in ("", " mean", " marginal"))])
     for at, number in enumerate(amounts):
         shown = []
-        for one in told:
+        for one in series:
             rates = (rate[at] for rate in (one.mean, one.marginal))
             shown += ["" if one.values[at] is None else plain(one.values[at]), *("" if rate is None else plain(exact(rate * UNIT)) for rate in rates)]
         writer.writerow([plain(number), *shown])
@@ -126,21 +126,21 @@ def figures(amounts, told, code):
 
 def drawn(words, amounts, sweeps, labels):
     """Prints the picture or the figures; a status."""
-    told = [one for along, names in zip(sweeps, labels) for one in curves(along, words.of, names, amounts[1] - amounts[0])]
-    gaps = sum(any(one.values[at] is None for one in told) for at in range(len(amounts) - 1))
+    series = [one for along, names in zip(sweeps, labels) for one in curves(along, words.of, names, amounts[1] - amounts[0])]
+    gaps = sum(any(one.values[at] is None for one in series) for at in range(len(amounts) - 1))
     if gaps:
         print(f"marginal: {said('marginal.gaps', gaps=gaps, count=len(amounts) - 1)}", file=sys.stderr)
-    if not any(rate is not None for one in told for rate in one.marginal):
+    if not any(rate is not None for one in series for rate in one.marginal):
         raise Wrong(said("marginal.no_rate"))
     if words.csv:
-        sys.stdout.write(figures(amounts[:-1], told, words.code))
+        sys.stdout.write(figures(amounts[:-1], series, words.code))
     else:
-        sys.stdout.write(picture(amounts[:-1], [Curve(one.name, one.of, one.marginal, one.mean) for one in told], words.code))
+        sys.stdout.write(picture(amounts[:-1], [Curve(one.name, one.of, one.marginal, one.mean) for one in series], words.code))
     return 0
 
 
 def dropped(words, sweeps, listed, households):
-    """Prints where what is kept falls; a status."""
+    """Prints the amounts at which what is kept falls; a status."""
     writer = csv.writer(sys.stdout, lineterminator="\n")
     writer.writerow(["rules", "household", words.code, "change"])
     for along, household in zip(sweeps, households):

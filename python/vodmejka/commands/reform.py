@@ -1,4 +1,4 @@
-"""Tells what a change of rules does to the households of a table: who gains, who loses, how much.
+"""Reports what a change of rules does to the households of a table: who gains, who loses, how much.
 
     reform BEFORE AFTER DRIVER REQUESTS TABLE --of NAME [--weight COLUMN] [--by COLUMN] [--groups COLUMN]
            [--step CODE=AMOUNT] [--driver-after DRIVER] [--inputs] [--less-is-gain | --more-is-gain] [--lang en|fr] --into FOLDER
@@ -6,9 +6,9 @@
 BEFORE and AFTER are lists of rule files (tools/variant makes one of the other), DRIVER and REQUESTS as the program takes them, and TABLE a table of
 households of any length, which may have columns that are no codes: a weight for each household, and what they are ordered or grouped by. NAME is one of the
 requests, or a sum as `TOTAL + LEVIES`. --by takes a column of the table, or a request, whose value before the change counts, and makes tenths; --groups takes
-a column, and may stand several times. --driver-after names another driver for AFTER. --step computes each household once
+a column, and may be repeated. --driver-after names another driver for AFTER. --step computes each household once
 more with so much more of one code, for marginal rates. --less-is-gain says that less of NAME is a gain, as of a tax,
-and --more-is-gain that more of it is, as of a benefit. Without either less of it is taken for a gain, and the page, summary.csv and the last line say so.
+and --more-is-gain that more of it is, as of a benefit. Without either less of it counts as a gain, and the page, summary.csv and the last line say so.
 
 FOLDER, which must not be there, gets
     households.csv   name, weight, by, before, after, difference, with --step marginal before and marginal after, the groups, and with --inputs the
@@ -19,9 +19,9 @@ FOLDER, which must not be there, gets
 All rule files, the drivers and the requests are read once at the beginning, so that a change in the middle of a run changes nothing; a table that is changed
 meanwhile is refused. It is computed in parts by all processors, and memory is that of some parts. A weight is an amount of 0 or more. A household whose run
 stops before or after, or whose NAME has no number, has empty fields, and counts as stopped. Sums are exact, and printed to the millionth. A tenth has a tenth
-of the weight; a household stands in the tenth in which its own weight begins, and those without a value of COLUMN are a line of their own. The status is 0, 1
+of the weight; a household is in the tenth in which its own weight begins, and those without a value of COLUMN are a line of their own. The status is 0, 1
 where the program or a check refuses, 2 for wrong words, 3 where a file can't be read or written, and 4 where the output is closed or full. The program is
-m_survey beside ./m_tax of this repository, or the one that M_SURVEY names.
+m_survey of this repository, or the one that M_SURVEY names.
 """
 import argparse
 import csv
@@ -77,22 +77,22 @@ def written(words, room):
             before, after, words.table, of=words.of, weight=weight, by=groups, gain="more" if words.more_is_gain else "less", step=step,
             inputs=words.inputs, lines=lines,
         )
-    whole = found.made.all
+    whole = found.comparison.all
     if not whole.households:
         raise Refused(said("reform.none", table=words.table))
     if whole.apart == whole.households:
         raise Refused(said("reform.no_number", name=words.of))
     by = None if words.by is None else column_named(words.by)
-    lines = [line_of(group, by, (*found.made.digests, found.made.program)) for group in found.made.groups]
+    lines = [line_of(group, by, (*found.comparison.digests, found.comparison.program)) for group in found.comparison.groups]
     with open(os.path.join(room, "summary.csv"), "w", encoding="latin-1", newline="") as out:
         csv.writer(out, lineterminator="\n").writerows([SUMMARY + MORE, *lines])
     with open(os.path.join(room, "report.html"), "w", encoding="utf-8", errors="replace") as out:
         out.write(page(words, found, step, SUMMARY, [line[: len(SUMMARY)] for line in lines]))
-    return found.made
+    return found.comparison
 
 
 def work(words):
-    """Writes the folder under its name once all stands, and gives the sums of all."""
+    """Writes the folder, which gets its name when all is written, and returns the sums of all."""
     parent = os.path.dirname(os.path.abspath(words.into))
     if os.path.lexists(words.into):
         raise Refused(said("reform.there", folder=words.into))

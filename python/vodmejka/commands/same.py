@@ -25,6 +25,7 @@ import tempfile
 
 sys.dont_write_bytecode = True
 from .. import runs, source
+from ..errors import Failed
 from ..limits import AMOUNT
 
 AT_ONCE = 2_000
@@ -65,9 +66,9 @@ class Compiled:
 def said(origin, name, command, *more):
     """What the program prints to a command over a source, whose list has this name."""
     out = io.BytesIO()
-    status = origin.said(out, command, *more)
+    status = origin.output(out, command, *more)
     if status != 0:
-        raise Wrong(f"{name}: {origin.told(runs.fault_of(out.getvalue(), status))}", 3 if status == 3 else 6)
+        raise Wrong(f"{name}: {origin.original_names(runs.fault_of(out.getvalue(), status))}", 3 if status == 3 else 6)
     return out.getvalue()
 
 
@@ -239,7 +240,7 @@ def main(words):
     except Wrong as wrong:
         print(f"same: {wrong}", file=sys.stderr)
         return wrong.status
-    except runs.Failed as fault:
+    except Failed as fault:
         print(f"same: {fault}", file=sys.stderr)
         return 6
     except source.Refused as fault:

@@ -45,11 +45,12 @@ import sys
 import tempfile
 
 from .. import csv_answers, records, runs, source
+from ..errors import Failed
 from ..limits import FILE_BYTES, ROWS
 from ..parts import READERS, Made, Plan, digest_there, look_at, missing, part_path, remove_dead, summary, unfinished, whole, write_whole
 from ..progress import Progress
 from ..program import digest_of
-from ..runs import Failed, file_digest
+from ..runs import file_digest
 
 BATCH_BYTES = 256 << 20  # a batch of the longest table takes half of it, and the look at its answer the rest
 MOST_AT_ONCE = 4
@@ -161,7 +162,7 @@ def answered(compiled, table, out, made, elsewhere=here):
     status = compiled.batch(table, out)
     if status != 0:
         with open(made, "rb") as told:
-            line = compiled.told(runs.fault_of(told.read(8192), status))
+            line = compiled.original_names(runs.fault_of(told.read(8192), status))
         raise Rejected(line, not line.startswith("refused household"))
     return elsewhere(seen_in, table, made, compiled.names, compiled.form)
 
@@ -333,10 +334,10 @@ def tell_source(arguments):
             print(compiled.digest)
             return
         with tempfile.TemporaryDirectory(prefix="scale-") as room, unfinished(arguments.code) as (out, made):
-            status = runs.Source.said(compiled, out, "compile")
+            status = compiled.output(out, "compile")
             if status != 0:
                 with open(made, "rb") as told:
-                    raise Failed(compiled.told(runs.fault_of(told.read(8192), status)), False)
+                    raise Failed(compiled.original_names(runs.fault_of(told.read(8192), status)), False)
             os.fsync(out.fileno())
             print(runs.CodeFile(made, room).digest)
             os.replace(made, arguments.code)
