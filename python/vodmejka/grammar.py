@@ -2,12 +2,12 @@
 from __future__ import annotations
 
 import re
-from typing import Callable, NoReturn, TypeVar
+from typing import Callable, NoReturn, Sequence, TypeVar
 
-from . import source
 from .loops import Header, Pair, Term
 from .reserved import reserved
 from .texts import said
+from .tokens import Token
 
 Read = TypeVar("Read")
 RESERVED = reserved("m")
@@ -55,12 +55,13 @@ def no_function(word: str) -> str:
 class Reader:
     """Takes tokens one after the other, and records which would be accepted next."""
 
-    def __init__(self, tokens: list[source.Token]):
-        self.tokens, self.at, self.hint = tokens, 0, ""
+    def __init__(self, tokens: Sequence[Token]):
+        self.tokens: Sequence[Token] = tokens
+        self.at, self.hint = 0, ""
         self.wanted: list[str] = []
-        self.end = source.Token("end", "", tokens[-1].byte + len(tokens[-1].text) if tokens else 0)
+        self.end = Token("end", "", tokens[-1].byte + len(tokens[-1].text) if tokens else 0)
 
-    def peek(self, ahead: int = 0) -> source.Token:
+    def peek(self, ahead: int = 0) -> Token:
         try:
             return self.tokens[self.at + ahead]
         except IndexError:
@@ -74,7 +75,7 @@ class Reader:
         """What would be accepted here, each once."""
         return tuple(dict.fromkeys(self.wanted))
 
-    def step(self) -> source.Token:
+    def step(self) -> Token:
         try:
             token = self.tokens[self.at]
         except IndexError:
@@ -110,7 +111,7 @@ class Reader:
         token = self.peek(ahead)
         return token.kind == "word" and token.text not in RESERVED
 
-    def word(self, what: str, ahead_hint: str = "") -> source.Token:
+    def word(self, what: str, ahead_hint: str = "") -> Token:
         self.want(what)
         if self.is_word():
             return self.step()
@@ -126,7 +127,7 @@ class Reader:
             self.stuck(said("help.small", word=token.text))
         return self.word(what).text
 
-    def kind(self, kind: str, what: str) -> source.Token:
+    def kind(self, kind: str, what: str) -> Token:
         self.want(what)
         if self.peek().kind != kind:
             self.stuck()

@@ -236,7 +236,7 @@ class StatementReader(RuleReader):
         self._tried = 0  # the end of the last statement that was looked at
 
     @property
-    def declarations(self) -> list[Declaration]:  # type: ignore[override]
+    def declarations(self) -> list[Declaration]:
         return [self._declaration(one) if isinstance(one, tuple) and not isinstance(one, Declaration) else one for one in self._declared]
 
     @declarations.setter
@@ -321,7 +321,7 @@ class StatementReader(RuleReader):
         return reader.declarations[0]
 
 
-def read(content: bytes, tokens: Tokens | None = None) -> tuple[RuleReader, list[Fault]]:
+def read(content: bytes, tokens: Tokens | None = None) -> tuple[StatementReader, list[Fault]]:
     """The formulas and checks of a file, and all its faults in their order. The tokens may be there already, where no byte is bad."""
     sys.setrecursionlimit(max(sys.getrecursionlimit(), 20_000))
     tokens, faults = tokens_of(content) if tokens is None else (tokens, numbers_too_great(tokens))

@@ -5,7 +5,7 @@ import bisect
 import re
 from typing import Mapping
 
-from . import items, source
+from . import item_types, items, source
 from .grammar import RESERVED
 from .loops import Term, instances, replaced, whole
 from .places import decode
@@ -57,7 +57,7 @@ class Written:
 class Formula:
     """The formula of a cell: where it is written, the letters of its instance, the cell's number in a whole table."""
 
-    def __init__(self, written: Written, formula: items.Formula, letters: Mapping[str, str], number: int | None):
+    def __init__(self, written: Written, formula: item_types.Formula, letters: Mapping[str, str], number: int | None):
         self.written, self.formula, self.letters, self.number = written, formula, letters, number
 
     @property
@@ -114,7 +114,7 @@ class Rules:
         self.sizes = {name: variable.size for name, variable in self.variables.items() if variable.size is not None}
         self.descriptions: dict[str, str] = {}
         self.formulas: dict[str, Formula] = {}
-        self.checks: list[tuple[source.RuleFile, items.Check, Written]] = []
+        self.checks: list[tuple[source.RuleFile, item_types.Check, Written]] = []
         self.comments: dict[str, str] = {}
         for file in base.files:
             self.describe(file)
@@ -136,7 +136,7 @@ class Rules:
             if text >= 0:
                 self.descriptions[variable.name] = decode(tokens.texts[text][1:-1].encode("latin-1"))
 
-    def add(self, written: Written, formula: items.Formula) -> None:
+    def add(self, written: Written, formula: item_types.Formula) -> None:
         letters_of_target = [letter for header in formula.loops for letter, _ in header]
         for letters in instances(formula.loops, ["".join(letters_of_target)]):
             word = replaced(formula.target, letters)
