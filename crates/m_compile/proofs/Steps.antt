@@ -22,7 +22,9 @@ use Rattle.observables.specs.Outputs.{names_of, notes_of}
 use Rattle.flat_code.specs.Passes.{Becomes}
 use Rattle.flat_code.specs.Tidy.{IsTidy}
 use Rattle.flat_code.specs.declared.program.Flat.{Flat}
+use Rattle.flat_code.specs.declared.program.Check.{Check}
 use Rattle.micro_m.specs.declared.base.Base.{Base}
+use Rattle.micro_m.specs.Bases.{is_among}
 use Rattle.micro_m.specs.Reads.{HasNoCycle}
 use Rattle.driver_core.specs.declared.program.Core.{Core}
 use Rattle.driver_core.specs.Inputs.{inputs_declared}
@@ -42,6 +44,7 @@ use Rattle.mpp_core.specs.Cores.{IsCoreFault}
 use Rattle.mpp_inline.specs.declared.fault.InlineFault.{InlineFault}
 use Rattle.mpp_inline.specs.declared.fault.InlineFault.TheVariants as inline
 use Rattle.mpp_inline.specs.Inlined.{HasWeight, IsInlined, IsTooLarge, IsDriverLine, most_nodes}
+use Rattle.mpp_inline.specs.Labelling.{labelling_of}
 use Rattle.rule_base.specs.Base.{IsBaseOf}
 use Rattle.rule_base.specs.Faults.{IsRuleFault}
 use Rattle.rule_base.specs.declared.fault.RuleFault.{RuleFault}
@@ -58,7 +61,7 @@ use Rattle.m_compile.specs.inner.Parts.{IsReady, compiled_of}
 use Rattle.m_compile.proofs.Distinct.{parsed_codes, distinct_codes, many_inputs}
 use Rattle.m_compile.proofs.Noted.{names_noted, notes_noted}
 use Rattle.m_compile.proofs.words.Faces.{printable_face}
-use Rattle.m_compile.proofs.Tidied.{plain_values, labels_kept, labels_all}
+use Rattle.m_compile.proofs.Tidied.{plain_values, labels_kept, labels_all, labels_among}
 use Rattle.m_compile.specs.inner.Steps.{rule_step, driver_step, core_step, request_step, inline_step}
 
 -- the fault of the rule files
@@ -174,6 +177,10 @@ compiled_when source declared base wanted core flat face runnable r a p code l =
       notes = p.notes;
       first_labels = p.first_labels;
       further_labels = p.further_labels;
+      labels_are = subst (λ c. face.labels ≡ (labelling_of c base).labels) a.runs p.labels_are;
+      notes_are = subst (λ c. notes_of face.outputs ≡ (labelling_of c base).notes) a.runs p.notes_are;
+      checks_among = subst (λ c. AllByRecursion (λ check. is_among check.label (labelling_of c base).checks ≡ true) flat.checks) a.runs p.checks_among;
+      few_checks = subst (λ c. length flat.checks ≤ length (labelling_of c base).checks) a.runs p.few_checks;
       printable = printable_face source.texts source.application source.requests declared base wanted face r.made a.requested
           (distinct_codes source.texts source.application declared base r.made)
           (ap codes_of p.inputs ∙ parsed_codes declared) p.names p.first_labels p.further_labels;
@@ -265,6 +272,11 @@ program_made declared base core wanted flat tidy face labels notes w i b t l f o
       notes = subst (AllByRecursion (λ number. number < length base.labels)) (sym noted) i.noted;
       first_labels = subst (λ (ls : List FaceLabel). take (length base.labels) ls ≡ map Verif base.labels) (sym l) i.first_labels;
       further_labels = subst (λ (ls : List FaceLabel). AllByRecursion IsDriverLine (drop (length base.labels) ls)) (sym l) i.further_labels;
+      labels_are = l ∙ i.labels_are;
+      notes_are = noted ∙ i.notes_are;
+      checks_among = subst (λ ns. AllByRecursion (λ check. is_among check.label ns ≡ true) tidy.checks) i.checks_are
+          (labels_among flat.checks tidy.checks b.labels);
+      few_checks = omega (arith, b.checks, length-map flat.checks (λ (c : Check). c.label), ap length i.checks_are);
       nodes_fit = omega (arith, b.nodes, i.nodes_fit);
       checks_fit = omega (arith, b.checks, i.checks_fit);
       labels_fit = subst (λ (ls : List FaceLabel). length ls ≤ length base.labels + most_nodes) (sym l) i.labels_fit;

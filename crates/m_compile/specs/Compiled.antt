@@ -1,11 +1,12 @@
 -- The result of compiling a source.
-use Rattle.std.specs.Prelude.{◌≡◌, ℕ, ◌<◌, ◌≤◌, List, Option, drop, length, map, take, Some}
+use Rattle.std.specs.Prelude.{◌≡◌, ℕ, ◌<◌, ◌≤◌, true, List, Option, drop, length, map, take, Some}
 use Rattle.std.specs.List.{AllByRecursion}
 use Rattle.m_fixed.specs.declared.amount.Value.{Value}
 use Rattle.m_names.specs.Names.{AreDistinct}
 use Rattle.m_places.specs.declared.source.Source.{Source}
 use Rattle.m_symbols.specs.Declarations.{Declared}
 use Rattle.micro_m.specs.declared.base.Base.{Base}
+use Rattle.micro_m.specs.Bases.{is_among}
 use Rattle.observables.specs.declared.face.Face.{Face}
 use Rattle.observables.specs.declared.face.FaceLabel.TheVariants.{Verif}
 use Rattle.observables.specs.Answers.{observation}
@@ -20,9 +21,10 @@ use Rattle.driver_core.specs.declared.program.Core.{Core}
 use Rattle.driver_core.specs.Inputs.{inputs_declared}
 use Rattle.m_symbols.specs.Cells.{cell_name}
 use Rattle.mpp_inline.specs.Inlined.{IsDriverLine, most_nodes}
+use Rattle.mpp_inline.specs.Labelling.{labelling_of}
 use Rattle.code_file.specs.Printable.{IsPrintable}
 use Rattle.m_compile.specs.declared.compiling.Compiled.{Compiled}
-use Rattle.m_compile.specs.Sources.{IsValid}
+use Rattle.m_compile.specs.Sources.{IsValid, running}
 use Rattle.m_compile.specs.Answers.{answer_to}
 
 -- a program that can be run: the face is its face, the codes of inputs are distinct, and its nodes
@@ -36,9 +38,11 @@ pub record IsRunnable (face : Face) (flat : Flat) : Type 0 where
 -- The source is valid and compiles to this. For every list of values that the inputs may have, the
 -- answer of the tidy program, read through its face, is that of the source. The face has the inputs
 -- with their types; the labels of the base's checks, then those of driver lines; and as outputs the
--- notes, each of a check of the base, then the names of the requested cells. A code file can
--- represent the face. The code implements the tidy program, with one label for each of the face,
--- and uses the registers and slots of its width.
+-- notes, each of a check of the base, then the names of the requested cells. Which labels and notes
+-- there are, and in which order, is determined by the driver and the base; each check of the tidy
+-- program has the label of one of theirs, and there are no more. A code file can represent the
+-- face. The code implements the tidy program, with one label for each of the face, and uses the
+-- registers and slots of its width.
 pub record IsCompiled (source : Source) (compiled : Compiled) : Type 0 where
   pub declared : Declared
   pub base : Base
@@ -53,6 +57,11 @@ pub record IsCompiled (source : Source) (compiled : Compiled) : Type 0 where
   pub notes : AllByRecursion (λ number. number < length base.labels) (notes_of compiled.face.outputs)
   pub first_labels : take (length base.labels) compiled.face.labels ≡ map Verif base.labels
   pub further_labels : AllByRecursion IsDriverLine (drop (length base.labels) compiled.face.labels)
+  pub labels_are : compiled.face.labels ≡ (labelling_of (running written requests declared) base).labels
+  pub notes_are : notes_of compiled.face.outputs ≡ (labelling_of (running written requests declared) base).notes
+  pub checks_among : AllByRecursion (λ check. is_among check.label (labelling_of (running written requests declared) base).checks ≡ true)
+      compiled.tidy.checks
+  pub few_checks : length compiled.tidy.checks ≤ length (labelling_of (running written requests declared) base).checks
   pub printable : IsPrintable compiled.face
   pub answers : (inputs : List Value) → AreValuesOf compiled.face.inputs inputs
       → observation compiled.face.labels (notes_of compiled.face.outputs) (flat_run compiled.tidy inputs) ≡ Some

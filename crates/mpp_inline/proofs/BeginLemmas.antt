@@ -88,6 +88,7 @@ has-literals labels b e f g none =
         same = λ i d h. ap (λ ls. get_or ls i (DriverLine 0)) g ∙ get_or-map Verif labels i d (DriverLine 0) h;
         others = λ l h. past-line b.labels.items l (omega (arith, h, ap length g, length-map labels Verif));
       };
+      labelling = λ i. record { labels = g i; checks = map (λ (c : Check). c.label) (f i); notes = map (λ (n : ℕ × ℕ). n.1) (none i) };
       one = λ inputs. value inputs 2;
       reported = λ inputs. λ i. record {
         stop = stop_read b.labels.items (first_stop (node_values inputs b.nodes.items) (f i));

@@ -20,6 +20,7 @@ use Rattle.observables.specs.declared.face.FaceLabel.TheVariants.{Verif, DriverL
 use Rattle.observables.specs.Answers.{Cause, failed, over}
 use Rattle.driver_core.specs.Meaning.{Env, RunState, goes, then_do, chosen_block, with_values, failure_cause, unless_stopped}
 use Rattle.mpp_inline.specs.declared.builder.Builder.{Builder}
+use Rattle.mpp_inline.specs.Labelling.{with_line}
 use Rattle.mpp_inline.specs.inner.Cells.{picked, written, received}
 use Rattle.mpp_inline.specs.inner.Growth.{faces, face, at, IsUsable, SoFar, so_far, observed_more, note_read, IsVerif, denoted, outcome_of, run, Sane, Known}
 use Rattle.mpp_inline.specs.inner.Growth.{Placed, Ready, CheckedRule, CheckedLine, NotedAt, Pushed, Checked, Longer, Grows, TermStep, Computed, Stage, Opened}
@@ -28,6 +29,7 @@ use Rattle.mpp_inline.proofs.OutcomeLemmas.{goes-last, then-then, set-goes, wrap
 use Rattle.mpp_inline.proofs.ListLemmas.{all-picked, all-written, written-map, received-map, with-received}
 use Rattle.mpp_inline.proofs.RunLemmas.{face_judged, face_fired}
 use Rattle.mpp_inline.proofs.UsableLemmas.{usable-on}
+use Rattle.mpp_inline.proofs.LabelLemmas.{line-labelling}
 use Rattle.mpp_inline.proofs.GrowthLemmas.{longer-none, longer-then, grows-none, grows-then, known-on, denoted-on, run-on, known-get, known-set, pushed-within}
 use Rattle.mpp_inline.proofs.GrowthLemmas.{pushed-value, pushed-grows, faces-on}
 use Rattle.mpp_inline.proofs.CheckGrowth.{checked-longer, checked-reported, noted-longer, noted-reported, denoted-set}
@@ -148,6 +150,7 @@ open-branches {b} {c} {c1} {c2} {d} {env} {g} {line} {v} {k} {i} {j} {t} step p 
         taken = λ inputs h. ap (λ o. then_do o (λ e. goes [] e)) (run-on inputs grows s0.known) ∙ s0.taken inputs h;
         idle = λ inputs h. grows.reported inputs ∙ s0.idle inputs h;
       };
+      labelling = grows.labelling ∙ line-labelling p ∙ ap (with_line line) ts.grows.labelling;
       first_within = usable-on g3.base i_in;
       second_within = pushed-within q3 (λ t. t);
       truth_within = usable-on l23 k_in;

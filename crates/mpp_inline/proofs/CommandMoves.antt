@@ -16,11 +16,13 @@ use Rattle.mpp_inline.specs.declared.builder.Builder.{Builder}
 use Rattle.mpp_inline.specs.declared.branches.Branches.{Branches}
 use Rattle.mpp_inline.specs.declared.work.Work.{Work}
 use Rattle.mpp_inline.specs.declared.work.Work.TheVariants.{Run, Under, Restore, Return}
+use Rattle.mpp_inline.specs.Labelling.{Labelling, with_body}
 use Rattle.mpp_inline.specs.inner.Cells.{picked, written, received, blanked}
+use Rattle.mpp_inline.specs.inner.Labels.{labelling_by}
 use Rattle.mpp_inline.specs.inner.Growth.{IsUsable, at, so_far, denoted, outcome_of, run, entries, Sane, Known, Held, Placed, Ready, Longer, TermStep, Computed}
 use Rattle.mpp_inline.specs.inner.Growth.{Stage, Opened, Merged, SameBut, over_judged, calls}
-use Rattle.mpp_inline.specs.inner.Work.{under, Point, point, Whole, does, does_one, done, finish, ahead, block_ahead, IsBit, Guarding, Kept, Standing, Moves}
-use Rattle.mpp_inline.specs.inner.Work.{Step}
+use Rattle.mpp_inline.specs.inner.Work.{under, Point, point, Whole, does, does_one, adds, adds_one, done, finish, ahead, block_ahead, IsBit, Guarding, Kept, Standing}
+use Rattle.mpp_inline.specs.inner.Work.{Moves, Step}
 use Rattle.mpp_inline.proofs.ListLemmas.{all-more, all-append, all-picked, all-written, all-blanked, picked-map, written-map, blanked-map, restored, same-none}
 use Rattle.mpp_inline.proofs.ListLemmas.{same-back, same-blanked, with-received, without-blanked}
 use Rattle.mpp_inline.proofs.UsableLemmas.{usable-on}
@@ -108,6 +110,7 @@ if-moves {whole} {b} {d} {env} {g} {line} {r} {ws} t' depth first second opens s
             guard = l.keeps inputs g s.ready.placed.guard i;
             far = guards-apart s.ready.placed inputs one two
                 (s.bit inputs) o i;
+            labelling = adds whole depth second.now (adds whole depth first.now (o.labelling i));
           }))
           ∙ finish-on whole inputs ws _ l s.left;
     }
@@ -166,8 +169,13 @@ part-moves {whole} {b} {env} {g} {ws} depth line before xs block is s =
             guard = at b inputs g;
             far = then_do (under (at b inputs g) (run b inputs (blanked 0 xs env)) next)
                 (λ e. goes [] (written (entries b inputs (is i)) e));
+            labelling = adds whole depth block.now (labelling_by b);
           }))
-          ∙ (λ i. finish whole b inputs ws (record { guard = at b inputs g; far = around-part b env g inputs xs next sane (s.bit inputs) i }));
+          ∙ (λ i. finish whole b inputs ws (record {
+            guard = at b inputs g;
+            far = around-part b env g inputs xs next sane (s.bit inputs) i;
+            labelling = adds whole depth block.now (labelling_by b);
+          }));
     }
 
 -- a call
@@ -193,10 +201,11 @@ around-call b env g inputs xs next s bit =
 
 pub call-moves : {whole : Whole} {b : Builder} {env : List ℕ} {g : ℕ} {ws : List Work} (depth line names deep f : ℕ) (cells : Bor (List ℕ))
     (outer : Vec ℕ Global) (block : Bor (List Action)) → outer.items ≡ env
-    → does whole deep block.now ≡ calls whole.core whole.ordered.base whole.ordered.sequence depth f → Standing whole b env g ws
+    → does whole deep block.now ≡ calls whole.core whole.ordered.base whole.ordered.sequence depth f
+    → ((l : Labelling) → adds whole deep block.now l ≡ with_body whole.ordered.base whole.core.bodies depth f l) → Standing whole b env g ws
     → Moves whole b b env g ws ((ws ++ Return cells outer ∷ []) ++ Run deep block ∷ [])
     (λ inputs. ahead whole b inputs env g depth (call line names cells.now f))
-call-moves {whole} {b} {env} {g} {ws} depth line names deep f cells outer block is body s =
+call-moves {whole} {b} {env} {g} {ws} depth line names deep f cells outer block is body labels s =
     let sane = s.ready.placed.sane in
     let ws1 = ws ++ Return cells outer ∷ [] in
     record {
@@ -209,11 +218,13 @@ call-moves {whole} {b} {env} {g} {ws} depth line names deep f cells outer block 
             guard = at b inputs g;
             far = then_do (under (at b inputs g) (run b inputs env) (body i))
                 (λ e. goes [] (with_values cells.now (environment e) (denoted b inputs (is i))));
+            labelling = labels (labelling_by b) i;
           }))
           ∙ (λ i. finish whole b inputs ws (record {
             guard = at b inputs g;
             far = around-call b env g inputs cells.now (calls whole.core whole.ordered.base whole.ordered.sequence depth f) sane
                 (s.bit inputs) i;
+            labelling = with_body whole.ordered.base whole.core.bodies depth f (labelling_by b);
           }));
     }
 
@@ -225,7 +236,11 @@ none-moves {whole} {b} {env} {g} {ws} depth block is s = record {
   standing = s;
   same = λ inputs. sym
       ((λ i. finish whole b inputs ws (block_ahead whole b inputs env g depth (is i)))
-      ∙ (λ i. finish whole b inputs ws (record { guard = at b inputs g; far = under-none (at b inputs g) (run b inputs env) i })));
+      ∙ (λ i. finish whole b inputs ws (record {
+        guard = at b inputs g;
+        far = under-none (at b inputs g) (run b inputs env) i;
+        labelling = labelling_by b;
+      })));
 }
 
 pub first-moves : {whole : Whole} {b c : Builder} {env env' : List ℕ} {g g' : ℕ} {ws ws' : List Work} (depth : ℕ) (a : Action) (block : List Action)
@@ -245,6 +260,7 @@ first-moves {whole} {b} {c} {env} {env'} {g} {g'} {ws} {ws'} depth a block rest 
             guard = at b inputs g;
             far = under-under (at b inputs g) (run b inputs env) (does_one whole depth a)
                 (does whole depth rest.now) i;
+            labelling = adds whole depth rest.now (adds_one whole depth a (labelling_by b));
           }))
           ∙ (λ i. finish whole b inputs ws (block_ahead whole b inputs env g depth (sym is i)));
     }
@@ -261,6 +277,7 @@ restore-moves {whole} {b} {env} {g} {ws} before h s =
             guard = at b inputs g;
             far = (ap (outcome_of (so_far b inputs)) (written-map (at b inputs) before.items env)
                 ∙ set-goes (so_far b inputs) (denoted b inputs env) (written (entries b inputs before.items))) i;
+            labelling = labelling_by b;
           }));
     }
 
@@ -278,28 +295,38 @@ return-moves {whole} {b} {env} {g} {ws} cells outer k s =
             guard = at b inputs g;
             far = (ap (outcome_of (so_far b inputs)) (denoted-received inputs cells.now env outer.items sane)
                 ∙ set-goes (so_far b inputs) (denoted b inputs env) (λ e. with_values cells.now (environment e) (denoted b inputs outer.items))) i;
+            labelling = labelling_by b;
           }));
     }
 
 -- the loop
-abbrev pub main-point : Builder → List ℕ → (Env → RunState) → List Value → Point
-main-point b env next inputs = record { guard = at b inputs 2; far = under (at b inputs 2) (run b inputs env) next }
+abbrev pub main-point : Builder → List ℕ → (Env → RunState) → (Labelling → Labelling) → List Value → Point
+main-point b env next more inputs = record { guard = at b inputs 2; far = under (at b inputs 2) (run b inputs env) next; labelling = more (labelling_by b) }
 
-pub main-first : {whole : Whole} {b : Builder} {env : List ℕ} (depth : ℕ) (block : Bor (List Action)) (next : Env → RunState)
-    → does whole depth block.now ≡ next → Ready whole.ordered.base.labels b env 2 → Moves whole b b env 2 [] (Run depth block ∷ []) (main-point b env next)
-main-first {whole} {b} {env} depth block next is r = record {
+pub main-first : {whole : Whole} {b : Builder} {env : List ℕ} (depth : ℕ) (block : Bor (List Action)) (next : Env → RunState) (more : Labelling → Labelling)
+    → does whole depth block.now ≡ next → ((l : Labelling) → adds whole depth block.now l ≡ more l) → Ready whole.ordered.base.labels b env 2
+    → Moves whole b b env 2 [] (Run depth block ∷ []) (main-point b env next more)
+main-first {whole} {b} {env} depth block next more is labels r = record {
   base = longer-none r.placed.sane;
   standing = record { ready = r; bit = λ inputs. inr (r.placed.sane.one inputs); left = (tt, tt) };
-  same = λ inputs. λ i. record { guard = at b inputs 2; far = under (at b inputs 2) (run b inputs env) (is i) };
+  same = λ inputs. λ i. record {
+    guard = at b inputs 2;
+    far = under (at b inputs 2) (run b inputs env) (is i);
+    labelling = labels (labelling_by b) i;
+  };
 }
 
-pub main-last : {whole : Whole} {b c : Builder} {env env' : List ℕ} {g : ℕ} {ws : List Work} {next : Env → RunState} → ws ≡ []
-    → Moves whole b c env' g [] ws (main-point b env next) → Step b c 2 env env' next
-main-last {whole} {b} {c} {env} {env'} {g} {ws} {next} is m = record {
-  base = m.base;
-  known = m.standing.ready.placed.known;
-  moved = λ inputs bit. ap (λ (p : Point). p.far) (sym (ap (λ l. finish whole c inputs l (point c inputs env' g)) is) ∙ m.same inputs);
-}
+pub main-last : {whole : Whole} {b c : Builder} {env env' : List ℕ} {g : ℕ} {ws : List Work} {next : Env → RunState} {more : Labelling → Labelling} → ws ≡ []
+    → Moves whole b c env' g [] ws (main-point b env next more) → Step b c 2 env env' next more
+main-last {whole} {b} {c} {env} {env'} {g} {ws} {next} {more} is m =
+    let end : (inputs : List Value) → point c inputs env' g ≡ main-point b env next more inputs = λ inputs. sym
+    (ap (λ l. finish whole c inputs l (point c inputs env' g)) is) ∙ m.same inputs in
+    record {
+      base = m.base;
+      labelling = ap (λ (p : Point). p.labelling) (end []);
+      known = m.standing.ready.placed.known;
+      moved = λ inputs bit. ap (λ (p : Point). p.far) (end inputs);
+    }
 
 pub moves-then : {whole : Whole} {a b c : Builder} {env env' : List ℕ} {g g' : ℕ} {ws' : List Work} {target : List Value → Point} (ws : List Work) (w : Work)
     → Moves whole a b env g [] (ws ++ w ∷ []) target

@@ -48,6 +48,7 @@ use Rattle.mpp_inline.specs.inner.Growth.{IsUsable, typed_value, begun_value, be
 use Rattle.driver_core.specs.Weights.{weight_of}
 use Rattle.mpp_inline.specs.inner.Sizes.{load}
 use Rattle.mpp_inline.specs.inner.Observation.{ended, ended_so, nodes_of, numbers_of, Answers}
+use Rattle.mpp_inline.specs.Labelling.{Labelling}
 use Rattle.mpp_inline.specs.Inlined.{IsInlined, HasTruths, IsTruthInput, IsDriverLine}
 use Rattle.mpp_inline.specs.inner.Work.{under, Step}
 use Rattle.mpp_inline.proofs.OutcomeLemmas.{append-none}
@@ -75,9 +76,9 @@ pub last-known : (b : Builder) (env requests : List ℕ) → Sane b → Known b 
 last-known b env [] s k = tt
 last-known b env (x ∷ xs) s k = (known-get x s k, last-known b env xs s k)
 
-pub whole-run : {a b c : Builder} {env env' : List ℕ} {next : Env → RunState} {labels : List Label} {start : List Value → Env} (inputs : List Value)
-    → HasLiterals labels a → Begun a b start env → Step b c 2 env env' next → run c inputs env' ≡ next (start inputs)
-whole-run {a} {b} {c} {env} {env'} {next} {labels} {start} inputs l g s =
+pub whole-run : {a b c : Builder} {env env' : List ℕ} {next : Env → RunState} {labels : List Label} {start : List Value → Env} {more : Labelling → Labelling}
+    (inputs : List Value) → HasLiterals labels a → Begun a b start env → Step b c 2 env env' next more → run c inputs env' ≡ next (start inputs)
+whole-run {a} {b} {c} {env} {env'} {next} {labels} {start} {more} inputs l g s =
     let one : at b inputs 2 ≡ Num (pos 1000000) = g.grows.base.keeps inputs 2 (l.sane.literal 2 (omega arith)) ∙ l.one inputs in
     s.moved inputs (inr one) ∙ ap (λ v. under v (run b inputs env) next) one
     ∙ (λ i. then_do (outcome_of ((g.grows.reported inputs ∙ l.reported inputs) i) (g.value inputs i)) next)
@@ -203,6 +204,9 @@ inlined-plain core base declared requests b outputs inputs many-in n c l a =
       first_labels = first-faces base.labels labels a.labelled.within a.labelled.same;
       further_labels = further-faces (length base.labels) labels a.labelled.others;
       labelled = λ k d h. (every Within b.checks.items a.sane.checks k d h).label;
+      labels_are = ap (λ (l : Labelling). l.labels) a.labelling;
+      checks_are = ap (λ (l : Labelling). l.checks) a.labelling;
+      notes_are = ap (λ (l : Labelling). l.notes) a.labelling;
       nodes_fit = omega (arith, n, c, l, a.labelled.within);
       checks_fit = omega (arith, n, c, l, a.labelled.within);
       notes_fit = omega (arith, n, c, l, a.labelled.within, many);

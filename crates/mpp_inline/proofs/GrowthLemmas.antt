@@ -29,6 +29,7 @@ use Rattle.mpp_inline.proofs.ListLemmas.{all-get, all-set, all-more, all-append,
 use Rattle.mpp_inline.proofs.RunLemmas.{value-kept, value-new, stop-kept, stop-push, read-or, face_fired, read-fired, read-kept, notes-kept, notes-push}
 use Rattle.mpp_inline.proofs.RunLemmas.{notes-within}
 use Rattle.mpp_inline.proofs.OutcomeLemmas.{append-none, or-none}
+use Rattle.mpp_inline.proofs.LabelLemmas.{pushed-labelling}
 use Rattle.mpp_inline.proofs.UsableLemmas.{usable-kept, usable-on, checks-kept, notes-fenced, reads-older, reads-node, IsWithinCount, may-stand, last-or}
 use Rattle.mpp_inline.proofs.UsableLemmas.{read-as-before}
 
@@ -80,10 +81,10 @@ longer-then {a} {b} {c} p q = record {
 }
 
 pub grows-none : {b : Builder} → Sane b → Grows b b
-grows-none s = record { base = longer-none s; reported = λ inputs. refl }
+grows-none s = record { base = longer-none s; labelling = refl; reported = λ inputs. refl }
 
 pub grows-then : {a b c : Builder} → Grows a b → Grows b c → Grows a c
-grows-then p q = record { base = longer-then p.base q.base; reported = λ inputs. q.reported inputs ∙ p.reported inputs }
+grows-then p q = record { base = longer-then p.base q.base; labelling = q.labelling ∙ p.labelling; reported = λ inputs. q.reported inputs ∙ p.reported inputs }
 
 pub known-on : {b c : Builder} {env : List ℕ} → Longer b c → Known b env → Known c env
 known-on {b} {c} {env} l k = record { all = all-more (IsUsable b) (IsUsable c) (λ n h. usable-on l h) env k.all }
@@ -198,6 +199,7 @@ stood-grows {b} {c} {n} p w s =
         keeps_face = old;
         new_faces = λ j h. subst (λ ls. IsDriverLine (get_or ls j (DriverLine 0))) (sym p.labels) (past-line b.labels.items j h);
       };
+      labelling = pushed-labelling p;
       reported = λ inputs.
           let stop : stop_of c inputs ≡ stop_of b inputs =
           (λ i. stop_read (p.labels i) (first_stop (node_values inputs c.nodes.items) (p.checks i)))

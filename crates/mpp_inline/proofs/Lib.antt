@@ -2,6 +2,7 @@ pub mod ListLemmas
 pub mod OutcomeLemmas
 pub mod RunLemmas
 pub mod UsableLemmas
+pub mod LabelLemmas
 pub mod GrowthLemmas
 pub mod CheckGrowth
 pub mod TruthLemmas

@@ -20,6 +20,7 @@ use Rattle.driver_core.specs.Answers.{answer_of, start_of, observation_by}
 use Rattle.driver_core.specs.Meaning.{Env, RunState, goes, then_do, with_values, without, formula_value, chosen_block, failure_cause, unless_stopped, rules_run}
 use Rattle.driver_core.specs.Meaning.{run_of, action_run, block_run, called}
 use Rattle.mpp_inline.specs.Inlined.{IsInlined}
+use Rattle.mpp_inline.specs.Labelling.{Labelling, first_labelling, with_checks, with_rules, with_line, with_action, with_block, with_body, labelling_of}
 use Rattle.mpp_inline.specs.inner.Ruleless.{IsRuleless, left, left_behind, body_left, left_in, core_left}
 use Rattle.mpp_inline.proofs.OutcomeLemmas.{goes-last, then-then}
 use Rattle.mpp_inline.proofs.ListLemmas.{with-same}
@@ -164,26 +165,73 @@ left-lighter core base =
     ap (λ n. body_weight r base.cells (left_in core.bodies) (suc n) core.main) (length-map core.bodies body_left) in
     omega (arith, same, body-lighter r base.cells core.bodies (suc (length core.bodies)) core.main)
 
--- its flat program is that of the driver
+-- ---- labels, checks and notes
+
+module _ (rules : Labelling → Labelling) (b b' : ℕ → Labelling → Labelling) (none : (l : Labelling) → rules l ≡ l) (same : (f : ℕ) (l : Labelling)
+    → b' f l ≡ b f l) where
+  append-labels : (xs ys : List Action) (l : Labelling) → with_block rules b' (block_of (xs ++ ys)) l ≡ with_block rules b' (block_of ys)
+      (with_block rules b' (block_of xs) l)
+  append-labels [] ys l = refl
+  append-labels (x ∷ xs) ys l = append-labels xs ys (with_action rules b' x l)
+
+  mutual
+    one-labels : (a : Action) (l : Labelling) → with_block rules b' (block_of (left a)) l ≡ with_action rules b a l
+    one-labels (assign line c t) l = refl
+    one-labels (clear line c) l = refl
+    one-labels (branch line t x y) l =
+        ap (with_block rules b' (block_of (left_behind [] y))) (all-labels [] x (with_line line l))
+        ∙ all-labels [] y (with_block rules b x (with_line line l))
+    one-labels (partition line xs x) l = all-labels [] x l
+    one-labels (call line names xs f) l = same f l
+    one-labels (solve line names xs) l = sym (none l)
+
+    all-labels : (before : List Action) (x : Block) (l : Labelling)
+        → with_block rules b' (block_of (left_behind before x)) l ≡ with_block rules b x (with_block rules b' (block_of before) l)
+    all-labels before no_actions l = refl
+    all-labels before (an_action a rest) l =
+        all-labels (before ++ left a) rest l
+        ∙ ap (with_block rules b rest) (append-labels before (left a) l ∙ one-labels a (with_block rules b' (block_of before) l))
+
+body-labels : (base : Base) (bodies : List (List Action)) → ((l : Labelling) → with_rules base l ≡ l) → (turns f : ℕ) (l : Labelling)
+    → with_body base (left_in bodies) turns f l ≡ with_body base bodies turns f l
+body-labels base bodies none zero f l = refl
+body-labels base bodies none (suc turns) f l =
+    ap (λ x. with_block (with_rules base) (with_body base (left_in bodies) turns) x l) (body-left bodies f)
+    ∙ all-labels (with_rules base) (with_body base bodies turns) (with_body base (left_in bodies) turns) none (body-labels base bodies none turns) []
+    (body_among bodies f) l
+
+left-labels : (core : Core) (base : Base) → IsRuleless base → labelling_of (core_left core) base ≡ labelling_of core base
+left-labels core base r =
+    ap (λ n. with_body base (left_in core.bodies) (suc n) core.main (first_labelling base.labels)) (length-map core.bodies body_left)
+    ∙ body-labels base core.bodies (λ l. ap (λ cs. with_checks base.labels cs l) r.checks) (suc (length core.bodies)) core.main (first_labelling base.labels)
+
+-- ---- the flat program
+
+-- the flat program of the driver without calls of the rules is that of the driver
 pub inlined-left : (core made : Core) (base : Base) (declared : Declared) (requests : List ℕ) (flat : Flat) (labels : List FaceLabel) (notes : List ℕ)
     → IsRuleless base → made ≡ core_left core → IsInlined made base declared requests flat labels notes
     → IsInlined core base declared requests flat labels notes
-inlined-left core made base declared requests flat labels notes r is h = record {
-  answer = λ inputs typed.
-      h.answer inputs typed
-      ∙ ap Some (ap (λ (k : Core). answer_of k base declared requests inputs) is
-      ∙ ap (observation_by requests) (run-left core base (start_of declared inputs) r));
-  flat_program = h.flat_program;
-  truths = h.truths;
-  inputs = h.inputs;
-  outputs = h.outputs;
-  noted = h.noted;
-  first_labels = h.first_labels;
-  further_labels = h.further_labels;
-  labelled = h.labelled;
-  nodes_fit = h.nodes_fit;
-  checks_fit = h.checks_fit;
-  notes_fit = h.notes_fit;
-  labels_fit = h.labels_fit;
-  size = omega (arith, h.size, ap (λ (k : Core). weight_of k base) is, left-lighter core base);
-}
+inlined-left core made base declared requests flat labels notes r is h =
+    let labelling : labelling_of made base ≡ labelling_of core base = ap (λ (k : Core). labelling_of k base) is ∙ left-labels core base r in
+    record {
+      answer = λ inputs typed.
+          h.answer inputs typed
+          ∙ ap Some (ap (λ (k : Core). answer_of k base declared requests inputs) is
+          ∙ ap (observation_by requests) (run-left core base (start_of declared inputs) r));
+      flat_program = h.flat_program;
+      truths = h.truths;
+      inputs = h.inputs;
+      outputs = h.outputs;
+      noted = h.noted;
+      first_labels = h.first_labels;
+      further_labels = h.further_labels;
+      labelled = h.labelled;
+      labels_are = h.labels_are ∙ ap (λ (l : Labelling). l.labels) labelling;
+      checks_are = h.checks_are ∙ ap (λ (l : Labelling). l.checks) labelling;
+      notes_are = h.notes_are ∙ ap (λ (l : Labelling). l.notes) labelling;
+      nodes_fit = h.nodes_fit;
+      checks_fit = h.checks_fit;
+      notes_fit = h.notes_fit;
+      labels_fit = h.labels_fit;
+      size = omega (arith, h.size, ap (λ (k : Core). weight_of k base) is, left-lighter core base);
+    }

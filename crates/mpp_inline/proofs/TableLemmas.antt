@@ -14,7 +14,8 @@ use Rattle.micro_m.specs.declared.table.Picked.TheVariants.{Cell, Fixed}
 use Rattle.micro_m.specs.Values.{Environment, environment, picked, picked_at, picked_value}
 use Rattle.flat_code.specs.declared.program.Node.TheVariants.{Lit, Do}
 use Rattle.mpp_inline.specs.declared.builder.Builder.{Builder}
-use Rattle.mpp_inline.specs.inner.Growth.{IsUsable, at, denoted, Sane, Known, Pushed, Along, Gives, outside, among_cells}
+use Rattle.mpp_inline.specs.inner.Growth.{IsUsable, at, denoted, Sane, Known, Pushed, Along, Gives}
+use Rattle.mpp_inline.specs.inner.Tables.{outside, among_cells}
 use Rattle.mpp_inline.proofs.UsableLemmas.{usable-on}
 use Rattle.mpp_inline.proofs.GrowthLemmas.{longer-then, grows-then, known-get, denoted-get}
 use Rattle.mpp_inline.proofs.CheckGrowth.{gives-lit}

@@ -17,11 +17,13 @@ use Rattle.mpp_inline.specs.declared.builder.Builder.{Builder}
 use Rattle.mpp_inline.specs.declared.branches.Branches.{Branches}
 use Rattle.mpp_inline.specs.declared.work.Work.{Work}
 use Rattle.mpp_inline.specs.declared.work.Work.TheVariants.{Run, Under, Restore, Return}
+use Rattle.mpp_inline.specs.Labelling.{Labelling}
 use Rattle.mpp_inline.specs.inner.Cells.{picked, written, received, blanked}
+use Rattle.mpp_inline.specs.inner.Labels.{labelling_by}
 use Rattle.mpp_inline.specs.inner.Growth.{IsUsable, at, so_far, denoted, outcome_of, run, entries, Sane, Known, Held, Placed, Ready, Longer, TermStep, Computed}
 use Rattle.mpp_inline.specs.inner.Growth.{Stage, Opened, Merged, SameBut, over_judged, calls}
-use Rattle.mpp_inline.specs.inner.Work.{under, Point, point, Whole, does, does_one, done, finish, ahead, block_ahead, IsBit, Guarding, Kept, Standing, Moves}
-use Rattle.mpp_inline.specs.inner.Work.{Step}
+use Rattle.mpp_inline.specs.inner.Work.{under, Point, point, Whole, does, does_one, adds_one, done, finish, ahead, block_ahead, IsBit, Guarding, Kept, Standing}
+use Rattle.mpp_inline.specs.inner.Work.{Moves, Step}
 use Rattle.mpp_inline.proofs.ListLemmas.{all-more, all-append, all-picked, all-written, all-blanked, picked-map, written-map, blanked-map, restored, same-none}
 use Rattle.mpp_inline.proofs.ListLemmas.{same-back, same-blanked, with-received, without-blanked}
 use Rattle.mpp_inline.proofs.UsableLemmas.{usable-on}
@@ -50,11 +52,13 @@ bit-chosen t x y b p q = ⊎_elim
 
 -- writes that take effect only if the guard is 1
 pub step-written : {b d f : Builder} {env env1 env2 : List ℕ} {g : ℕ} {next : Env → RunState} (given : List (ℕ × ℕ)) → Placed b env g
-    → Stage b d g env env1 (λ e. goes [] e) next → env1 ≡ written given env → Merged d f g [] given env env2 → Step b f g env env2 next
-step-written {b} {d} {f} {env} {env1} {env2} {g} {next} given r s is m =
+    → Stage b d g env env1 (λ e. goes [] e) next → {more : Labelling → Labelling} → labelling_by d ≡ more (labelling_by b) → env1 ≡ written given env
+    → Merged d f g [] given env env2 → Step b f g env env2 next more
+step-written {b} {d} {f} {env} {env1} {env2} {g} {next} given r s labels is m =
     let there : (inputs : List Value) → at d inputs g ≡ at b inputs g = λ inputs. s.base.keeps inputs g r.guard in
     record {
       base = longer-then s.base m.grows.base;
+      labelling = m.grows.labelling ∙ labels;
       known = m.known;
       moved = λ inputs bit. ⊎_elim
           (λ (h : at b inputs g ≡ Num (pos 0)).
@@ -74,16 +78,17 @@ held-picked {b} xs env s k = record { all = all-picked (IsUsable b) 0 xs env (s.
 
 pub set-step : {b c d : Builder} {env env' : List ℕ} {g k : ℕ} (t : Environment → Value) (x : ℕ) → (Sane b → Known b env → TermStep b c env t k)
     → (Placed c env g → IsUsable c k → Merged c d g [] ((x, k) ∷ []) env env') → Placed b env g
-    → Step b d g env env' (λ e. goes [] (set e x (t (environment e))))
+    → Step b d g env env' (λ e. goes [] (set e x (t (environment e)))) (λ labels. labels)
 set-step {b} {c} {d} {env} {env'} {g} {k} t x term write r =
     let t' = term r.sane r.known in
     let l = t'.grows.base in
-    step-written ((x, k) ∷ []) r (set-stage t x term r) refl (write (record { sane = l.sane; known = known-on l r.known; guard = usable-on l r.guard })
+    step-written ((x, k) ∷ []) r (set-stage t x term r) t'.grows.labelling refl
+    (write (record { sane = l.sane; known = known-on l r.known; guard = usable-on l r.guard })
     t'.within)
 
 pub del-step : {b d : Builder} {env env' : List ℕ} {g : ℕ} (x : ℕ) → (Placed b env g → IsUsable b 0 → Merged b d g [] ((x, 0) ∷ []) env env') → Placed b env g
-    → Step b d g env env' (λ e. goes [] (set e x Undef))
-del-step {b} {d} {env} {env'} {g} x write r = step-written ((x, 0) ∷ []) r (del-stage x r) refl (write r (r.sane.literal 0 (omega arith)))
+    → Step b d g env env' (λ e. goes [] (set e x Undef)) (λ labels. labels)
+del-step {b} {d} {env} {env'} {g} x write r = step-written ((x, 0) ∷ []) r (del-stage x r) refl refl (write r (r.sane.literal 0 (omega arith)))
 
 -- a choice for each of these cells, from which some cells are then copied
 merged-received : {d f : Builder} {env env1 env2 : List ℕ} {g : ℕ} (xs ds : List ℕ) → Placed d env g → SameBut ds env env1
@@ -112,28 +117,38 @@ merged-received {d} {f} {env} {env1} {env2} {g} xs ds r frame m =
 -- the rules, with choices for the received cells, and with choices for all defined cells
 pub rules-step : {labels : List Label} {b c d f : Builder} {env env1 env2 : List ℕ} {g : ℕ} {checks' : Env → RunState} {first : Env → Env} (xs : List ℕ)
     → (Sane b → Known b env → Computed b c env env1 (λ e. e) first) → (Ready labels c env1 g → Stage c d g env1 env1 (λ e. goes [] e) checks')
+    → {more : Labelling → Labelling} → (Ready labels c env1 g → labelling_by d ≡ more (labelling_by c))
     → (Placed d env g → Held d (picked 0 xs env1) → Merged d f g [] (picked 0 xs env1) env env2) → Ready labels b env g
-    → Step b f g env env2 (λ e. then_do (checks' (first e)) (λ h. goes [] (with_values xs (environment h) e)))
-rules-step {labels} {b} {c} {d} {f} {env} {env1} {env2} {g} xs defs checks write r =
+    → Step b f g env env2 (λ e. then_do (checks' (first e)) (λ h. goes [] (with_values xs (environment h) e))) more
+rules-step {labels} {b} {c} {d} {f} {env} {env1} {env2} {g} xs defs checks {more} added write r =
     let k = defs r.placed.sane r.placed.known in
     let l1 = k.grows.base in
-    let s = checks (record { placed = record { sane = l1.sane; known = k.known; guard = usable-on l1 r.placed.guard }; labelled = faces-on l1 r.labelled }) in
+    let ready : Ready labels c env1 g = record {
+      placed = record { sane = l1.sane; known = k.known; guard = usable-on l1 r.placed.guard };
+      labelled = faces-on l1 r.labelled;
+    } in
+    let s = checks ready in
     let l = longer-then l1 s.base in
-    step-written (picked 0 xs env1) r.placed (rules-stage xs defs checks r) refl
+    step-written (picked 0 xs env1) r.placed (rules-stage xs defs checks r) (added ready ∙ ap more k.grows.labelling) refl
     (write (record { sane = l.sane; known = known-on l r.placed.known; guard = usable-on l r.placed.guard }) (held-picked xs env1 l.sane s.known))
 
 pub rules-step-all : {labels : List Label} {b c d f : Builder} {env env1 env2 : List ℕ} {g : ℕ} {checks' : Env → RunState} {first : Env → Env} (xs ds : List ℕ)
     → SameBut ds env env1 → (Sane b → Known b env → Computed b c env env1 (λ e. e) first)
     → (Ready labels c env1 g → Stage c d g env1 env1 (λ e. goes [] e) checks')
+    → {more : Labelling → Labelling} → (Ready labels c env1 g → labelling_by d ≡ more (labelling_by c))
     → (Placed d env g → Held d (picked 0 ds env1) → Merged d f g [] (picked 0 ds env1) env env2) → Ready labels b env g
-    → Step b f g env (received 0 xs env2 env) (λ e. then_do (checks' (first e)) (λ h. goes [] (with_values xs (environment h) e)))
-rules-step-all {labels} {b} {c} {d} {f} {env} {env1} {env2} {g} xs ds frame defs checks write r =
+    → Step b f g env (received 0 xs env2 env) (λ e. then_do (checks' (first e)) (λ h. goes [] (with_values xs (environment h) e))) more
+rules-step-all {labels} {b} {c} {d} {f} {env} {env1} {env2} {g} xs ds frame defs checks {more} added write r =
     let k = defs r.placed.sane r.placed.known in
     let l1 = k.grows.base in
-    let s = checks (record { placed = record { sane = l1.sane; known = k.known; guard = usable-on l1 r.placed.guard }; labelled = faces-on l1 r.labelled }) in
+    let ready : Ready labels c env1 g = record {
+      placed = record { sane = l1.sane; known = k.known; guard = usable-on l1 r.placed.guard };
+      labelled = faces-on l1 r.labelled;
+    } in
+    let s = checks ready in
     let l = longer-then l1 s.base in
     let p : Placed d env g = record { sane = l.sane; known = known-on l r.placed.known; guard = usable-on l r.placed.guard } in
-    step-written (picked 0 xs env1) r.placed (rules-stage xs defs checks r) refl
+    step-written (picked 0 xs env1) r.placed (rules-stage xs defs checks r) (added ready ∙ ap more k.grows.labelling) refl
     (merged-received xs ds p frame (write p (held-picked ds env1 l.sane s.known)))
 
 -- the work list as the program grows
@@ -145,11 +160,15 @@ entries-on inputs (p ∷ ps) l a = λ i. (p.0, l.keeps inputs p.1 a.0 i) ∷ ent
 pub done-on : {b c : Builder} (whole : Whole) (inputs : List Value) (w : Work) (p : Point) → Longer b c → Kept b w
     → done whole c inputs w p ≡ done whole b inputs w p
 done-on whole inputs (Run depth block) p l k = refl
-done-on whole inputs (Under g) p l k = λ i. record { guard = l.keeps inputs g k.within i; far = p.far }
+done-on whole inputs (Under g) p l k = λ i. record { guard = l.keeps inputs g k.within i; far = p.far; labelling = p.labelling }
 done-on whole inputs (Restore before) p l
-    k = λ i. record { guard = p.guard; far = then_do p.far (λ e. goes [] (written (entries-on inputs before.items l k.all i) e)) }
+    k = λ i. record { guard = p.guard; far = then_do p.far (λ e. goes [] (written (entries-on inputs before.items l k.all i) e)); labelling = p.labelling }
 done-on whole inputs (Return cells outer) p l
-    k = λ i. record { guard = p.guard; far = then_do p.far (λ e. goes [] (with_values cells.now (environment e) (denoted-on inputs l k i))) }
+    k = λ i. record {
+      guard = p.guard;
+      far = then_do p.far (λ e. goes [] (with_values cells.now (environment e) (denoted-on inputs l k i)));
+      labelling = p.labelling;
+    }
 
 pub finish-on : {b c : Builder} (whole : Whole) (inputs : List Value) (ws : List Work) (p : Point) → Longer b c → AllByRecursion (Kept b) ws
     → finish whole c inputs ws p ≡ finish whole b inputs ws p
@@ -213,17 +232,22 @@ own-guard s = record { within = s.ready.placed.guard; bit = s.bit }
 
 -- a command that pushes no item
 pub step-moves : {whole : Whole} {b c : Builder} {env env' : List ℕ} {g : ℕ} {ws : List Work} (depth : ℕ) (a : Action) → Standing whole b env g ws
-    → Step b c g env env' (does_one whole depth a) → Moves whole b c env' g ws ws (λ inputs. ahead whole b inputs env g depth a)
+    → Step b c g env env' (does_one whole depth a) (adds_one whole depth a) → Moves whole b c env' g ws ws (λ inputs. ahead whole b inputs env g depth a)
 step-moves {whole} {b} {c} {env} {env'} {g} {ws} depth a s t = record {
   base = t.base;
   standing = standing-on t.base t.known s;
   same = λ inputs.
-      (λ i. finish whole c inputs ws (record { guard = t.base.keeps inputs g s.ready.placed.guard i; far = t.moved inputs (s.bit inputs) i }))
+      (λ i. finish whole c inputs ws (record {
+        guard = t.base.keeps inputs g s.ready.placed.guard i;
+        far = t.moved inputs (s.bit inputs) i;
+        labelling = t.labelling i;
+      }))
       ∙ finish-on whole inputs ws (ahead whole b inputs env g depth a) t.base s.left;
 }
 
 -- rewriting of the target
 pub step-moves-is : {whole : Whole} {b c : Builder} {env env' : List ℕ} {g : ℕ} {ws : List Work} {a a' : Action} (depth : ℕ) → a ≡ a'
-    → Standing whole b env g ws → Step b c g env env' (does_one whole depth a) → Moves whole b c env' g ws ws (λ inputs. ahead whole b inputs env g depth a')
+    → Standing whole b env g ws → Step b c g env env' (does_one whole depth a) (adds_one whole depth a)
+    → Moves whole b c env' g ws ws (λ inputs. ahead whole b inputs env g depth a')
 step-moves-is {whole} {b} {c} {env} {env'} {g} {ws} {a} {a'} depth is s t = subst
     (λ x. Moves whole b c env' g ws ws (λ inputs. ahead whole b inputs env g depth x)) is (step-moves depth a s t)

@@ -23,6 +23,7 @@ use Rattle.driver_core.specs.declared.program.Core.{Core}
 use Rattle.driver_core.specs.Answers.{answer_of}
 use Rattle.driver_core.specs.Inputs.{inputs_declared}
 use Rattle.driver_core.specs.Weights.{weight_of}
+use Rattle.mpp_inline.specs.Labelling.{labelling_of}
 use Rattle.mpp_inline.specs.declared.fault.InlineFault.{InlineFault}
 use Rattle.mpp_inline.specs.declared.fault.InlineFault.TheVariants.{DriverTooLarge, Memory}
 
@@ -72,6 +73,10 @@ pub record IsInlined (core : Core) (base : Base) (declared : Declared) (requests
     pub first_labels : take (length base.labels) labels ≡ map Verif base.labels
     pub further_labels : AllByRecursion IsDriverLine (drop (length base.labels) labels)
     pub labelled : All (λ check. check.label < length labels) flat.checks
+    -- which labels, checks and notes there are, and in which order
+    pub labels_are : labels ≡ (labelling_of core base).labels
+    pub checks_are : map (λ check. check.label) flat.checks ≡ (labelling_of core base).checks
+    pub notes_are : notes ≡ (labelling_of core base).notes
     -- its size is bounded by the weight of the driver, and by fixed limits
     pub size : length flat.nodes + length flat.checks + length labels + length notes ≤ 3 + length base.labels + 2 * base.cells + 6 * weight_of core base
     pub nodes_fit : length flat.nodes ≤ most_nodes

@@ -13,9 +13,10 @@ ghost use Rattle.driver_core.specs.Actions.{branch, partition, call};
 ghost use Rattle.driver_core.specs.ActionView.{block_of};
 ghost use Rattle.driver_core.specs.Meaning.{called};
 ghost use Rattle.driver_core.specs.Weights.{formula_weight, weight_of};
+ghost use Rattle.mpp_inline.specs.Labelling.{Labelling, with_body};
 ghost use Rattle.mpp_inline.specs.declared.builder.Builder.{Builder};
 ghost use Rattle.mpp_inline.specs.inner.Growth.{Ready, calls, rules_in_turn};
-ghost use Rattle.mpp_inline.specs.inner.Work.{Standing, Kept, Moves, Step, Whole, ahead, block_ahead, done, point, does, whole_of, whole_by};
+ghost use Rattle.mpp_inline.specs.inner.Work.{Standing, Kept, Moves, Step, Whole, ahead, block_ahead, adds, done, point, does, whole_of, whole_by};
 ghost use Rattle.mpp_inline.specs.inner.Sizes.{load, body_size, action_size, block_size, work_weight, left_weight};
 ghost use Rattle.mpp_inline.specs.inner.Sizes.{body_turns, action_turns, block_turns, work_turns, left_turns};
 
@@ -34,6 +35,8 @@ use std::alloc::{AllocError, Global};
 fn body_at(core: &Core, depth: usize, function: u32) -> &[CCommand]
     ensures means { (ordered : Ordered) → does (whole_of core.now ordered) (depth - 1) result.now
         ≡ calls core.now ordered.base ordered.sequence depth function }
+    ensures labelling { (ordered : Ordered) (l : Labelling) → adds (whole_of core.now ordered) (depth - 1) result.now l
+        ≡ with_body ordered.base core.now.bodies depth function l }
     ensures weight { (ordered : Ordered) → block_size (whole_of core.now ordered) (depth - 1) (block_of result.now)
         ≡ body_size (whole_of core.now ordered) depth function }
     ensures turns { (ordered : Ordered) → block_turns (whole_of core.now ordered) (depth - 1) (block_of result.now)
@@ -306,7 +309,8 @@ pub fn emit_all(
     ensures size { OnOk result (load b.new ≤ load b.old + 6 * weight_of core.now ordered.now.base) }
     ensures step { OnOk result (Ready ordered.now.base.labels b.old env.old.items 2
         → Step b.old b.new 2 env.old.items env.new.items
-        (called (rules_in_turn ordered.now.base ordered.now.sequence) core.now.bodies (length core.now.bodies + 1) core.now.main)) }
+        (called (rules_in_turn ordered.now.base ordered.now.sequence) core.now.bodies (length core.now.bodies + 1) core.now.main)
+        (with_body ordered.now.base core.now.bodies (length core.now.bodies + 1) core.now.main)) }
 {
     let driver = Driver { core, ordered };
     let mut left = Vec::new(alloc);

@@ -9,9 +9,11 @@ ghost use Rattle.rule_order.specs.Orders.{IsOrder, cells_at};
 ghost use Rattle.driver_core.specs.Meaning.{goes};
 ghost use Rattle.driver_core.specs.Weights.{check_weight, base_weight};
 ghost use Rattle.mpp_inline.specs.declared.builder.Builder.{Builder};
+ghost use Rattle.mpp_inline.specs.Labelling.{with_check, with_rules};
 ghost use Rattle.mpp_inline.specs.inner.Cells.{picked};
 ghost use Rattle.mpp_inline.specs.inner.Growth.{Sane, Known, Ready, TermStep, Computed, Stage, SameBut, judged, checked, computed, rules_in_turn};
 ghost use Rattle.mpp_inline.specs.inner.Work.{Step};
+ghost use Rattle.mpp_inline.specs.inner.Labels.{labelling_by};
 ghost use Rattle.mpp_inline.specs.inner.Sizes.{load, positions_weight};
 
 use crate::builder::{Builder, ZERO};
@@ -79,6 +81,7 @@ fn emit_check(
         → d.1 ≡ label → label < length labels.now → Ready labels.now before env guard
         → Stage before b.new guard env env (λ e. goes [] e)
         (λ e. judged labels.now d.1 (term_value (environment e) d.0) e)) }
+    ensures labelling { OnOk result (labelling_by b.new ≡ with_check labels.now label (labelling_by b.old)) }
     ensures size { OnOk result (load b.new ≤ load b.old + 4) }
 {
     if is_stopping(kind_at(labels, label)) {
@@ -96,6 +99,8 @@ fn emit_checks(b: &mut Builder, env: &[u32], guard: u32, base: &Base) -> Result<
     requires room { load b.old + 4 * sum_by check_weight base.now.checks < 2 ^ 32 }
     ensures step { OnOk result (Ready base.now.labels b.old env.now guard
         → Stage b.old b.new guard env.now env.now (λ e. goes [] e) (checked base.now.labels base.now.checks)) }
+    ensures labelling { OnOk result (Ready base.now.labels b.old env.now guard
+        → labelling_by b.new ≡ with_rules base.now (labelling_by b.old)) }
     ensures size { OnOk result (load b.new ≤ load b.old + 4 * sum_by check_weight base.now.checks) }
 {
     for (condition, label, _) in base.checks.as_slice() {
@@ -121,7 +126,8 @@ pub fn emit_rules(
     requires order { IsOrder ordered.now.base ordered.now.sequence }
     requires room { load b.old + 4 * base_weight ordered.now.base < 2 ^ 32 }
     ensures step { OnOk result (Ready ordered.now.base.labels b.old env.old guard
-        → Step b.old b.new guard env.old env.new (rules_in_turn ordered.now.base ordered.now.sequence cells.now)) }
+        → Step b.old b.new guard env.old env.new (rules_in_turn ordered.now.base ordered.now.sequence cells.now)
+        (with_rules ordered.now.base)) }
     ensures size { OnOk result (load b.new ≤ load b.old + 4 * base_weight ordered.now.base) }
 {
     let before = pick_defined(alloc, env, ordered)?;

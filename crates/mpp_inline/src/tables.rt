@@ -7,7 +7,8 @@ ghost use Rattle.m_fixed.specs.Operators.{op_value, chosen};
 ghost use Rattle.micro_m.specs.Trees.{lit};
 ghost use Rattle.micro_m.specs.Values.{environment, picked, picked_value};
 ghost use Rattle.driver_core.specs.Weights.{read_weight};
-ghost use Rattle.mpp_inline.specs.inner.Growth.{IsUsable, Sane, Known, Gives, TermStep, at, denoted, outside};
+ghost use Rattle.mpp_inline.specs.inner.Growth.{IsUsable, Sane, Known, Gives, TermStep, at, denoted};
+ghost use Rattle.mpp_inline.specs.inner.Tables.{outside};
 ghost use Rattle.mpp_inline.specs.inner.Sizes.{load};
 
 use crate::builder::{Builder, UNDEF, ZERO};

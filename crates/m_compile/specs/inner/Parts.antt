@@ -1,11 +1,12 @@
 -- The last steps alone: from rules in an order and requests to a program with its face.
-use Rattle.std.specs.Prelude.{◌≡◌, ℕ, ◌+◌, ◌<◌, ◌≤◌, ◌^◌, List, Option, length, map, take, drop, Some, Ok, Err}
+use Rattle.std.specs.Prelude.{◌≡◌, ℕ, ◌+◌, ◌<◌, ◌≤◌, ◌^◌, true, List, Option, length, map, take, drop, Some, Ok, Err}
 use Rattle.std.specs.List.{AllByRecursion}
 use Rattle.m_places.specs.declared.limits.TheConstants.{DRIVER_WEIGHT, REQUESTS}
 use Rattle.m_fixed.specs.declared.amount.Value.{Value}
 use Rattle.m_places.specs.declared.source.Source.{Source}
 use Rattle.m_symbols.specs.Declarations.{Declared}
 use Rattle.micro_m.specs.declared.base.Base.{Base}
+use Rattle.micro_m.specs.Bases.{is_among}
 use Rattle.observables.specs.declared.face.Face.{Face}
 use Rattle.observables.specs.declared.face.FaceLabel.TheVariants.{Verif}
 use Rattle.flat_code.specs.declared.program.Flat.{Flat}
@@ -25,6 +26,7 @@ use Rattle.m_symbols.specs.Cells.{cell_name}
 use Rattle.m_symbols.specs.declared.request_fault.RequestFault.{RequestFault}
 use Rattle.m_symbols.specs.Requests.{parsed_requests}
 use Rattle.mpp_inline.specs.Inlined.{most_nodes, IsDriverLine}
+use Rattle.mpp_inline.specs.Labelling.{labelling_of}
 use Rattle.mpp_lexer.specs.declared.fault.DriverFault.{DriverFault}
 use Rattle.mpp_parser.specs.declared.command.Driver.{Driver}
 use Rattle.mpp_parser.specs.Faults.{IsDriver, IsFault}
@@ -67,6 +69,10 @@ pub record IsProgram (declared : Declared) (base : Base) (core : Core) (requests
   pub notes : AllByRecursion (λ number. number < length base.labels) (notes_of face.outputs)
   pub first_labels : take (length base.labels) face.labels ≡ map Verif base.labels
   pub further_labels : AllByRecursion IsDriverLine (drop (length base.labels) face.labels)
+  pub labels_are : face.labels ≡ (labelling_of core base).labels
+  pub notes_are : notes_of face.outputs ≡ (labelling_of core base).notes
+  pub checks_among : AllByRecursion (λ check. is_among check.label (labelling_of core base).checks ≡ true) flat.checks
+  pub few_checks : length flat.checks ≤ length (labelling_of core base).checks
   pub nodes_fit : length flat.nodes ≤ most_nodes
   pub checks_fit : length flat.checks ≤ most_nodes
   pub labels_fit : length face.labels ≤ length base.labels + most_nodes

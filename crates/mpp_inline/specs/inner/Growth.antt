@@ -5,7 +5,7 @@ use Rattle.std.specs.List.{AllByRecursion, cons_option}
 use Rattle.std.specs.Option.{option_or}
 use Rattle.m_fixed.specs.declared.amount.Value.{Value}
 use Rattle.m_fixed.specs.declared.amount.Value.TheVariants.{Undef, Num, Over as OverValue}
-use Rattle.m_fixed.specs.declared.operator.Op.TheVariants.{And, At, Le}
+use Rattle.m_fixed.specs.declared.operator.Op.TheVariants.{And}
 use Rattle.m_fixed.specs.Operators.{op_value, truth_of, chosen}
 use Rattle.m_places.specs.declared.verification.Label.{Label}
 use Rattle.m_ast.specs.declared.variable.VariableItem.{VariableItem}
@@ -36,6 +36,8 @@ use Rattle.driver_core.specs.Answers.{first_value, next_input}
 use Rattle.driver_core.specs.Inputs.{type_declared}
 use Rattle.driver_core.specs.Meaning.{Env, RunState, goes, stops, then_do, with_values, unless_stopped, failure_cause, action_run, block_run, called}
 use Rattle.mpp_inline.specs.Inlined.{IsDriverLine, IsTruthInput}
+use Rattle.mpp_inline.specs.Labelling.{first_labelling, with_line}
+use Rattle.mpp_inline.specs.inner.Labels.{labelling_by}
 use Rattle.mpp_inline.specs.inner.Cells.{written}
 use Rattle.mpp_inline.specs.declared.builder.Builder.{Builder}
 use Rattle.mpp_inline.specs.declared.branches.Branches.{Branches}
@@ -217,9 +219,10 @@ pub record Longer (b c : Builder) : Type 0 where
   pub keeps_face : (l : ℕ) → l < faces b → face c l ≡ face b l
   pub new_faces : (l : ℕ) → faces b ≤ l → IsDriverLine (face c l)
 
--- the program has grown by nodes and labels, and reports the same
+-- the program has grown by nodes, has the same labels, checks and notes, and reports the same
 pub record Grows (b c : Builder) : Type 0 where
   pub base : Longer b c
+  pub labelling : labelling_by c ≡ labelling_by b
   pub reported : (inputs : List Value) → so_far c inputs ≡ so_far b inputs
 
 -- the remaining computation, applied to node k of the new program, gives the value of the whole
@@ -272,6 +275,7 @@ over_judged line OverValue env = stops (over_driver line)
 -- the condition of an `if` and the guards of its two blocks
 pub record Opened (b c : Builder) (env : List ℕ) (g line : ℕ) (term : Environment → Value) (r : Branches) : Type 0 where
   pub stage : Stage b c g env env (λ e. goes [] e) (λ e. over_judged line (term (environment e)) e)
+  pub labelling : labelling_by c ≡ with_line line (labelling_by b)
   pub first_within : IsUsable c r.first
   pub second_within : IsUsable c r.second
   pub truth_within : IsUsable c r.truth
@@ -302,6 +306,7 @@ pub record Merged (b c : Builder) (truth : ℕ) (rest whole : List (ℕ × ℕ))
 pub record HasLiterals (labels : List Label) (b : Builder) : Type 0 where
   pub sane : Sane b
   pub labelled : HasFaces labels b
+  pub labelling : labelling_by b ≡ first_labelling labels
   pub one : (inputs : List Value) → at b inputs 2 ≡ Num (pos 1000000)
   pub reported : (inputs : List Value) → so_far b inputs ≡ record { stop = None; notes = [] }
 
@@ -348,20 +353,6 @@ IsAnInput inputs next (Constant amount) = Unit {0}
 abbrev pub kinds_from : List Variable → List InputType
 kinds_from [] = []
 kinds_from (v ∷ vs) = if is_input v.item.role then type_declared v.item.value_word ∷ kinds_from vs else kinds_from vs
-
--- ---- tables
-
--- the value of the cell that the index selects among the first cells of a table, otherwise the
--- given value; the last cell is tested first
-abbrev pub among_cells : Environment → ℕ → Value → ℕ → Value → Value
-among_cells values first index zero other = other
-among_cells values first index (suc n) other =
-    among_cells values first index n (chosen (op_value At index (Num (pos (n * 1000000))) Undef) (values (first + n)) other)
-
--- the value of a table at an index that selects no cell: 0 for a negative index, undefined past the
--- last cell
-abbrev pub outside : Value → Value
-outside index = chosen (op_value Le index (Num (negsuc 999999)) Undef) (Num (pos 0)) Undef
 
 -- ---- the rules in turn
 

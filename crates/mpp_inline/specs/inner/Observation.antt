@@ -10,7 +10,9 @@ use Rattle.observables.specs.Inputs.{AreValuesOf}
 use Rattle.driver_core.specs.declared.program.Core.{Core}
 use Rattle.driver_core.specs.Answers.{answer_of}
 use Rattle.driver_core.specs.Inputs.{inputs_declared}
+use Rattle.mpp_inline.specs.Labelling.{labelling_of}
 use Rattle.mpp_inline.specs.declared.builder.Builder.{Builder}
+use Rattle.mpp_inline.specs.inner.Labels.{labelling_by}
 use Rattle.mpp_inline.specs.inner.Growth.{at, SoFar, so_far, Sane, HasFaces, IsUsable, kinds_from}
 
 -- the observation of a stop if there is one, otherwise of these notes and values
@@ -28,11 +30,12 @@ nodes_of notes = map (λ n. n.0) notes
 abbrev pub numbers_of : List (ℕ × ℕ) → List ℕ
 numbers_of notes = map (λ n. n.1) notes
 
--- a finished program whose outputs are the notes, then the requested cells, and whose observation
--- is the driver's answer
+-- a finished program with the labels, checks and notes of the driver, whose outputs are the notes,
+-- then the requested cells, and whose observation is the driver's answer
 pub record Answers (core : Core) (base : Base) (declared : Declared) (requests : List ℕ) (b : Builder) (outputs : List ℕ) : Type 0 where
   pub sane : Sane b
   pub labelled : HasFaces base.labels b
+  pub labelling : labelling_by b ≡ labelling_of core base
   pub inputs : b.inputs ≡ kinds_from declared.variables
   pub wanted : List ℕ
   pub outputs_are : outputs ≡ nodes_of b.notes.items ++ wanted

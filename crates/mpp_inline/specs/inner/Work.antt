@@ -10,7 +10,9 @@ use Rattle.driver_core.specs.ActionView.{block_of}
 use Rattle.driver_core.specs.Meaning.{Env, RunState, goes, then_do, with_values}
 use Rattle.micro_m.specs.Values.{environment}
 use Rattle.rule_order.specs.declared.ordered.Ordered.{Ordered}
+use Rattle.mpp_inline.specs.Labelling.{Labelling, with_rules, with_action, with_block, with_body}
 use Rattle.mpp_inline.specs.inner.Cells.{written}
+use Rattle.mpp_inline.specs.inner.Labels.{labelling_by}
 use Rattle.mpp_inline.specs.declared.builder.Builder.{Builder}
 use Rattle.mpp_inline.specs.declared.work.Driver.{Driver}
 use Rattle.mpp_inline.specs.declared.work.Work.{Work}
@@ -21,13 +23,15 @@ use Rattle.mpp_inline.specs.inner.Growth.{at, denoted, run, entries, IsUsable, K
 abbrev pub under : Value → RunState → (Env → RunState) → RunState
 under guard outcome next = if is_one guard then then_do outcome next else outcome
 
--- a point of the run: the value of the current guard, and the state so far
+-- a point of the run: the value of the current guard, the state so far, and the labels, checks and
+-- notes so far
 pub record Point : Type 0 where
   pub guard : Value
   pub far : RunState
+  pub labelling : Labelling
 
 abbrev pub point : Builder → List Value → List ℕ → ℕ → Point
-point b inputs env g = record { guard = at b inputs g; far = run b inputs env }
+point b inputs env g = record { guard = at b inputs g; far = run b inputs env; labelling = labelling_by b }
 
 -- a driver and its ordered rules
 pub record Whole : Type 0 where
@@ -47,13 +51,26 @@ does whole depth block = means whole.core whole.ordered.base whole.ordered.seque
 abbrev pub does_one : Whole → ℕ → Action → Env → RunState
 does_one whole depth action = means_one whole.core whole.ordered.base whole.ordered.sequence depth action
 
+-- the labels, checks and notes that commands add
+abbrev pub adds : Whole → ℕ → List Action → Labelling → Labelling
+adds whole depth block l = with_block (with_rules whole.ordered.base) (with_body whole.ordered.base whole.core.bodies depth) (block_of block) l
+
+abbrev pub adds_one : Whole → ℕ → Action → Labelling → Labelling
+adds_one whole depth action l = with_action (with_rules whole.ordered.base) (with_body whole.ordered.base whole.core.bodies depth) action l
+
 -- the point after an item is processed
 abbrev pub done : Whole → Builder → List Value → Work → Point → Point
-done whole b inputs (Run depth block) p = record { guard = p.guard; far = under p.guard p.far (does whole depth block.now) }
-done whole b inputs (Under k) p = record { guard = at b inputs k; far = p.far }
-done whole b inputs (Restore before) p = record { guard = p.guard; far = then_do p.far (λ e. goes [] (written (entries b inputs before.items) e)) }
+done whole b inputs (Run depth block)
+    p = record { guard = p.guard; far = under p.guard p.far (does whole depth block.now); labelling = adds whole depth block.now p.labelling }
+done whole b inputs (Under k) p = record { guard = at b inputs k; far = p.far; labelling = p.labelling }
+done whole b inputs (Restore before)
+    p = record { guard = p.guard; far = then_do p.far (λ e. goes [] (written (entries b inputs before.items) e)); labelling = p.labelling }
 done whole b inputs (Return cells outer)
-    p = record { guard = p.guard; far = then_do p.far (λ e. goes [] (with_values cells.now (environment e) (denoted b inputs outer.items))) }
+    p = record {
+      guard = p.guard;
+      far = then_do p.far (λ e. goes [] (with_values cells.now (environment e) (denoted b inputs outer.items)));
+      labelling = p.labelling;
+    }
 
 -- the point after all items are processed, the head of the list last
 abbrev pub finish : Whole → Builder → List Value → List Work → Point → Point
@@ -62,11 +79,19 @@ finish whole b inputs (w ∷ ws) p = done whole b inputs w (finish whole b input
 
 -- the point after one command
 abbrev pub ahead : Whole → Builder → List Value → List ℕ → ℕ → ℕ → Action → Point
-ahead whole b inputs env g depth a = record { guard = at b inputs g; far = under (at b inputs g) (run b inputs env) (does_one whole depth a) }
+ahead whole b inputs env g depth a = record {
+  guard = at b inputs g;
+  far = under (at b inputs g) (run b inputs env) (does_one whole depth a);
+  labelling = adds_one whole depth a (labelling_by b);
+}
 
 -- the point after a block
 abbrev pub block_ahead : Whole → Builder → List Value → List ℕ → ℕ → ℕ → List Action → Point
-block_ahead whole b inputs env g depth block = record { guard = at b inputs g; far = under (at b inputs g) (run b inputs env) (does whole depth block) }
+block_ahead whole b inputs env g depth block = record {
+  guard = at b inputs g;
+  far = under (at b inputs g) (run b inputs env) (does whole depth block);
+  labelling = adds whole depth block (labelling_by b);
+}
 
 abbrev pub IsBit : Value → Type 0
 IsBit v = (v ≡ Num (pos 0)) ⊎ (v ≡ Num (pos 1000000))
@@ -96,8 +121,10 @@ pub record Moves (whole : Whole) (b c : Builder) (env : List ℕ) (g : ℕ) (ws 
   pub standing : Standing whole c env g ws'
   pub same : (inputs : List Value) → finish whole c inputs ws' (point c inputs env g) ≡ finish whole b inputs ws (target inputs)
 
--- a change of the environment that takes effect only if the guard is 1
-pub record Step (b c : Builder) (g : ℕ) (env env' : List ℕ) (next : Env → RunState) : Type 0 where
+-- a change of the environment that takes effect only if the guard is 1, and what it adds to the
+-- labels, checks and notes
+pub record Step (b c : Builder) (g : ℕ) (env env' : List ℕ) (next : Env → RunState) (more : Labelling → Labelling) : Type 0 where
   pub base : Longer b c
+  pub labelling : labelling_by c ≡ more (labelling_by b)
   pub known : Known c env'
   pub moved : (inputs : List Value) → IsBit (at b inputs g) → run c inputs env' ≡ under (at b inputs g) (run b inputs env) next

@@ -1,8 +1,9 @@
-use Rattle.std.proofs.Common.{◌+◌, ◌++◌, map, length, get_or, sym, ap, ◌∙◌, arith}
+use Rattle.std.proofs.Common.{◌+◌, ◌++◌, map, length, get_or, sym, ap, ◌∙◌, arith, add-one}
 use Rattle.std.proofs.lemmas.Result.{IfOk-weaker}
 use Rattle.std.proofs.lemmas.List.{length-map}
 use Rattle.driver_core.specs.Answers.{start_from, observation_by}
 use Rattle.driver_core.specs.Meaning.{called}
+use Rattle.mpp_inline.specs.Labelling.{first_labelling, with_body}
 use Rattle.mpp_inline.specs.inner.Growth.{Ready, HasLiterals, Begun, begun_from, rules_in_turn}
 use Rattle.mpp_inline.specs.inner.Observation.{nodes_of}
 use Rattle.mpp_inline.specs.inner.Work.{Step}
@@ -37,11 +38,14 @@ returns-clause-answers c =
       };
       labelled = faces-on begun.grows.base literal.labelled;
     } in
-    let step : Step b1 b2 2 e f next = c.in_ok-emit_all.ensures.step ready in
+    let more = with_body base core.bodies (length core.bodies + 1) core.main in
+    let step : Step b1 b2 2 e f next more = c.in_ok-emit_all.ensures.step ready in
     let wanted = map (λ x. get_or f x 0) requests in
     record {
       sane = step.base.sane;
       labelled = faces-on step.base ready.labelled;
+      labelling = step.labelling ∙ ap more (begun.grows.labelling ∙ literal.labelling)
+          ∙ ap (λ n. with_body base core.bodies n core.main (first_labelling base.labels)) (add-one (length core.bodies));
       inputs = step.base.inputs ∙ begun.grows.base.inputs ∙ c.requires.inputs;
       wanted = wanted;
       outputs_are = given ∙ (λ i. nodes_of (c.deref.ensures.value i) ++ map (λ x. get_or (c.deref-2.ensures.value i) x 0) requests);

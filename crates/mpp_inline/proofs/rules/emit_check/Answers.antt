@@ -4,6 +4,7 @@ use Rattle.m_places.specs.declared.verification.Label.{Label}
 use Rattle.m_places.specs.declared.verification.ErrorKind.TheVariants.{Anomalie}
 use Rattle.micro_m.specs.Failures.{is_stopping, kind_at}
 use Rattle.mpp_inline.specs.inner.Growth.{CheckedRule, NotedAt}
+use Rattle.mpp_inline.proofs.LabelLemmas.{rule-labelling, noted-labelling}
 use Rattle.mpp_inline.proofs.StageLemmas.{rule-stage, noted-stage}
 use Rattle.mpp_inline.proofs.rules.emit_check.Goals as goal
 
@@ -37,4 +38,22 @@ returns-clause-step c =
     (subst (λ n. CheckedRule b d0 c.args.guard c.args.condition true n) (sym same) c.in_ok-check_rule.ensures)
     c.in_ok-truth.ensures c.in_ok-node.ensures
     (subst (λ n. NotedAt d2 last c.in_ok-node.node n) (sym same) p) r)
+    c.note.ensures
+
+pub returns-then-is_stopping-clause-labelling : goal.returns-then-is_stopping-clause-labelling
+returns-then-is_stopping-clause-labelling c =
+    let labels = c.args.labels.now in
+    let stops : is_stopping (kind_at labels c.args.label) ≡ true = ap is_stopping (sym c.kind_at.ensures) ∙ sym c.is_stopping.ensures ∙ c.if-is_stopping.true in
+    on_ok_weaker c.check_rule.result
+    (λ (p : CheckedRule c.args.b.now c.check_rule.new.self c.args.guard c.args.condition false c.args.label). rule-labelling labels c.args.label stops p)
+    c.check_rule.ensures
+
+pub returns-clause-labelling : goal.returns-clause-labelling
+returns-clause-labelling c =
+    let labels = c.args.labels.now in
+    let stops : is_stopping (kind_at labels c.args.label) ≡ false = ap is_stopping (sym c.kind_at.ensures) ∙ sym c.is_stopping.ensures
+    ∙ c.if-is_stopping.false in
+    on_ok_weaker c.note.result
+    (λ (p : NotedAt c.push-2.new.self c.note.new.self c.in_ok-node.node c.args.label).
+    noted-labelling labels c.args.label stops c.in_ok-check_rule.ensures c.in_ok-truth.ensures c.in_ok-node.ensures p)
     c.note.ensures

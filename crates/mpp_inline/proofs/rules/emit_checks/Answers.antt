@@ -4,9 +4,11 @@ use Rattle.std.proofs.lemmas.List.Sums.{sum_by-cons}
 use Rattle.micro_m.specs.Values.{environment, term_value}
 use Rattle.driver_core.specs.Meaning.{goes}
 use Rattle.driver_core.specs.Weights.{check_weight}
+use Rattle.mpp_inline.specs.Labelling.{with_check, with_checks}
 use Rattle.mpp_inline.specs.inner.Growth.{Ready, Stage, judged, checked}
+use Rattle.mpp_inline.specs.inner.Labels.{labelling_by}
 use Rattle.mpp_inline.proofs.ListLemmas.{drop_next}
-use Rattle.mpp_inline.proofs.StageLemmas.{stage-next}
+use Rattle.mpp_inline.proofs.StageLemmas.{stage-ready, stage-next}
 use Rattle.mpp_inline.proofs.rules.emit_checks.Goals as goal
 
 pub loop-condition-preserved : goal.loop-condition-preserved
@@ -32,6 +34,13 @@ loop-condition-preserved c =
           (subst (λ ds. Stage c.args.b.now c.loop-condition.b c.args.guard env env (checked base.labels ds) (checked base.labels base.checks)) next
           (c.loop-condition.invariant.step r))
           tried;
+      labelling = λ r.
+          let ready = stage-ready r (c.loop-condition.invariant.step r) in
+          let more = with_checks base.labels (drop (i + 1) items) in
+          ap more (c.in_ok-emit_check.ensures.labelling
+          ∙ (λ x. with_check (c.as_slice.ensures x) d.1 ((c.in_ok-value.ensures.step ready.placed.sane ready.placed.known).grows.labelling x)))
+          ∙ ap (λ ds. with_checks base.labels ds (labelling_by b1)) (sym next)
+          ∙ c.loop-condition.invariant.labelling r;
       size = omega (
         arith,
         c.loop-condition.invariant.size,

@@ -4,6 +4,7 @@ use Rattle.std.proofs.lemmas.Result.{on_ok_weaker}
 use Rattle.micro_m.specs.Bases.{target_at}
 use Rattle.rule_order.specs.Orders.{cells_at}
 use Rattle.driver_core.specs.Weights.{base_weight}
+use Rattle.mpp_inline.specs.Labelling.{with_rules}
 use Rattle.mpp_inline.specs.inner.Cells.{picked, written, received}
 use Rattle.mpp_inline.specs.inner.Growth.{Placed, Held, Merged, SameBut, cells_of, rules_in_turn}
 use Rattle.mpp_inline.specs.inner.Work.{Step}
@@ -77,6 +78,7 @@ returns-then-cells-len-clause-step c =
     rules-step xs
     c.in_ok-emit_definitions.ensures.step
     c.in_ok-emit_checks.ensures.step
+    c.in_ok-emit_checks.ensures.labelling
     (subst (λ x. Placed d2 x g → Held d2 (picked 0 xs f) → Merged d2 last g [] (picked 0 xs f) x h) back
     (subst (λ ps. Placed d2 c.write.new.env g → Held d2 ps → Merged d2 last g [] ps c.write.new.env h) given m)))
     c.write_under.ensures.step
@@ -153,10 +155,11 @@ returns c =
     ∙ restored cells e m changed in
     let end : c.write-4.new.env ≡ received 0 xs m e = c.write-4.ensures ∙ (λ i. written ((c.deref-5.ensures.value ∙ c.in_ok-given-2.ensures) i) (back2 i)) in
     record {
-      step = λ r. subst (λ x. Step b last g e x (rules_in_turn base sequence xs)) (sym end)
+      step = λ r. subst (λ x. Step b last g e x (rules_in_turn base sequence xs) (with_rules base)) (sym end)
           (rules-step-all xs cells frame
           c.in_ok-emit_definitions.ensures.step
           c.in_ok-emit_checks.ensures.step
+          c.in_ok-emit_checks.ensures.labelling
           (subst (λ x. Placed d2 x g → Held d2 (picked 0 cells f) → Merged d2 last g [] (picked 0 cells f) x m) back
           (subst (λ ps. Placed d2 c.write-2.new.env g → Held d2 ps → Merged d2 last g [] ps c.write-2.new.env m) after c.in_ok-write_under.ensures.step))
           r);

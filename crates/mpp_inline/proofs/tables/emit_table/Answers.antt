@@ -1,6 +1,7 @@
 use Rattle.std.proofs.Common.{◌≡◌, suc, ◌-◌, subst, arith}
 use Rattle.micro_m.specs.Values.{environment, picked, picked_value}
-use Rattle.mpp_inline.specs.inner.Growth.{at, denoted, Along, among_cells}
+use Rattle.mpp_inline.specs.inner.Growth.{at, denoted, Along}
+use Rattle.mpp_inline.specs.inner.Tables.{among_cells}
 use Rattle.mpp_inline.proofs.TableLemmas.{table-first, table-next}
 use Rattle.mpp_inline.proofs.tables.emit_table.Goals as goal
 

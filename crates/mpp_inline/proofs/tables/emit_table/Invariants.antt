@@ -1,6 +1,7 @@
 use Rattle.std.proofs.Common.{◌≤◌, ◌+◌, ◌*◌}
 use Rattle.micro_m.specs.Values.{environment, picked, picked_value}
-use Rattle.mpp_inline.specs.inner.Growth.{IsUsable, at, denoted, Sane, Known, Along, among_cells}
+use Rattle.mpp_inline.specs.inner.Growth.{IsUsable, at, denoted, Sane, Known, Along}
+use Rattle.mpp_inline.specs.inner.Tables.{among_cells}
 use Rattle.mpp_inline.specs.inner.Sizes.{load}
 use Rattle.mpp_inline.proofs.tables.emit_table.Given as goal
 
