@@ -7,9 +7,9 @@ use Rattle.code_file.specs.Reading.{IsFormOf}
 use Rattle.code_file.specs.declared.loaded.Loaded.{Loaded}
 use Rattle.m_symbols.specs.Declarations.{Declared}
 use Rattle.micro_m.specs.declared.base.Base.{Base}
-use Rattle.m_compile.specs.Compiled.{IsCompiled}
+use Rattle.m_compile.specs.Compiled.{IsProgramOf}
 use Rattle.m_compile.specs.Sources.{HasRules}
-use Rattle.m_compile.specs.declared.compiling.Compiled.{Compiled}
+use Rattle.m_compile.specs.declared.compiling.Program.{Program}
 use Rattle.why_session.specs.Explains.{Explaining}
 use Rattle.command_answers.specs.Explained.{IsExplained}
 use Rattle.rule_answers.specs.Lints.{lint_text}
@@ -51,7 +51,7 @@ pub record IsValidCommand (words : List (List ℕ)) (disk : Disk) : Type 0 where
 
 -- Two outputs that count as one: they have the same text and status; or they reject rule files with several cycles, or
 -- a driver with several recursions, and show one of these each; or they are code files compiled from one source, or
--- findings about one base and its compiled source; or they are the replies to one input, and may give different
+-- findings about one base and its program; or they are the replies to one input, and may give different
 -- reasons for the values of one source's variables.
 pub data AreOneOutput : List ℕ → Status → List ℕ → Status → Type 0 where
   the_same : {text other : List ℕ} {status outcome : Status} → text ≡ other → status ≡ outcome → AreOneOutput text status other outcome
@@ -60,8 +60,8 @@ pub data AreOneOutput : List ℕ → Status → List ℕ → Status → Type 0 w
   both_compiled : {text other_text : List ℕ} (source : Source) (one other : Loaded) → IsPreparedCode source one → IsFormOf text one
       → IsPreparedCode source other → IsFormOf other_text other
       → AreOneOutput text Done other_text Done
-  both_linted : (source : Source) (declared : Declared) (base : Base) (one other : Compiled) → HasRules source declared base → IsCompiled source one
-      → IsCompiled source other
+  both_linted : (source : Source) (declared : Declared) (base : Base) (one other : Program) → HasRules source declared base → IsProgramOf source one
+      → IsProgramOf source other
       → AreOneOutput (lint_text declared base one) Done (lint_text declared base other) Done
   both_served : (source : Source) (scheme : Scheme) (one other : Explaining) (pairs : List (ℕ × ℤ)) (typed : List ℕ) → IsScheme source scheme
       → IsExplained source one → IsExplained source other

@@ -20,9 +20,9 @@ use Rattle.m_compile.specs.Faults.{AreOneSourceFault}
 use Rattle.m_compile.specs.Faults as laws
 use Rattle.m_compile.specs.Lines.{source_line}
 use Rattle.m_compile.specs.declared.fault.SourceFault.{SourceFault}
-use Rattle.m_compile.specs.Compiled.{IsCompiled}
+use Rattle.m_compile.specs.Compiled.{IsProgramOf}
 use Rattle.m_compile.specs.Faults.{IsSourceFault}
-use Rattle.m_compile.specs.declared.compiling.Compiled.{Compiled}
+use Rattle.m_compile.specs.declared.compiling.Program.{Program}
 use Rattle.m_compile.proofs.OneLaws.{no_valid_and_fault, one_fault, one_rules}
 use Rattle.definedness.specs.Facts.{Possible}
 use Rattle.m_facts.specs.Lines.{facts_text}
@@ -155,9 +155,9 @@ one_code code table t u s r (code_answers loaded scheme form shown h) (code_is_r
 one_code code table t u s r (code_answers one scheme form shown h) (code_answers other also part seen i) =
     one_answer other.face (machine_run other.code) scheme also table t u s r (shown_other scheme one other (one_loaded code one other form part) shown) seen h i
 
--- a compiled source has no fault
-no_compiled_and_fault : (source : Source) (compiled : Compiled) (fault : SourceFault) → IsCompiled source compiled → IsSourceFault source fault → ⊥
-no_compiled_and_fault source compiled fault is f = no_valid_and_fault source is.declared is.base is.written is.requests fault is.valid f
+-- a source that has a program has no fault
+no_compiled_and_fault : (source : Source) (program : Program) (fault : SourceFault) → IsProgramOf source program → IsSourceFault source fault → ⊥
+no_compiled_and_fault source program fault is f = no_valid_and_fault source is.declared is.base is.written is.requests fault is.valid f
 
 same_ranges_line : (fault other : HouseholdFault) (t u : List ℕ) → fault ≡ other → ranges_fault_line fault ≡ Some t → ranges_fault_line other ≡ Some u → t ≡ u
 same_ranges_line fault other t u e a b =
@@ -165,8 +165,8 @@ same_ranges_line fault other t u e a b =
     cc (c, b)
 
 -- ranges give the same facts for two compilations of a source
-given_again : (source : Source) (ranges : Option (List ℕ)) (one other : Compiled) (stated : Result (List Possible) HouseholdFault) → IsCompiled source one
-    → IsCompiled source other
+given_again : (source : Source) (ranges : Option (List ℕ)) (one other : Program) (stated : Result (List Possible) HouseholdFault) → IsProgramOf source one
+    → IsProgramOf source other
     → given_by one.face.inputs ranges ≡ stated → given_by other.face.inputs ranges ≡ stated
 given_again source ranges one other stated is was h = subst (λ inputs. given_by inputs ranges ≡ stated) (same_inputs source one other is was) h
 
@@ -174,20 +174,20 @@ one_facts : (source : Source) (ranges : Option (List ℕ)) (t u : List ℕ) (s r
     → AreOneOutput t s u r
 one_facts source ranges t u s r (facts.source_is_refused fault f k) (facts.source_is_refused other g l) = one_line source.texts fault other t u
     (one_fault source fault other f g) k l
-one_facts source ranges t u s r (facts.source_is_refused fault f k) (ranges_are_refused compiled other is g l) = absurd
-    (no_compiled_and_fault source compiled fault is f)
-one_facts source ranges t u s r (facts.source_is_refused fault f k) (facts_are_found declared base compiled given rules is g) = absurd
-    (no_compiled_and_fault source compiled fault is f)
-one_facts source ranges t u s r (ranges_are_refused compiled other is g l) (facts.source_is_refused fault f k) = absurd
-    (no_compiled_and_fault source compiled fault is f)
+one_facts source ranges t u s r (facts.source_is_refused fault f k) (ranges_are_refused program other is g l) = absurd
+    (no_compiled_and_fault source program fault is f)
+one_facts source ranges t u s r (facts.source_is_refused fault f k) (facts_are_found declared base program given rules is g) = absurd
+    (no_compiled_and_fault source program fault is f)
+one_facts source ranges t u s r (ranges_are_refused program other is g l) (facts.source_is_refused fault f k) = absurd
+    (no_compiled_and_fault source program fault is f)
 one_facts source ranges t u s r (ranges_are_refused one fault is f k) (ranges_are_refused two other was g l) =
     let e : fault ≡ other = cc (given_again source ranges one two (Err fault) is was f, g) in
     the_same (same_ranges_line fault other t u e k l) refl
 one_facts source ranges t u s r (ranges_are_refused one fault is f k) (facts_are_found declared base two given rules was g) =
     let e = given_again source ranges one two (Err fault) is was f in
     cc (e, g)
-one_facts source ranges t u s r (facts_are_found declared base compiled given rules is g) (facts.source_is_refused fault f k) = absurd
-    (no_compiled_and_fault source compiled fault is f)
+one_facts source ranges t u s r (facts_are_found declared base program given rules is g) (facts.source_is_refused fault f k) = absurd
+    (no_compiled_and_fault source program fault is f)
 one_facts source ranges t u s r (facts_are_found declared base one given rules is g) (ranges_are_refused two fault was f k) =
     let e = given_again source ranges one two (Ok given) is was g in
     cc (e, f)

@@ -8,9 +8,9 @@ use Rattle.definedness.specs.Facts.{Possible}
 use Rattle.m_symbols.specs.Declarations.{Declared}
 use Rattle.micro_m.specs.declared.base.Base.{Base}
 use Rattle.m_facts.specs.Lines.{facts_text}
-use Rattle.m_compile.specs.Compiled.{IsCompiled}
+use Rattle.m_compile.specs.Compiled.{IsProgramOf}
 use Rattle.m_compile.specs.Sources.{HasRules}
-use Rattle.m_compile.specs.declared.compiling.Compiled.{Compiled}
+use Rattle.m_compile.specs.declared.compiling.Program.{Program}
 use Rattle.command_plans.specs.Plan.{end_of, gathered, refused, names_fetched}
 use Rattle.command_plans.specs.Views.{Disk}
 use Rattle.command_plans.specs.declared.status.Status.{Status}
@@ -46,11 +46,11 @@ pub record IsValidCommand (words : List (List ℕ)) (disk : Disk) : Type 0 where
 
 -- Two outputs that count as one: they have the same text and status; or they reject rule files with several cycles, or
 -- a driver with several recursions, and show one of these each; or they are the facts, within the same ranges, of one
--- base and its compiled source.
+-- base and its program.
 pub data AreOneOutput : List ℕ → Status → List ℕ → Status → Type 0 where
   the_same : {text other : List ℕ} {status outcome : Status} → text ≡ other → status ≡ outcome → AreOneOutput text status other outcome
   both_cycles : (names others : List (List ℕ)) → AreOneOutput (cycle_line names) Refused (cycle_line others) Refused
   both_recursions : (names others : List (List ℕ)) → AreOneOutput (recursion_line names) Refused (recursion_line others) Refused
-  both_found : (source : Source) (declared : Declared) (base : Base) (one other : Compiled) (given : List Possible) → HasRules source declared base
-      → IsCompiled source one → IsCompiled source other
+  both_found : (source : Source) (declared : Declared) (base : Base) (one other : Program) (given : List Possible) → HasRules source declared base
+      → IsProgramOf source one → IsProgramOf source other
       → AreOneOutput (facts_text base one.tidy one.face given) Done (facts_text base other.tidy other.face given) Done
