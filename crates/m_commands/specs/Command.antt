@@ -5,7 +5,7 @@ use Rattle.std.specs.Option.{option_map, option_map_or, option_or}
 use Rattle.std.specs.Str.{bytes_eq, is_utf8}
 use Rattle.m_places.specs.declared.limits.TheConstants.{CODE_FILE_BYTES, FILE_BYTES, LARGE}
 use Rattle.m_text.specs.Numbers.{whole_number}
-use Rattle.command_plans.specs.Plan.{Plan, done, requests_file, file_plan, and_then}
+use Rattle.command_plans.specs.Plan.{Plan, done, file_plan, and_then}
 use Rattle.command_plans.specs.Source.{source_plan}
 use Rattle.command_plans.specs.declared.source.SourceNames.{SourceNames}
 use Rattle.m_places.specs.declared.source.Source.{Source}
@@ -139,10 +139,6 @@ plan_of (Exec code household) = exec_plan code household
 plan_of (Check list household report) = check_plan list household report
 plan_of (Lint names) = lint_plan names
 plan_of (Cases names table) = work_plan names table work.Cases
-
--- whether the words are a command that fetches a file: its plan requests one
-abbrev pub reads_files : List (List ℕ) → Bool
-reads_files words = option_map_or (λ command. requests_file (plan_of command)) (command_of words) false
 
 -- the greatest number of bytes of a file that a command fetches; `large N` fetches none
 abbrev pub file_limit : Command → ℕ

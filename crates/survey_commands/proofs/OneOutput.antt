@@ -29,22 +29,22 @@ use Rattle.m_facts.specs.Lines.{facts_text}
 use Rattle.survey_commands.specs.Facts.{FactsReplies, facts_are_found, given_by, ranges_are_refused, ranges_fault_line}
 use Rattle.survey_commands.specs.Facts as facts
 use Rattle.survey_commands.proofs.FactsLemmas.{same_inputs}
-use Rattle.command_plans.specs.Plan.{end_of, gathered, refused}
 use Rattle.command_plans.specs.Views.{Disk}
 use Rattle.command_plans.specs.declared.status.Status.{Status}
 use Rattle.command_plans.specs.declared.status.Status.TheVariants.{Done, Refused}
+use Rattle.command_plans.proofs.ValidLemmas.{one_output as one}
 use Rattle.code_answers.specs.Execs.{code_fault_line}
 use Rattle.code_answers.specs.Households.{household_fault_line}
 use Rattle.code_answers.specs.Schemes.{Scheme, observation_for}
 use Rattle.code_answers.specs.Shown.{Shows}
 use Rattle.survey_commands.specs.Answer.{Replies}
-use Rattle.survey_commands.specs.Command.{plan_of}
+use Rattle.survey_commands.specs.Command.{command_of, plan_of}
 use Rattle.survey_commands.specs.Csv.{field_text}
-use Rattle.survey_commands.specs.Output.{Output, usage, refuses, answers, AreOneOutput, both_cycles, both_found, both_recursions, the_same}
+use Rattle.survey_commands.specs.Lines.{usage_line}
+use Rattle.survey_commands.specs.Output.{Output, AreOneOutput, both_cycles, both_found, both_recursions, the_same}
 use Rattle.survey_commands.specs.Records.{header, rows_records, table_text, observation_fields}
 use Rattle.survey_commands.specs.Tables.{CodeReplies, SchemeReplies, SourceReplies, code_answers, code_is_refused, rows_are_answered, source_answers}
 use Rattle.survey_commands.specs.Tables.{source_is_refused, table_is_refused}
-use Rattle.survey_commands.specs.declared.command.Command.{Command}
 use Rattle.survey_commands.specs.declared.work.Work.{Work}
 use Rattle.survey_commands.specs.declared.work.Work.TheVariants.{Table, Facts, CodeTable, Version}
 use Rattle.survey_commands.proofs.Schemes.{no_form_and_fault, no_scheme_and_fault, one_inputs, one_loaded, one_scheme, shown_other}
@@ -206,26 +206,6 @@ one_reply Version t u s r a b = the_same (a.0 ∙ sym b.0) (a.1 ∙ sym b.1)
 
 -- The same words and files have one output.
 pub one_output : (words : List (List ℕ)) (disk : Disk) (t u : List ℕ) (s r : Status) → Output words disk t s → Output words disk u r → AreOneOutput t s u r
-one_output words disk t u s r (usage e) (usage f) = the_same refl refl
-one_output words disk t u s r (usage e) (refuses b f h) = cc (e, f)
-one_output words disk t u s r (usage e) (answers b w f h y) = cc (e, f)
-one_output words disk t u s r (refuses a e g) (usage f) = cc (e, f)
-one_output words disk t u s r (refuses a e g) (refuses b f h) =
-    let c : a ≡ b = cc (e, f) in
-    let i : end_of disk (plan_of b) ≡ refused t = subst (λ (x : Command). end_of disk (plan_of x) ≡ refused t) c g in
-    let j : t ≡ u = cc (i, h) in
-    the_same j refl
-one_output words disk t u s r (refuses a e g) (answers b w f h y) =
-    let c : a ≡ b = cc (e, f) in
-    let i : end_of disk (plan_of b) ≡ refused t = subst (λ (x : Command). end_of disk (plan_of x) ≡ refused t) c g in
-    cc (i, h)
-one_output words disk t u s r (answers a v e g x) (usage f) = cc (e, f)
-one_output words disk t u s r (answers a v e g x) (refuses b f h) =
-    let c : a ≡ b = cc (e, f) in
-    let i : end_of disk (plan_of b) ≡ gathered v = subst (λ (x : Command). end_of disk (plan_of x) ≡ gathered v) c g in
-    cc (i, h)
-one_output words disk t u s r (answers a v e g x) (answers b w f h y) =
-    let c : a ≡ b = cc (e, f) in
-    let i : end_of disk (plan_of b) ≡ gathered v = subst (λ (x : Command). end_of disk (plan_of x) ≡ gathered v) c g in
-    let k : v ≡ w = cc (i, h) in
-    one_reply w t u s r (subst (λ (z : Work). Replies z t s) k x) y
+one_output words disk t u s r a b =
+    one plan_of Replies usage_line AreOneOutput (command_of words) disk t u s r (λ text other status outcome e f. the_same e f)
+    (λ work text other status outcome x y. one_reply work text other status outcome x y) a b

@@ -4,7 +4,7 @@ use Rattle.std.specs.List.{list_all}
 use Rattle.std.specs.Option.{option_map_or, option_or}
 use Rattle.std.specs.Str.{bytes_eq, is_utf8}
 use Rattle.m_places.specs.declared.limits.TheConstants.{CODE_FILE_BYTES, FILE_BYTES}
-use Rattle.command_plans.specs.Plan.{Plan, done, requests_file, file_plan, and_then}
+use Rattle.command_plans.specs.Plan.{Plan, done, file_plan, and_then}
 use Rattle.command_plans.specs.Source.{optional_plan, source_plan}
 use Rattle.command_plans.specs.declared.source.SourceNames.{SourceNames}
 use Rattle.survey_commands.specs.declared.command.Command.{Command}
@@ -72,10 +72,6 @@ plan_of (Table names table) = source_table_plan names table
 plan_of (Facts names ranges) = facts_plan names ranges
 plan_of (CodeTable code table) = code_table_plan code table
 plan_of Version = done work.Version
-
--- whether the words are a command that fetches a file: its plan requests one
-abbrev pub reads_files : List (List ℕ) → Bool
-reads_files words = option_map_or (λ command. requests_file (plan_of command)) (command_of words) false
 
 -- the greatest number of bytes of a file that a command fetches
 abbrev pub file_limit : Command → ℕ
