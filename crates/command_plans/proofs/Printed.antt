@@ -1,5 +1,5 @@
 -- The status after a text was printed, and what was written.
-use Rattle.std.proofs.Common.{◌≡◌, ℕ, List, sym, ap, ◌∙◌, subst, arith, inl, inr}
+use Rattle.std.proofs.Common.{◌≡◌, ℕ, List, Option, Some, sym, ap, ◌∙◌, subst, arith, inl, inr}
 use Rattle.std.specs.Prelude.{◌⊎◌}
 use Rattle.std.specs.Io.KnownBytes.{append_known}
 use Rattle.m_ports.specs.Counts.{Rose}
@@ -70,3 +70,10 @@ writes_text text own old new status (inr p) unlike = record { only = λ e. p.0.1
 
 pub writes_nothing : (old new : OutputView) (status : Status) → new ≡ old → status ≡ Memory → ReportsWrites old new status
 writes_nothing old new status same m = writes_none old new status (ap (λ (o : OutputView). o.faults) same) (λ e. cc (m, e))
+
+-- ---- error lines
+
+-- equal faults have equal lines
+pub one_line : {Fault : Type 0} (line_of : Fault → Option (List ℕ)) (fault other : Fault) (t u : List ℕ) → fault ≡ other → line_of fault ≡ Some t
+    → line_of other ≡ Some u → t ≡ u
+one_line line_of fault other t u e a b = let c = ap line_of e in cc (a, b, c)

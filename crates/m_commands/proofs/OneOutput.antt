@@ -36,7 +36,8 @@ use Rattle.m_commands.proofs.Cases.{one_cases}
 use Rattle.m_commands.proofs.Checks.{one_check}
 use Rattle.m_commands.proofs.Codes.{one_compile, one_exec}
 use Rattle.m_commands.proofs.Lints.{one_lint}
-use Rattle.m_commands.proofs.Schemes.{not_refused, one_refusal, one_scheme, stated_other}
+use Rattle.command_answers.proofs.SchemeLaws.{one_scheme}
+use Rattle.m_commands.proofs.Schemes.{not_refused, one_refusal, stated_other}
 
 -- the pairs of a household are the same for two schemes of a source
 one_pairs : (source : Source) (rows : List ℕ) (one other : Scheme) (pairs given : List (ℕ × ℤ)) → IsScheme source one → IsScheme source other

@@ -29,7 +29,7 @@ use Rattle.code_answers.proofs.Ways.{answered_as}
 use Rattle.command_answers.specs.Sources.{IsScheme}
 use Rattle.survey_commands.specs.Facts.{FactsHaveAnswer, FactsReplies, facts_are_found, given_by, ranges_are_refused, ranges_fault_line, source_is_refused}
 use Rattle.survey_commands.specs.inner.Finding.{IsFactsBy, IsFactsOf, are_facts, are_found, are_refused}
-use Rattle.survey_commands.proofs.Schemes.{no_scheme_and_fault}
+use Rattle.command_answers.proofs.SchemeLaws.{no_scheme_and_fault}
 
 -- ---- one source
 
@@ -45,13 +45,6 @@ pub scheme_inputs : (source : Source) (scheme : Scheme) (program : Program) → 
 scheme_inputs source scheme program v is =
     let same = (one_validity source is.declared v.declared is.base v.base is.written v.written is.requests v.requests is.valid v.valid).0 in
     is.inputs ∙ ap inputs_declared same ∙ sym (ap (λ (s : Scheme). s.inputs) v.stated)
-
--- the first labels are those of the base
-pub labels_first : (source : Source) (declared : Declared) (base : Base) (program : Program) → HasRules source declared base → IsProgramOf source program
-    → take (length base.labels) program.face.labels ≡ map Verif base.labels
-labels_first source declared base program rules is =
-    let same = (one_rules source is.declared declared is.base base is.valid.rules rules).1 in
-    subst (λ (b : Base). take (length b.labels) program.face.labels ≡ map Verif b.labels) same is.first_labels
 
 -- ---- from what was printed to the answer
 

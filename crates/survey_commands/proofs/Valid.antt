@@ -18,7 +18,9 @@ use Rattle.survey_commands.specs.declared.work.Work.{Work}
 use Rattle.survey_commands.specs.declared.work.Work.TheVariants.{Table, Facts, CodeTable, Version}
 use Rattle.survey_commands.specs.inner.Courses.{Course}
 use Rattle.survey_commands.proofs.FactsLemmas.{facts_complete}
-use Rattle.survey_commands.proofs.Schemes.{no_form_and_fault, no_scheme_and_fault, one_loaded, one_scheme}
+use Rattle.code_file.proofs.FormLaws.{no-fault-of-form}
+use Rattle.code_answers.proofs.OneLaws.{one_loaded}
+use Rattle.command_answers.proofs.SchemeLaws.{no_scheme_and_fault, one_scheme}
 use Rattle.survey_commands.proofs.Ways.{Way, way_of, observe, lacks_memory, breaks_off}
 
 -- a table without a fault isn't rejected
@@ -34,7 +36,7 @@ replies_complete (Table source table) text status h (source_answers scheme v a) 
     table_complete h.scheme table text status h.rows h.given
     (subst (λ (x : Scheme). SchemeReplies x table text status) (one_scheme source scheme h.scheme v h.valid) a)
 replies_complete (Facts source ranges) text status h r = facts_complete source ranges text status h r
-replies_complete (CodeTable code table) text status h (code_is_refused fault f k) = absurd (no_form_and_fault code h.loaded fault h.form f)
+replies_complete (CodeTable code table) text status h (code_is_refused fault f k) = absurd (no-fault-of-form code h.loaded fault h.form f)
 replies_complete (CodeTable code table) text status h (code_answers loaded scheme form shown a) =
     table_complete scheme table text status h.rows (subst (λ inputs. table_of inputs table ≡ Ok h.rows) ((one_loaded code h.loaded loaded h.form form).inputs
     ∙ shown.inputs) h.given) a
