@@ -70,17 +70,17 @@ pub writing_of : {Command Work : Type 0} (plan_of : Command → Plan Work) (Repl
     {Untouched : Type 0} {Answers : Command → Work → Type 0} (command : Option Command) (disk : Disk) (Is : List ℕ → Type 0) (before after : FilesView)
     (old new : OutputView) (status : Status)
     → Course plan_of usage_line Untouched Answers command before after old new status → KnowsDisk plan_of command before disk → status ≡ WriteFault
-    → ({text : List ℕ} {own : Status} → Output plan_of Replies usage_line command disk text own → Is text)
+    → ((text : List ℕ) (own : Status) → Output plan_of Replies usage_line command disk text own → Is text)
     → ((made : List Attempt) (name : List ℕ) → after.attempts ≡ before.attempts ++ made → LastFailed made name → Is (unreadable_line name))
     → ((wanted : Command) (work : Work) → command ≡ Some wanted → end_of disk (plan_of wanted) ≡ gathered work → Answers wanted work
     → (text : List ℕ) × Is text × AppendsPrefix old.written new.written text)
     → (text : List ℕ) × Is text × AppendsPrefix old.written new.written text
 writing_of plan_of Replies usage_line command disk Is before after old new status (is_no_command n s h p) t e out unread a =
-    text_front Is usage_line Usage old new status p (λ x. cc) e (out (usage n))
+    text_front Is usage_line Usage old new status p (λ x. cc) e (out usage_line Usage (usage n))
 writing_of plan_of Replies usage_line command disk Is before after old new status (has_no_memory s h o m) t e out unread a = cc (m, e)
 writing_of plan_of Replies usage_line command disk Is before after old new status (ended wanted (ending.Refused refusal) c g h p) t e out unread a =
     text_front Is (refusal_line refusal) Refused old new status p (λ x. cc) e
-    (out (refuses wanted c (refused_end plan_of command wanted disk before after refusal t c g)))
+    (out (refusal_line refusal) Refused (refuses wanted c (refused_end plan_of command wanted disk before after refusal t c g)))
 writing_of plan_of Replies usage_line command disk Is before after old new status (ended wanted (ending.Unreadable name) c g h p) t e out unread a =
     text_front Is (unreadable_line name) ReadFault old new status p (λ x. cc) e
     (unread g.made name g.attempts (walks_fit before.known_files (plan_of wanted) g.made g.spent (Err (ending.Unreadable name)) g.walk))

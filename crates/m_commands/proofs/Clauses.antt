@@ -80,7 +80,7 @@ pub writing_of : (words : List (List ℕ)) (before after : FilesView) (heard rep
     → WritesFront words before after heard reported old new status
 writing_of words before after heard reported old new status course disk typed t i e =
     writing plan_of (λ work. Replies work typed) usage_line (command_of words) disk (IsWholeText words disk typed before after heard reported) before after old new
-    status course t e (λ o. output o) (λ made name a l. unreadable a l refl)
+    status course t e (λ all own o. output o) (λ made name a l. unreadable a l refl)
     (λ wanted work c g a. writing_way words disk typed before after heard reported old new status wanted work c g a.0 i e
     (way_of work heard reported old new status a.1))
 

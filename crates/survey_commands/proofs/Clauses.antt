@@ -49,7 +49,7 @@ writing_way words disk before after old new status command work c g e (breaks_of
 pub writing_of : (words : List (List ℕ)) (before after : FilesView) (old new : OutputView) (status : Status) → Course words before after old new status
     → WritesFront words before after old new status
 writing_of words before after old new status course disk t e =
-    writing plan_of Replies usage_line (command_of words) disk (IsWholeText words disk before after) before after old new status course t e (λ o. output o)
+    writing plan_of Replies usage_line (command_of words) disk (IsWholeText words disk before after) before after old new status course t e (λ all own o. output o)
     (λ made name a l. unreadable a l refl)
     (λ wanted work c g a. writing_way words disk before after old new status wanted work c g e (way_of work old new status a.1))
 
