@@ -17,6 +17,7 @@ use Rattle.m_compile.specs.Faults.{IsSourceFault}
 use Rattle.m_compile.specs.Sources.{HasRules, IsValid}
 use Rattle.m_compile.specs.declared.compiling.Program.{Program}
 use Rattle.m_compile.specs.declared.fault.SourceFault.{SourceFault}
+use Rattle.m_compile.proofs.ProgramLaws.{no_program_and_fault}
 use Rattle.m_compile.proofs.OneLaws.{no_valid_and_fault, one_fault, one_rules, one_validity}
 use Rattle.command_plans.specs.Status.{IsComplete}
 use Rattle.command_plans.specs.declared.status.Status.{Status}
@@ -27,15 +28,11 @@ use Rattle.m_commands.specs.Output.{AreOneOutput, both_linted}
 use Rattle.m_commands.proofs.Codes.{compiled_not_refused}
 use Rattle.m_commands.proofs.Schemes.{one_line}
 
--- a source that has a program has no fault
-no_fault : (source : Source) (program : Program) (fault : SourceFault) → IsProgramOf source program → IsSourceFault source fault → ⊥
-no_fault source program fault is f = no_valid_and_fault source is.declared is.base is.written is.requests fault is.valid f
-
 -- `lint` has one answer, up to the program
 pub one_lint : (source : Source) (t u : List ℕ) (s r : Status) → LintReplies source t s → LintReplies source u r → AreOneOutput t s u r
 one_lint source t u s r (is_refused fault f k) (is_refused other g l) = one_line source.texts fault other t u (one_fault source fault other f g) k l
-one_lint source t u s r (is_refused fault f k) (is_linted declared base program rules is) = absurd (no_fault source program fault is f)
-one_lint source t u s r (is_linted declared base program rules is) (is_refused fault f k) = absurd (no_fault source program fault is f)
+one_lint source t u s r (is_refused fault f k) (is_linted declared base program rules is) = absurd (no_program_and_fault source program fault is f)
+one_lint source t u s r (is_linted declared base program rules is) (is_refused fault f k) = absurd (no_program_and_fault source program fault is f)
 one_lint source t u s r (is_linted declared base one rules is) (is_linted others other two also was) =
     let same = one_rules source declared others base other rules also in
     let e : lint_text declared base two ≡ lint_text others other two = λ i. lint_text (same.0 i) (same.1 i) two in

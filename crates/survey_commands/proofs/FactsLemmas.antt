@@ -16,7 +16,7 @@ use Rattle.m_compile.specs.Lines.{source_line}
 use Rattle.m_compile.specs.Sources.{HasRules}
 use Rattle.m_compile.specs.declared.compiling.Program.{Program}
 use Rattle.m_compile.specs.declared.fault.SourceFault.{SourceFault}
-use Rattle.m_compile.proofs.OneLaws.{one_rules, one_validity}
+use Rattle.m_compile.proofs.OneLaws.{one_validity}
 use Rattle.command_plans.specs.Printing.{IsAnswered, printed, no_memory}
 use Rattle.command_plans.specs.Status.{IsComplete}
 use Rattle.command_plans.specs.Views.{OutputView}
@@ -33,13 +33,7 @@ use Rattle.command_answers.proofs.SchemeLaws.{no_scheme_and_fault}
 
 -- ---- one source
 
--- two compilations of a source have the same inputs
-pub same_inputs : (source : Source) (one other : Program) → IsProgramOf source one → IsProgramOf source other → one.face.inputs ≡ other.face.inputs
-same_inputs source one other is was =
-    let same = (one_validity source is.declared was.declared is.base was.base is.written was.written is.requests was.requests is.valid was.valid).0 in
-    is.inputs ∙ ap inputs_declared same ∙ sym was.inputs
-
--- these are the inputs of its scheme
+-- the inputs of a program are those of its scheme
 pub scheme_inputs : (source : Source) (scheme : Scheme) (program : Program) → IsScheme source scheme → IsProgramOf source program
     → program.face.inputs ≡ scheme.inputs
 scheme_inputs source scheme program v is =

@@ -23,12 +23,12 @@ use Rattle.m_compile.specs.Faults.{IsSourceFault}
 use Rattle.m_compile.specs.declared.compiling.Program.{Program}
 use Rattle.m_compile.proofs.LineLaws.{AreOneLine}
 use Rattle.m_compile.proofs.LineLaws as line_laws
-use Rattle.m_compile.proofs.OneLaws.{no_valid_and_fault, one_fault, one_rules}
+use Rattle.m_compile.proofs.OneLaws.{one_fault, one_rules}
 use Rattle.definedness.specs.Facts.{Possible}
 use Rattle.m_facts.specs.Lines.{facts_text}
 use Rattle.survey_commands.specs.Facts.{FactsReplies, facts_are_found, given_by, ranges_are_refused, ranges_fault_line}
 use Rattle.survey_commands.specs.Facts as facts
-use Rattle.survey_commands.proofs.FactsLemmas.{same_inputs}
+use Rattle.m_compile.proofs.ProgramLaws.{no_program_and_fault, same_inputs}
 use Rattle.command_plans.specs.Views.{Disk}
 use Rattle.command_plans.specs.declared.status.Status.{Status}
 use Rattle.command_plans.specs.declared.status.Status.TheVariants.{Done, Refused}
@@ -142,10 +142,6 @@ one_code code table t u s r (code_answers loaded scheme form shown h) (code_is_r
 one_code code table t u s r (code_answers one scheme form shown h) (code_answers other also part seen i) =
     one_answer other.face (machine_run other.code) scheme also table t u s r (shown_other scheme one other (one_loaded code one other form part) shown) seen h i
 
--- a source that has a program has no fault
-no_compiled_and_fault : (source : Source) (program : Program) (fault : SourceFault) → IsProgramOf source program → IsSourceFault source fault → ⊥
-no_compiled_and_fault source program fault is f = no_valid_and_fault source is.declared is.base is.written is.requests fault is.valid f
-
 -- ranges give the same facts for two compilations of a source
 given_again : (source : Source) (ranges : Option (List ℕ)) (one other : Program) (stated : Result (List Possible) HouseholdFault) → IsProgramOf source one
     → IsProgramOf source other
@@ -157,11 +153,11 @@ one_facts : (source : Source) (ranges : Option (List ℕ)) (t u : List ℕ) (s r
 one_facts source ranges t u s r (facts.source_is_refused fault f k) (facts.source_is_refused other g l) = one_line source.texts fault other t u
     (one_fault source fault other f g) k l
 one_facts source ranges t u s r (facts.source_is_refused fault f k) (ranges_are_refused program other is g l) = absurd
-    (no_compiled_and_fault source program fault is f)
+    (no_program_and_fault source program fault is f)
 one_facts source ranges t u s r (facts.source_is_refused fault f k) (facts_are_found declared base program given rules is g) = absurd
-    (no_compiled_and_fault source program fault is f)
+    (no_program_and_fault source program fault is f)
 one_facts source ranges t u s r (ranges_are_refused program other is g l) (facts.source_is_refused fault f k) = absurd
-    (no_compiled_and_fault source program fault is f)
+    (no_program_and_fault source program fault is f)
 one_facts source ranges t u s r (ranges_are_refused one fault is f k) (ranges_are_refused two other was g l) =
     let e : fault ≡ other = cc (given_again source ranges one two (Err fault) is was f, g) in
     the_same (one_line_of ranges_fault_line fault other t u e k l) refl
@@ -169,7 +165,7 @@ one_facts source ranges t u s r (ranges_are_refused one fault is f k) (facts_are
     let e = given_again source ranges one two (Err fault) is was f in
     cc (e, g)
 one_facts source ranges t u s r (facts_are_found declared base program given rules is g) (facts.source_is_refused fault f k) = absurd
-    (no_compiled_and_fault source program fault is f)
+    (no_program_and_fault source program fault is f)
 one_facts source ranges t u s r (facts_are_found declared base one given rules is g) (ranges_are_refused two fault was f k) =
     let e = given_again source ranges one two (Ok given) is was g in
     cc (e, f)

@@ -1,6 +1,7 @@
 use Rattle.std.proofs.Common.{arith}
 use Rattle.rule_base.proofs.Small.{few-checks}
-use Rattle.rule_answers.proofs.LintLemmas.{inputs_counted, labels_first, lint_answered, lint_refused}
+use Rattle.m_compile.proofs.ProgramLaws.{inputs_counted, labels_first}
+use Rattle.rule_answers.proofs.LintLemmas.{lint_answered, lint_refused}
 use Rattle.rule_answers.proofs.Refusals.{fault_reported}
 use Rattle.rule_answers.proofs.lint.lint_source.Goals as goal
 

@@ -1,7 +1,7 @@
 use Rattle.std.proofs.Common.{arith}
 use Rattle.rule_base.proofs.Small.{few-checks}
 use Rattle.rule_answers.proofs.Refusals.{fault_reported}
-use Rattle.rule_answers.proofs.LintLemmas.{labels_first}
+use Rattle.m_compile.proofs.ProgramLaws.{labels_first}
 use Rattle.survey_commands.proofs.FactsLemmas.{facts_answered, facts_refused}
 use Rattle.survey_commands.proofs.facts.facts_source.Goals as goal
 
