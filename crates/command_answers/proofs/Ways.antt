@@ -1,6 +1,6 @@
 -- From what was found and written to a command's ending.
-use Rattle.std.proofs.Common.{◌≡◌, ℕ, length, List, [], ◌++◌, Ok, Err, refl, sym, ◌∙◌, ap, subst, inl, inr}
-use Rattle.std.specs.Prelude.{Some}
+use Rattle.std.proofs.Common.{◌≡◌, ℕ, length, List, [], ◌++◌, Result, Ok, Err, refl, sym, ◌∙◌, ap, subst, inl, inr}
+use Rattle.std.specs.Prelude.{IfOk, Some}
 use Rattle.m_fixed.specs.declared.amount.Value.{Value}
 use Rattle.m_places.specs.declared.source.Source.{Source}
 use Rattle.tax_print.specs.FaultLines.{input_too_long_line, unreadable_input_line}
@@ -29,6 +29,8 @@ use Rattle.m_compile.specs.Faults.{IsSourceFault}
 use Rattle.m_compile.specs.Lines.{source_line}
 use Rattle.m_compile.specs.declared.compiling.Program.{Program}
 use Rattle.m_compile.specs.declared.fault.SourceFault.{SourceFault}
+use Rattle.m_compile.specs.declared.fault.SourceFault.TheVariants as source_fault
+use Rattle.m_places.specs.Refusals.{Outcome}
 use Rattle.command_plans.specs.Printing.{Appends, Breaks, IsAnswered, Prints, printed, no_memory}
 use Rattle.command_plans.specs.Views.{InputView, OutputView}
 use Rattle.command_plans.specs.declared.status.Status.{Status}
@@ -219,7 +221,7 @@ is_prepared source program is = record {
 }
 
 -- and so is the code of a source
-pub is_prepared_code : (source : Source) (loaded : Loaded) → IsCompiled source loaded → IsPreparedCode source loaded
+is_prepared_code : (source : Source) (loaded : Loaded) → IsCompiled source loaded → IsPreparedCode source loaded
 is_prepared_code source loaded is =
     let program : Program = record { face = loaded.face; tidy = is.tidy } in
     record {
@@ -229,8 +231,15 @@ is_prepared_code source loaded is =
       shows = shows_of source program is.program (machine_run loaded.code) (λ vs. run-is-flat_run loaded.code is.tidy vs is.allocated.flow);
     }
 
-pub is_runnable_code : (source : Source) (loaded : Loaded) → IsCompiled source loaded → IsRunnableCode loaded
-is_runnable_code source loaded is = record { whole = spells_whole loaded.code is.tidy is.allocated.flow; distinct = is.program.runnable.distinct }
+pub prepared_outcome : (source : Source) (result : Result Loaded SourceFault) → Outcome source_fault.Memory result (IsCompiled source) (IsSourceFault source)
+    → Outcome source_fault.Memory result (IsPreparedCode source) (IsSourceFault source)
+prepared_outcome source (Ok loaded) is = is_prepared_code source loaded is
+prepared_outcome source (Err fault) is = is
+
+pub runnable_outcome : (source : Source) (result : Result Loaded SourceFault) → Outcome source_fault.Memory result (IsCompiled source) (IsSourceFault source)
+    → IfOk result (λ loaded. IsRunnableCode loaded)
+runnable_outcome source (Ok loaded) is = record { whole = spells_whole loaded.code is.tidy is.allocated.flow; distinct = is.program.runnable.distinct }
+runnable_outcome source (Err fault) is = tt
 
 -- ---- code files that are written
 

@@ -13,7 +13,7 @@ use m_places::Source;
 use std::alloc::Global;
 use std::thread::Threads;
 
-/// Prepares the code of a source, or gives the source's fault.
+/// Prepares the code of a source, or gives the source's fault: `compile_with`, whose code shows the source's scheme.
 pub fn prepare_code<R: Threads + Sync>(
     rt: &R,
     alloc: Global,
@@ -23,8 +23,5 @@ pub fn prepare_code<R: Threads + Sync>(
     ensures outcome { Outcome Memory result (IsPreparedCode source.now) (IsSourceFault source.now) }
     ensures runnable { IfOk result (λ loaded. IsRunnableCode loaded) }
 {
-    match compile_with(rt, alloc, source) {
-        Ok(loaded) => Ok(loaded),
-        Err(fault) => Err(fault),
-    }
+    compile_with(rt, alloc, source)
 }
