@@ -21,8 +21,8 @@ use Rattle.command_plans.specs.declared.ending.Ending.TheVariants as ending
 use Rattle.command_plans.specs.declared.refusal.Refusal.{Refusal}
 use Rattle.command_plans.specs.declared.status.Status.{Status}
 use Rattle.command_plans.specs.declared.status.Status.TheVariants.{Memory, Refused, Usage, ReadFault, WriteFault}
-use Rattle.command_plans.proofs.Printed.{not_memory, not_read, other_status, read_failed, status_of, text_front, whole_output, whole_text}
-use Rattle.command_plans.proofs.Printed.{writes_nothing, writes_text}
+use Rattle.command_plans.proofs.PrintedLemmas.{not_memory, not_read, other_status, read_failed, status_of, text_front, whole_output, whole_text}
+use Rattle.command_plans.proofs.PrintedLemmas.{writes_nothing, writes_text}
 use Rattle.command_plans.proofs.Walks.{walks_fit, walks_in_order, walks_to_end}
 
 -- ---- the result of a plan

@@ -6,7 +6,7 @@ use Rattle.command_plans.specs.Courses.{is_no_command, has_no_memory, ended, ans
 use Rattle.command_plans.specs.Views.{FilesView, InputView, OutputView}
 use Rattle.command_plans.specs.declared.status.Status.{Status}
 use Rattle.command_plans.specs.declared.status.Status.TheVariants.{Refused}
-use Rattle.command_plans.proofs.Printed.{status_of}
+use Rattle.command_plans.proofs.PrintedLemmas.{status_of}
 use Rattle.command_answers.specs.Serves as serve
 use Rattle.command_answers.specs.Serving.{Served, to_its_end, unread, too_long, unwritten, unwritten_at_end}
 use Rattle.m_commands.specs.Clauses.{KeepsInputLimit}

@@ -14,7 +14,7 @@ use Rattle.code_answers.specs.Cases.{ComparedReplies, cases_count, cases_fault_l
 use Rattle.code_answers.specs.Schemes.{Scheme}
 use Rattle.command_answers.specs.Sources.{IsScheme}
 use Rattle.m_commands.specs.Output.{AreOneOutput, the_same}
-use Rattle.command_plans.proofs.Printed.{one_line as one_line_of}
+use Rattle.command_plans.proofs.PrintedLemmas.{one_line as one_line_of}
 use Rattle.command_answers.proofs.SchemeLaws.{no_scheme_and_fault, one_scheme}
 use Rattle.m_commands.proofs.Schemes.{one_line}
 

@@ -19,7 +19,7 @@ use Rattle.command_plans.specs.declared.status.Status.{Status}
 use Rattle.rule_answers.specs.Checks.{CheckHasAnswer, CheckReplies, ReportReplies, given_by, report_fault_line}
 use Rattle.rule_answers.specs.Checks as check
 use Rattle.m_commands.specs.Output.{AreOneOutput, the_same}
-use Rattle.command_plans.proofs.Printed.{one_line as one_line_of}
+use Rattle.command_plans.proofs.PrintedLemmas.{one_line as one_line_of}
 use Rattle.m_commands.proofs.Schemes.{one_line}
 
 -- the result over the lines is the same

@@ -11,7 +11,7 @@ use Rattle.command_plans.specs.Views.{Disk, FilesView, InputView, OutputView}
 use Rattle.command_plans.specs.declared.status.Status.{Status}
 use Rattle.command_plans.specs.declared.status.Status.TheVariants.{Done, Memory, Refused, ReadFault, WriteFault}
 use Rattle.command_plans.proofs.CourseLemmas.{gathered_end, memory_of as memory, text_of as text, writing_of as writing}
-use Rattle.command_plans.proofs.Printed.{not_memory, read_failed, text_front, whole_output}
+use Rattle.command_plans.proofs.PrintedLemmas.{not_memory, read_failed, text_front, whole_output}
 use Rattle.m_commands.specs.Answer.{Replies}
 use Rattle.m_commands.specs.Command.{command_of, plan_of}
 use Rattle.m_commands.specs.Clauses.{IsTyped, PrintsOutput, StopsInFront, WritesFront, IsWholeText, output, unreadable, cut_off, cuts_off}

@@ -30,7 +30,7 @@ use Rattle.code_answers.specs.Schemes.{Scheme, observation_for}
 use Rattle.command_answers.specs.Sources.{IsScheme}
 use Rattle.m_commands.specs.Output.{AreOneOutput, the_same, both_compiled}
 use Rattle.code_answers.proofs.OneLaws.{one_inputs, one_loaded, shown_other}
-use Rattle.command_plans.proofs.Printed.{one_line as one_line_of}
+use Rattle.command_plans.proofs.PrintedLemmas.{one_line as one_line_of}
 use Rattle.command_answers.proofs.SchemeLaws.{no_scheme_and_fault}
 use Rattle.m_commands.proofs.Schemes.{one_line}
 

@@ -10,7 +10,7 @@ use Rattle.command_plans.specs.Views.{FilesView, InputView, OutputView}
 use Rattle.command_plans.specs.declared.ending.Ending.TheVariants as ending
 use Rattle.command_plans.specs.declared.status.Status.{Status}
 use Rattle.command_plans.specs.declared.status.Status.TheVariants.{Done, ReadFault, Refused, Usage}
-use Rattle.command_plans.proofs.Printed.{other_status}
+use Rattle.command_plans.proofs.PrintedLemmas.{other_status}
 use Rattle.command_answers.specs.Serves as serve
 use Rattle.command_answers.specs.Serving.{Served, to_its_end, unread, too_long, unwritten, unwritten_at_end}
 use Rattle.m_commands.specs.Command.{reads_input, takes_input}

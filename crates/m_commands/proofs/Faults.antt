@@ -9,7 +9,7 @@ use Rattle.command_plans.specs.Views.{FilesView, InputView, OutputView}
 use Rattle.command_plans.specs.declared.status.Status.{Status}
 use Rattle.command_plans.specs.declared.status.Status.TheVariants.{Refused, Usage, ReadFault, WriteFault, Memory}
 use Rattle.command_plans.proofs.CourseLemmas.{memory_of as memory, usage_of as usage, writes_of as writes}
-use Rattle.command_plans.proofs.Printed.{not_memory, other_status, status_of, writes_none, writes_nothing, writes_text}
+use Rattle.command_plans.proofs.PrintedLemmas.{not_memory, other_status, status_of, writes_none, writes_nothing, writes_text}
 use Rattle.m_commands.specs.Command.{command_of, plan_of, reads_input, writes_early}
 use Rattle.m_commands.specs.declared.command.Command.{Command}
 use Rattle.m_commands.specs.declared.work.Work.{Work}

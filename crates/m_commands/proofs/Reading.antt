@@ -8,7 +8,7 @@ use Rattle.command_plans.specs.Views.{FilesView, InputView, OutputView}
 use Rattle.command_plans.specs.declared.status.Status.{Status}
 use Rattle.command_plans.specs.declared.status.Status.TheVariants.{Refused, ReadFault}
 use Rattle.command_plans.proofs.CourseLemmas.{gathered_end, reading_of as reading}
-use Rattle.command_plans.proofs.Printed.{not_read, whole_text}
+use Rattle.command_plans.proofs.PrintedLemmas.{not_read, whole_text}
 use Rattle.m_commands.specs.Command.{command_of, plan_of, reads_input}
 use Rattle.m_commands.specs.Clauses.{ReadsInOrder, ReportsInput, cuts_off}
 use Rattle.m_commands.specs.declared.command.Command.{Command}

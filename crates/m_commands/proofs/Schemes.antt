@@ -15,7 +15,7 @@ use Rattle.m_compile.specs.Faults.{AreOneSourceFault}
 use Rattle.m_compile.proofs.LineLaws.{AreOneLine}
 use Rattle.m_compile.proofs.LineLaws as line_laws
 use Rattle.m_compile.proofs.OneLaws.{one_fault}
-use Rattle.command_plans.proofs.Printed.{one_line as one_line_of}
+use Rattle.command_plans.proofs.PrintedLemmas.{one_line as one_line_of}
 use Rattle.command_answers.proofs.SchemeLaws.{no_scheme_and_fault, one_scheme}
 
 -- the contents of a file are the same for two schemes of a source

@@ -9,7 +9,7 @@ use Rattle.household.specs.Table.{table_of}
 use Rattle.command_plans.specs.Status.{IsComplete}
 use Rattle.command_plans.specs.Views.{FilesView, InputView, OutputView}
 use Rattle.command_plans.specs.declared.status.Status.{Status}
-use Rattle.command_plans.proofs.Printed.{complete_status}
+use Rattle.command_plans.proofs.PrintedLemmas.{complete_status}
 use Rattle.command_plans.proofs.ValidLemmas.{complete_of as complete}
 use Rattle.command_answers.specs.Batches as batch
 use Rattle.command_answers.specs.Compiles as compiles

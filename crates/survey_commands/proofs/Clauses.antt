@@ -10,7 +10,7 @@ use Rattle.command_plans.specs.Views.{Disk, FilesView, OutputView}
 use Rattle.command_plans.specs.declared.status.Status.{Status}
 use Rattle.command_plans.specs.declared.status.Status.TheVariants.{Memory, WriteFault}
 use Rattle.command_plans.proofs.CourseLemmas.{gathered_end, memory_of as memory, text_of as text, writing_of as writing}
-use Rattle.command_plans.proofs.Printed.{not_memory, text_front, whole_output}
+use Rattle.command_plans.proofs.PrintedLemmas.{not_memory, text_front, whole_output}
 use Rattle.survey_commands.specs.Answer.{Replies}
 use Rattle.survey_commands.specs.Command.{command_of, plan_of}
 use Rattle.survey_commands.specs.Clauses.{PrintsOutput, StopsInFront, WritesFront, IsWholeText, output, unreadable}

@@ -7,7 +7,7 @@ use Rattle.command_plans.specs.Views.{FilesView, OutputView}
 use Rattle.command_plans.specs.declared.status.Status.{Status}
 use Rattle.command_plans.specs.declared.status.Status.TheVariants.{Usage, Memory}
 use Rattle.command_plans.proofs.CourseLemmas.{memory_of as memory, usage_of as usage, writes_of as writes}
-use Rattle.command_plans.proofs.Printed.{not_memory, other_status, writes_none, writes_nothing, writes_text}
+use Rattle.command_plans.proofs.PrintedLemmas.{not_memory, other_status, writes_none, writes_nothing, writes_text}
 use Rattle.survey_commands.specs.Command.{command_of, plan_of, writes_early}
 use Rattle.survey_commands.specs.Lines.{usage_line}
 use Rattle.survey_commands.specs.declared.command.Command.{Command}

@@ -49,7 +49,7 @@ use Rattle.survey_commands.specs.declared.work.Work.{Work}
 use Rattle.survey_commands.specs.declared.work.Work.TheVariants.{Table, Facts, CodeTable, Version}
 use Rattle.code_file.proofs.FormLaws.{no-fault-of-form}
 use Rattle.code_answers.proofs.OneLaws.{one_inputs, one_loaded, shown_other}
-use Rattle.command_plans.proofs.Printed.{one_line as one_line_of}
+use Rattle.command_plans.proofs.PrintedLemmas.{one_line as one_line_of}
 use Rattle.command_answers.proofs.SchemeLaws.{no_scheme_and_fault, one_scheme}
 
 -- ---- two error lines

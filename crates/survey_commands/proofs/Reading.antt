@@ -5,7 +5,7 @@ use Rattle.command_plans.specs.Views.{FilesView, OutputView}
 use Rattle.command_plans.specs.declared.status.Status.{Status}
 use Rattle.command_plans.specs.declared.status.Status.TheVariants.{ReadFault}
 use Rattle.command_plans.proofs.CourseLemmas.{reading_of as reading}
-use Rattle.command_plans.proofs.Printed.{not_read}
+use Rattle.command_plans.proofs.PrintedLemmas.{not_read}
 use Rattle.survey_commands.specs.Command.{command_of, plan_of}
 use Rattle.survey_commands.specs.Clauses.{ReadsInOrder}
 use Rattle.survey_commands.specs.Lines.{usage_line}

@@ -6,7 +6,7 @@ use Rattle.household.specs.declared.table.Row.{Row}
 use Rattle.command_plans.specs.Status.{IsComplete}
 use Rattle.command_plans.specs.Views.{FilesView, OutputView}
 use Rattle.command_plans.specs.declared.status.Status.{Status}
-use Rattle.command_plans.proofs.Printed.{complete_status}
+use Rattle.command_plans.proofs.PrintedLemmas.{complete_status}
 use Rattle.command_plans.proofs.ValidLemmas.{complete_of as complete}
 use Rattle.code_answers.specs.Schemes.{Scheme}
 use Rattle.survey_commands.specs.Answer.{Replies, HasAnswer}
