@@ -95,7 +95,8 @@ pub memory_of : {Command Work : Type 0} (plan_of : Command → Plan Work) (usage
     → ((wanted : Command) (work : Work) → command ≡ Some wanted → GoesAlong (plan_of wanted) before after (Ok work) → Answers wanted work
     → (new.written ≡ old.written) ⊎ Other)
     → (new.written ≡ old.written) ⊎ Other
-memory_of plan_of usage_line command Other before after old new status (is_no_command n s h p) m a = absurd (not_memory usage_line Usage old new status p (λ x. cc) m)
+memory_of plan_of usage_line command Other before after old new status (is_no_command n s h p) m a = absurd
+    (not_memory usage_line Usage old new status p (λ x. cc) m)
 memory_of plan_of usage_line command Other before after old new status (has_no_memory s h o e) m a = inl (ap (λ (v : OutputView). v.written) o)
 memory_of plan_of usage_line command Other before after old new status (ended wanted (ending.Refused refusal) c g h p) m a = absurd
     (not_memory (refusal_line refusal) Refused old new status p (λ x. cc) m)

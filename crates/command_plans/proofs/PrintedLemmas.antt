@@ -24,7 +24,8 @@ pub not_read : (text : List ℕ) (own : Status) (old new : OutputView) (status :
     → status ≡ ReadFault → ⊥
 not_read text own old new status p unlike e = other_status ReadFault text own old new status p unlike (λ x. cc) e
 
-pub status_of : (text : List ℕ) (own : Status) (old new : OutputView) (status : Status) → Prints text own old new status → (status ≡ own) ⊎ (status ≡ WriteFault)
+pub status_of : (text : List ℕ) (own : Status) (old new : OutputView) (status : Status) → Prints text own old new status
+    → (status ≡ own) ⊎ (status ≡ WriteFault)
 status_of text own old new status (inl p) = inl p.1
 status_of text own old new status (inr p) = inr p.1
 

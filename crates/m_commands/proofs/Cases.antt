@@ -21,7 +21,8 @@ use Rattle.m_commands.proofs.Schemes.{one_line}
 -- a scheme has one answer
 one_compared : (scheme : Scheme) (table t u : List ℕ) (s r : Status) → ComparedReplies scheme table t s → ComparedReplies scheme table u r
     → AreOneOutput t s u r
-one_compared scheme table t u s r (table_is_refused fault g k) (table_is_refused other h l) = the_same (one_line_of cases_fault_line fault other t u (cc (g, h)) k l) refl
+one_compared scheme table t u s r (table_is_refused fault g k) (table_is_refused other h l) =
+    the_same (one_line_of cases_fault_line fault other t u (cc (g, h)) k l) refl
 one_compared scheme table t u s r (table_is_refused fault g k) (is_compared cases h) = cc (g, h)
 one_compared scheme table t u s r (is_compared cases g) (table_is_refused other h l) = cc (g, h)
 one_compared scheme table t u s r (is_compared one g) (is_compared other h) =

@@ -44,7 +44,8 @@ text_way words disk typed heard reported old new status command work c g k i f (
     (read_failed text old new status p f)
 text_way words disk typed heard reported old new status command work c g k i f (serves_most taken text s moved full calm r p) =
     let e = typed_rest reported.left typed taken (sym (i (serve_reads words command work c k s)) ∙ moved) in
-    whole_output (Output words disk typed) text Refused old new status p f (answers command work c g (subst (λ (b : List ℕ). Replies work b text Refused) (sym e.1) (r e.0)))
+    whole_output (Output words disk typed) text Refused old new status p f
+    (answers command work c g (subst (λ (b : List ℕ). Replies work b text Refused) (sym e.1) (r e.0)))
 text_way words disk typed heard reported old new status command work c g k i f (serves_front s calm fronts rose is) = absurd (subst IsFaultless is f)
 
 pub text_of : (words : List (List ℕ)) (before after : FilesView) (heard reported : InputView) (old new : OutputView) (status : Status)
@@ -61,12 +62,14 @@ writing_way : (words : List (List ℕ)) (disk : Disk) (typed : List ℕ) (before
     → Way work heard reported old new status
     → (text : List ℕ) × IsWholeText words disk typed before after heard reported text × AppendsPrefix old.written new.written text
 writing_way words disk typed before after heard reported old new status command work c g k i e (observe text own r o same p) =
-    text_front (IsWholeText words disk typed before after heard reported) text own old new status p (λ x. subst IsOfEnd x o) e (output (answers command work c g (r typed)))
+    text_front (IsWholeText words disk typed before after heard reported) text own old new status p (λ x. subst IsOfEnd x o) e
+    (output (answers command work c g (r typed)))
 writing_way words disk typed before after heard reported old new status command work c g k i e (lacks_memory same n m) = cc (m, e)
 writing_way words disk typed before after heard reported old new status command work c g k i e (breaks_off text own r b same a n m) = cc (m, e)
 writing_way words disk typed before after heard reported old new status command work c g k i e (serves_all taken text s moved none calm r a is) = cc (is, e)
 writing_way words disk typed before after heard reported old new status command work c g k i e (serves_part taken text s moved rose cut p) =
-    text_front (IsWholeText words disk typed before after heard reported) text ReadFault old new status p (λ x. cc) e (cut_off taken moved rose (cuts_off command work c g cut))
+    text_front (IsWholeText words disk typed before after heard reported) text ReadFault old new status p (λ x. cc) e
+    (cut_off taken moved rose (cuts_off command work c g cut))
 writing_way words disk typed before after heard reported old new status command work c g k i e (serves_most taken text s moved full calm r p) =
     let t = typed_rest reported.left typed taken (sym (i (serve_reads words command work c k s)) ∙ moved) in
     text_front (IsWholeText words disk typed before after heard reported) text Refused old new status p (λ x. cc) e
@@ -79,7 +82,8 @@ pub writing_of : (words : List (List ℕ)) (before after : FilesView) (heard rep
     → Course words before after heard reported old new status
     → WritesFront words before after heard reported old new status
 writing_of words before after heard reported old new status course disk typed t i e =
-    writing plan_of (λ work. Replies work typed) usage_line (command_of words) disk (IsWholeText words disk typed before after heard reported) before after old new
+    writing plan_of (λ work. Replies work typed) usage_line (command_of words) disk
+    (IsWholeText words disk typed before after heard reported) before after old new
     status course t e (λ all own o. output o) (λ made name a l. unreadable a l refl)
     (λ wanted work c g a. writing_way words disk typed before after heard reported old new status wanted work c g a.0 i e
     (way_of work heard reported old new status a.1))

@@ -145,8 +145,10 @@ usage_way work heard reported old new status (observe text own r o same p) u = o
 usage_way work heard reported old new status (lacks_memory same n m) u = cc (m, u)
 usage_way work heard reported old new status (breaks_off text own r b same a n m) u = cc (m, u)
 usage_way work heard reported old new status (serves_all taken text s moved none quiet r a is) u = cc (is, u)
-usage_way work heard reported old new status (serves_part taken text s moved rose cut p) u = other_status Usage text ReadFault old new status p (λ x. cc) (λ x. cc) u
-usage_way work heard reported old new status (serves_most taken text s moved full quiet r p) u = other_status Usage text Refused old new status p (λ x. cc) (λ x. cc) u
+usage_way work heard reported old new status (serves_part taken text s moved rose cut p) u =
+    other_status Usage text ReadFault old new status p (λ x. cc) (λ x. cc) u
+usage_way work heard reported old new status (serves_most taken text s moved full quiet r p) u =
+    other_status Usage text Refused old new status p (λ x. cc) (λ x. cc) u
 usage_way work heard reported old new status (serves_front s quiet fronts rose is) u = cc (is, u)
 
 pub usage_of : (words : List (List ℕ)) (before after : FilesView) (heard reported : InputView) (old new : OutputView) (status : Status)

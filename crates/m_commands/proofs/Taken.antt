@@ -38,5 +38,6 @@ keeps_limit (Check list household report) =
 
 pub taken_of : (words : List (List ℕ)) (before after : FilesView) (heard reported : InputView) (old new : OutputView) (status : Status)
     → Course words before after heard reported old new status → TakesWithin (limit_of words) before after status
-taken_of words before after heard reported old new status course = taken plan_of usage_line (command_of words) before after old new status file_limit keeps_limit
+taken_of words before after heard reported old new status course =
+    taken plan_of usage_line (command_of words) before after old new status file_limit keeps_limit
     course

@@ -89,4 +89,5 @@ pub complete_of : (words : List (List ℕ)) (before after : FilesView) (heard re
     → AnswersValid words before after heard reported old new status
 complete_of words before after heard reported old new status course disk t valid quiet few =
     complete plan_of usage_line HasAnswer (command_of words) disk before after old new status course t valid quiet.0
-    (λ wanted work c h a. complete_way words wanted work heard reported old new status c a.0 h quiet.1 quiet.2 few (way_of work heard reported old new status a.1))
+    (λ wanted work c h a. complete_way words wanted work heard reported old new status c a.0 h quiet.1 quiet.2 few
+    (way_of work heard reported old new status a.1))

@@ -112,5 +112,6 @@ TakesFew words heard reported = reads_input words ≡ true → (taken : List ℕ
 -- doesn't fetch need not be known.
 abbrev pub AnswersValid : List (List ℕ) → FilesView → FilesView → InputView → InputView → OutputView → OutputView → Status → Type 0
 AnswersValid words before after heard reported old new status =
-    (disk : Disk) → KnowsDisk plan_of (command_of words) before disk → IsValidCommand plan_of HasAnswer (command_of words) disk → NothingFailed before after heard reported old new → TakesFew words heard reported
+    (disk : Disk) → KnowsDisk plan_of (command_of words) before disk → IsValidCommand plan_of HasAnswer (command_of words) disk
+    → NothingFailed before after heard reported old new → TakesFew words heard reported
     → IsComplete status

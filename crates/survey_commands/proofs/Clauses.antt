@@ -26,7 +26,8 @@ use Rattle.survey_commands.proofs.Ways.{Way, way_of, observe, lacks_memory, brea
 text_way : (words : List (List ℕ)) (disk : Disk) (old new : OutputView) (status : Status) (command : Command) (work : Work)
     → command_of words ≡ Some command → end_of disk (plan_of command) ≡ gathered work → IsFaultless status → Way work old new status
     → (text : List ℕ) × (new.written ≡ append_known old.written text) × Output words disk text status
-text_way words disk old new status command work c g f (observe text own r o p) = whole_output (Output words disk) text own old new status p f (answers command work c g r)
+text_way words disk old new status command work c g f (observe text own r o p) =
+    whole_output (Output words disk) text own old new status p f (answers command work c g r)
 text_way words disk old new status command work c g f (lacks_memory n m) = absurd (subst IsFaultless m f)
 text_way words disk old new status command work c g f (breaks_off text own r b a n m) = absurd (subst IsFaultless m f)
 
@@ -49,7 +50,8 @@ writing_way words disk before after old new status command work c g e (breaks_of
 pub writing_of : (words : List (List ℕ)) (before after : FilesView) (old new : OutputView) (status : Status) → Course words before after old new status
     → WritesFront words before after old new status
 writing_of words before after old new status course disk t e =
-    writing plan_of Replies usage_line (command_of words) disk (IsWholeText words disk before after) before after old new status course t e (λ all own o. output o)
+    writing plan_of Replies usage_line (command_of words) disk (IsWholeText words disk before after) before after old new status course t e
+    (λ all own o. output o)
     (λ made name a l. unreadable a l refl)
     (λ wanted work c g a. writing_way words disk before after old new status wanted work c g e (way_of work old new status a.1))
 

@@ -119,7 +119,8 @@ one_answer face runs one other table t u s r a b (rows_are_answered rows g) (row
 
 -- a scheme has one answer to a table
 one_reply_of : (scheme : Scheme) (table t u : List ℕ) (s r : Status) → SchemeReplies scheme table t s → SchemeReplies scheme table u r → AreOneOutput t s u r
-one_reply_of scheme table t u s r (table_is_refused fault g k) (table_is_refused other h l) = the_same (one_line_of household_fault_line fault other t u (cc (g, h)) k l) refl
+one_reply_of scheme table t u s r (table_is_refused fault g k) (table_is_refused other h l) =
+    the_same (one_line_of household_fault_line fault other t u (cc (g, h)) k l) refl
 one_reply_of scheme table t u s r (table_is_refused fault g k) (rows_are_answered rows h) = cc (g, h)
 one_reply_of scheme table t u s r (rows_are_answered rows g) (table_is_refused other h l) = cc (g, h)
 one_reply_of scheme table t u s r (rows_are_answered rows g) (rows_are_answered others h) =

@@ -56,4 +56,5 @@ NothingFailed before after old new = (Rose (failed_count before.attempts) (faile
 -- doesn't fetch need not be known.
 abbrev pub AnswersValid : List (List ℕ) → FilesView → FilesView → OutputView → OutputView → Status → Type 0
 AnswersValid words before after old new status =
-    (disk : Disk) → KnowsDisk plan_of (command_of words) before disk → IsValidCommand plan_of HasAnswer (command_of words) disk → NothingFailed before after old new → IsComplete status
+    (disk : Disk) → KnowsDisk plan_of (command_of words) before disk → IsValidCommand plan_of HasAnswer (command_of words) disk
+    → NothingFailed before after old new → IsComplete status

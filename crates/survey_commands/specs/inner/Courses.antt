@@ -35,5 +35,6 @@ WorkIsAnswered Version old new status = Prints version_line Done old new status
 -- The course of a call.
 abbrev pub Course : List (List ℕ) → (before after : FilesView) → (old new : OutputView) → Status → Type 0
 Course words before after old new status =
-    courses.Course plan_of usage_line (Unit {0}) (λ wanted work. IsWorkOf wanted work × WorkIsAnswered work old new status) (command_of words) before after old new
+    courses.Course plan_of usage_line (Unit {0}) (λ wanted work. IsWorkOf wanted work × WorkIsAnswered work old new status)
+    (command_of words) before after old new
     status

@@ -3,7 +3,8 @@ use Rattle.command_plans.specs.Source.{code_file_plan}
 use Rattle.survey_commands.proofs.gather.gather_code_table.Goals as goal
 
 pub returns-in_err-code-clause-along : goal.returns-in_err-code-clause-along
-returns-in_err-code-clause-along g c = exits_ended (code_file_plan c.args.code.now c.args.table.now) _ _ _ _ _ c.in_err-code.ensures.along c.from_residual.ensures.1
+returns-in_err-code-clause-along g c =
+    exits_ended (code_file_plan c.args.code.now c.args.table.now) _ _ _ _ _ c.in_err-code.ensures.along c.from_residual.ensures.1
 
 pub returns-clause-along : goal.returns-clause-along
 returns-clause-along g c = along_then (code_file_plan c.args.code.now c.args.table.now) _ _ _ _ _ _ c.in_ok-code.ensures.along (along_done _ _)
