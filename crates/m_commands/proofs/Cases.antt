@@ -1,18 +1,14 @@
 -- `cases` has one answer.
-use Rattle.std.proofs.Common.{◌≡◌, ℕ, zero, suc, List, Some, Result, Ok, Err, refl, ap, subst}
+use Rattle.std.proofs.Common.{◌≡◌, ℕ, zero, suc, List, Ok, refl, ap, subst}
 use Rattle.m_places.specs.declared.source.Source.{Source}
 use Rattle.m_cases.specs.Cases.{cases_of}
 use Rattle.m_cases.specs.declared.cases.Cases.{Cases}
-use Rattle.m_cases.specs.declared.fault.CasesFault.{CasesFault}
-use Rattle.m_compile.specs.Faults.{IsSourceFault}
-use Rattle.m_compile.specs.declared.fault.SourceFault.{SourceFault}
 use Rattle.m_compile.proofs.OneLaws.{one_fault}
 use Rattle.command_plans.specs.Status.{IsComplete}
 use Rattle.command_plans.specs.declared.status.Status.{Status}
 use Rattle.command_answers.specs.Cases.{CasesHasAnswer, CasesReplies, source_is_refused, is_answered}
 use Rattle.code_answers.specs.Cases.{ComparedReplies, cases_count, cases_fault_line, cases_text, count_status, table_is_refused, is_compared}
 use Rattle.code_answers.specs.Schemes.{Scheme}
-use Rattle.command_answers.specs.Sources.{IsScheme}
 use Rattle.m_commands.specs.Output.{AreOneOutput, the_same}
 use Rattle.command_plans.proofs.PrintedLemmas.{one_line as one_line_of}
 use Rattle.command_answers.proofs.SchemeLaws.{no_scheme_and_fault, one_scheme}

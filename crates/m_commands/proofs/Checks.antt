@@ -1,5 +1,5 @@
 -- `check` has one answer.
-use Rattle.std.proofs.Common.{◌≡◌, ℕ, ◌+◌, ℤ, List, Some, Ok, Err, refl, ap, subst}
+use Rattle.std.proofs.Common.{◌≡◌, ℕ, ◌+◌, ℤ, List, Ok, refl, ap, subst}
 use Rattle.m_places.specs.declared.source.Source.{Source}
 use Rattle.tax_print.specs.FaultLines.{report_line}
 use Rattle.tax_print.specs.declared.fault.ReportFault.TheVariants as words
@@ -8,7 +8,6 @@ use Rattle.m_symbols.specs.Declarations.{Declared}
 use Rattle.micro_m.specs.declared.base.Base.{Base}
 use Rattle.why_report.specs.Derivations.{IsFirstUnsound, IsSound}
 use Rattle.why_report.specs.Reports.{parsed_report}
-use Rattle.why_report.specs.declared.fault.ReportFault.{ReportFault}
 use Rattle.why_report.specs.declared.line.ReportLine.{ReportLine}
 use Rattle.why_report.proofs.FindingLaws.{no_sound_and_unsound, one_unsound}
 use Rattle.driver_core.specs.Inputs.{inputs_declared}

@@ -1,10 +1,9 @@
 -- `compile` has one answer up to the compiled code, and a code file has one answer.
-use Rattle.std.proofs.Common.{◌≡◌, ◌≢◌, ℕ, ℤ, List, [], length, None, Some, Ok, Err, refl, sym, ap, ◌∙◌, subst}
+use Rattle.std.proofs.Common.{◌≡◌, ℕ, ℤ, List, [], length, Some, Ok, Err, refl, sym, ap, ◌∙◌, subst}
 use Rattle.m_fixed.specs.declared.amount.Value.{Value}
 use Rattle.m_places.specs.declared.source.Source.{Source}
 use Rattle.code_file.specs.Reading.{IsCodeFault, IsFormOf}
 use Rattle.code_file.specs.declared.fault.CodeFault.{CodeFault}
-use Rattle.code_file.specs.declared.fault.CodeFault.TheVariants.{Memory}
 use Rattle.code_file.specs.declared.loaded.Loaded.{Loaded}
 use Rattle.code_file.proofs.EntryLaws.{one-fault}
 use Rattle.code_file.proofs.FormLaws.{no-fault-of-form}
@@ -27,7 +26,6 @@ use Rattle.code_answers.specs.Households.{observation_status}
 use Rattle.code_answers.specs.Shown.{HouseholdReplies, Shows}
 use Rattle.code_answers.specs.Shown as prepared
 use Rattle.code_answers.specs.Schemes.{Scheme, observation_for}
-use Rattle.command_answers.specs.Sources.{IsScheme}
 use Rattle.m_commands.specs.Output.{AreOneOutput, the_same, both_compiled}
 use Rattle.code_answers.proofs.OneLaws.{one_inputs, one_loaded, shown_other}
 use Rattle.command_plans.proofs.PrintedLemmas.{one_line as one_line_of}

@@ -1,5 +1,5 @@
 -- The clause that a session which did all of its work is at the input's end.
-use Rattle.std.proofs.Common.{◌≡◌, true, false, ℕ, List, Option, Some, None, sym, ap, ◌∙◌}
+use Rattle.std.proofs.Common.{◌≡◌, true, false, ℕ, List, Some, sym, ap, ◌∙◌}
 use Rattle.std.specs.Option.{option_map_or}
 use Rattle.std.specs.Io.KnownBytes.{IsAtEnd}
 use Rattle.tax_print.specs.FaultLines.{unreadable_line, usage_line}

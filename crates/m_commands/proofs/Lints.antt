@@ -1,5 +1,5 @@
 -- `lint` has one answer, up to the program, and its findings are true.
-use Rattle.std.proofs.Common.{◌≡◌, ℕ, List, Option, refl, sym, ap, subst}
+use Rattle.std.proofs.Common.{◌≡◌, ℕ, List, Option, subst}
 use Rattle.std.specs.List.{AllByRecursion}
 use Rattle.m_places.specs.declared.source.Source.{Source}
 use Rattle.m_symbols.specs.Declarations.{Declared}
@@ -13,10 +13,8 @@ use Rattle.m_lint.proofs.TruthLemmas.{all_true}
 use Rattle.m_compile.specs.Answers.{answer_to}
 use Rattle.driver_core.specs.Inputs.{inputs_declared}
 use Rattle.m_compile.specs.Compiled.{IsProgramOf}
-use Rattle.m_compile.specs.Faults.{IsSourceFault}
 use Rattle.m_compile.specs.Sources.{HasRules, IsValid}
 use Rattle.m_compile.specs.declared.compiling.Program.{Program}
-use Rattle.m_compile.specs.declared.fault.SourceFault.{SourceFault}
 use Rattle.m_compile.proofs.ProgramLaws.{no_program_and_fault}
 use Rattle.m_compile.proofs.OneLaws.{no_valid_and_fault, one_fault, one_rules, one_validity}
 use Rattle.command_plans.specs.Status.{IsComplete}

@@ -1,5 +1,5 @@
 -- The clause that valid words and files are answered.
-use Rattle.std.proofs.Common.{◌≡◌, ◌<◌, ℕ, true, List, [], ◌∷◌, ◌++◌, length, Some, sym, subst, arith}
+use Rattle.std.proofs.Common.{◌≡◌, ℕ, List, [], ◌∷◌, ◌++◌, length, Some, sym, subst, arith}
 use Rattle.m_places.specs.declared.limits.TheConstants.{INPUT_BYTES}
 use Rattle.m_ports.specs.Counts.{Rose}
 use Rattle.tax_print.specs.FaultLines.{usage_line}

@@ -1,10 +1,8 @@
 -- The answer of `facts`, from what was printed.
-use Rattle.std.proofs.Common.{◌≡◌, ℕ, List, Option, Some, Ok, Err, length, map, take, refl, sym, ap, ◌∙◌, subst, inl, inr}
+use Rattle.std.proofs.Common.{◌≡◌, ℕ, List, Option, Some, Ok, Err, refl, sym, ap, ◌∙◌, subst, inl, inr}
 use Rattle.std.specs.Prelude.{◌≢◌}
 use Rattle.m_places.specs.declared.source.Source.{Source}
 use Rattle.definedness.specs.Facts.{Possible}
-use Rattle.observables.specs.declared.inputs.Coded.{Coded}
-use Rattle.observables.specs.declared.face.FaceLabel.TheVariants.{Verif}
 use Rattle.m_symbols.specs.Declarations.{Declared}
 use Rattle.micro_m.specs.declared.base.Base.{Base}
 use Rattle.driver_core.specs.Inputs.{inputs_declared}

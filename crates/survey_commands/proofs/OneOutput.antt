@@ -8,7 +8,6 @@ use Rattle.observables.specs.Inputs.{AreValuesOf}
 use Rattle.observables.specs.declared.answer.Answer.{Answer}
 use Rattle.observables.specs.declared.face.Face.{Face}
 use Rattle.reg_machine.specs.Machine.{machine_run}
-use Rattle.code_file.specs.declared.fault.CodeFault.{CodeFault}
 use Rattle.code_file.proofs.EntryLaws.{one-fault}
 use Rattle.household.specs.Household.{values_of}
 use Rattle.household.specs.Table.{table_of}
@@ -19,7 +18,6 @@ use Rattle.m_compile.specs.Faults.{AreOneSourceFault}
 use Rattle.m_compile.specs.Lines.{source_line}
 use Rattle.m_compile.specs.declared.fault.SourceFault.{SourceFault}
 use Rattle.m_compile.specs.Compiled.{IsProgramOf}
-use Rattle.m_compile.specs.Faults.{IsSourceFault}
 use Rattle.m_compile.specs.declared.compiling.Program.{Program}
 use Rattle.m_compile.proofs.LineLaws.{AreOneLine}
 use Rattle.m_compile.proofs.LineLaws as line_laws

@@ -1,5 +1,5 @@
 -- The clause on how many bytes were read.
-use Rattle.std.proofs.Common.{◌≤◌, ℕ, Bool, true, false, cond, List, None, arith}
+use Rattle.std.proofs.Common.{ℕ, Bool, true, false, cond, List, None, arith}
 use Rattle.m_places.specs.declared.limits.TheConstants.{CODE_FILE_BYTES, FILE_BYTES}
 use Rattle.command_plans.specs.Attempts.{TakesWithin}
 use Rattle.command_plans.specs.Plan.{done}
