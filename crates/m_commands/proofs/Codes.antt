@@ -22,7 +22,7 @@ use Rattle.command_answers.specs.Compiles.{CompileReplies, CompileHasAnswer}
 use Rattle.command_answers.specs.Compiles as compiles
 use Rattle.code_answers.specs.Execs.{ExecReplies, ExecHasAnswer, code_fault_line}
 use Rattle.code_answers.specs.Execs as exec
-use Rattle.code_answers.specs.Households.{observation_status}
+use Rattle.code_answers.specs.Households.{household_fault_line, observation_status}
 use Rattle.code_answers.specs.Shown.{HouseholdReplies, Shows}
 use Rattle.code_answers.specs.Shown as prepared
 use Rattle.code_answers.specs.Schemes.{Scheme, observation_for}

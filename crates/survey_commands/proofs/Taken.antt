@@ -14,6 +14,8 @@ use Rattle.survey_commands.specs.Command.{command_of, plan_of, file_limit, limit
 use Rattle.survey_commands.specs.Lines.{usage_line}
 use Rattle.survey_commands.specs.declared.command.Command.{Command}
 use Rattle.survey_commands.specs.declared.command.Command.TheVariants.{Table, Facts, CodeTable, Version}
+use Rattle.survey_commands.specs.declared.work.Work.{Work}
+use Rattle.survey_commands.specs.declared.work.Work.TheVariants as work
 use Rattle.survey_commands.specs.inner.Courses.{Course}
 
 -- ranges are within the limit of a file
@@ -26,7 +28,9 @@ keeps_limit : (command : Command) → KeepsWithin (file_limit command) (plan_of 
 keeps_limit (Table names table) = within_then FILE_BYTES (source_file_plan names table) _ (source_file_within names table) (λ gathered. tt)
 keeps_limit (Facts names ranges) = within_then FILE_BYTES (source_plan names) _ (source_within names)
     (λ source. within_then FILE_BYTES (optional_plan ranges) _ (chosen (is_none ranges) ranges) (λ bytes. tt))
-keeps_limit (CodeTable code table) = within_then CODE_FILE_BYTES (code_file_plan code table) _ (code_file_within code table) (λ gathered. tt)
+keeps_limit (CodeTable code table) =
+    within_then {B = Work} CODE_FILE_BYTES (code_file_plan code table) (λ gathered. done (work.CodeTable gathered.0 gathered.1)) (code_file_within code table)
+    (λ gathered. tt)
 keeps_limit Version = tt
 
 pub taken_of : (words : List (List ℕ)) (before after : FilesView) (old new : OutputView) (status : Status) → Course words before after old new status
