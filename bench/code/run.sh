@@ -21,7 +21,7 @@ copy() {
     grep "^$1:" "$root/crates.txt" >>"$work/repository/crates.txt"
 }
 copy m_compile
-echo "bench_code: m_places m_fixed observables flat_code reg_machine register_alloc m_compile anyhow" >>"$work/repository/crates.txt"
+echo "bench_code: m_places m_fixed observables flat_code reg_machine register_alloc rule_base code_file m_compile anyhow" >>"$work/repository/crates.txt"
 cp "$root/HANDLES" "$work/repository/"
 bench=$work/repository/crates/bench_code
 mkdir -p "$bench/src" "$bench/proofs/are_below"

@@ -8,3 +8,4 @@ pub mod Refusals
 pub mod Ways
 pub mod ExecLemmas
 pub mod CaseLemmas
+pub mod OneLaws

@@ -46,8 +46,8 @@ pub fn answer_batch<R: Threads + Sync, K: Sink>(
     }
 }
 
-// The rows of the table of these bytes, for the code's inputs.
-fn rows_of<R: Threads + Sync>(
+/// The rows of the table of these bytes, for the code's inputs.
+pub fn rows_of<R: Threads + Sync>(
     rt: &R,
     alloc: Global,
     loaded: &Loaded,
@@ -62,8 +62,8 @@ fn rows_of<R: Threads + Sync>(
     read_table(rt, alloc, table, &codes)
 }
 
-// The status after printing rows.
-fn status_of_rows(written: Result<u64, PrintFault>) -> Status
+/// The status after printing rows.
+pub fn status_of_rows(written: Result<u64, PrintFault>) -> Status
     ensures { result ≡ rows_status written }
 {
     match written {

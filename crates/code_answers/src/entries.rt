@@ -65,7 +65,7 @@ pub(crate) fn cases_entry<'a>(fault: CasesFault) -> Option<Fault<'a>>
 }
 
 /// Maps a fault of a code file to its line; none for out of memory.
-pub(crate) fn code_entry<'a>(fault: CodeFault) -> Option<Fault<'a>>
+pub fn code_entry<'a>(fault: CodeFault) -> Option<Fault<'a>>
     ensures { option_map fault_line result ≡ code_fault_line fault }
 {
     match fault {

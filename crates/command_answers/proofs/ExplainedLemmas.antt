@@ -23,7 +23,7 @@ use Rattle.m_compile.proofs.OneLaws.{one_rules}
 use Rattle.command_answers.specs.Explained.{IsExplained}
 use Rattle.command_answers.specs.inner.Answers.{IsPrepared}
 use Rattle.code_answers.specs.Schemes.{Scheme}
-use Rattle.command_answers.specs.declared.program.Program.{Program}
+use Rattle.m_compile.specs.declared.compiling.Program.{Program}
 
 -- the start values of cells by a reporter and by a driver
 same_first : (inputs : List Value) (n : ℕ) (role : Role) → start_value inputs n role ≡ first_value inputs n role

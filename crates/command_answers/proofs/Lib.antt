@@ -4,3 +4,4 @@ pub mod LargeLimits
 pub mod Refusals
 pub mod Ways
 pub mod ExplainedLemmas
+pub mod SchemeLaws

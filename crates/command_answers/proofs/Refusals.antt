@@ -12,7 +12,7 @@ use Rattle.command_plans.specs.Views.{OutputView}
 use Rattle.command_plans.specs.declared.status.Status.{Status}
 use Rattle.command_answers.specs.Sources.{Refuses, source_is_refused}
 use Rattle.code_answers.specs.inner.Refusals.{ReportsLine}
-use Rattle.code_answers.proofs.Refusals.{ReportsRefusal, reported_either}
+use Rattle.code_answers.proofs.Refusals.{ReportsRefusal}
 
 reported_by_line : (s : Source) {Given : Type 0} (stated : List Coded → Result Given HouseholdFault) (fault : SourceFault) (found : Option (List ℕ))
     (old new : OutputView) (status : Status)
@@ -28,10 +28,3 @@ pub source_reported : (s : Source) {Given : Type 0} (stated : List Coded → Res
     → (fault ≢ source.Memory → IsSourceFault s fault) → ReportsLine (source_line s.texts fault) old new status
     → ReportsRefusal (Refuses s stated) old new status
 source_reported s stated fault old new status h reported = reported_by_line s stated fault (source_line s.texts fault) old new status h refl reported
-
--- a source was rejected by a fault
-pub fault_reported : (s : Source) (fault : SourceFault) (old new : OutputView) (status : Status) → (fault ≢ source.Memory → IsSourceFault s fault)
-    → ReportsLine (source_line s.texts fault) old new status → ReportsRefusal (λ line. IsSourceFault s fault × (source_line s.texts fault ≡ Some line)) old new
-    status
-fault_reported s fault old new status h reported = reported_either (source_line s.texts fault) (source_line s.texts fault) old new status refl h
-    (λ m. ap (source_line s.texts) m) reported

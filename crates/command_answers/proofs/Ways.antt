@@ -1,17 +1,15 @@
 -- From what was found and written to a command's ending.
-use Rattle.std.proofs.Common.{◌≡◌, ℕ, length, List, [], ◌++◌, Ok, Err, refl, sym, ◌∙◌, ap, subst, inl, inr}
-use Rattle.std.specs.Prelude.{Some}
+use Rattle.std.proofs.Common.{◌≡◌, ℕ, length, List, [], ◌++◌, Result, Ok, Err, refl, sym, ◌∙◌, ap, subst, inl, inr}
+use Rattle.std.specs.Prelude.{IfOk, Some}
 use Rattle.m_fixed.specs.declared.amount.Value.{Value}
-use Rattle.m_names.specs.Names.{AreDistinct}
 use Rattle.m_places.specs.declared.source.Source.{Source}
 use Rattle.tax_print.specs.FaultLines.{input_too_long_line, unreadable_input_line}
 use Rattle.observables.specs.Answers.{observation}
-use Rattle.observables.specs.Inputs.{AreValuesOf, codes_of}
+use Rattle.observables.specs.Inputs.{AreValuesOf}
 use Rattle.observables.specs.Outputs.{notes_of}
 use Rattle.observables.specs.declared.answer.Answer.{Answer}
 use Rattle.observables.specs.declared.face.Face.{Face}
 use Rattle.flat_code.specs.Runs.{flat_run}
-use Rattle.reg_machine.specs.Flow.{code_fault}
 use Rattle.reg_machine.specs.Machine.{machine_run}
 use Rattle.reg_machine.proofs.StepLaws.{run-is-flat_run}
 use Rattle.code_file.specs.declared.loaded.Loaded.{Loaded}
@@ -26,11 +24,13 @@ use Rattle.rule_order.specs.declared.ordered.Ordered.{Ordered}
 use Rattle.household_session.specs.Repliers.{ended_of, whole_of}
 use Rattle.why_session.specs.Explains.{Explaining, explained_replies}
 use Rattle.why_session.specs.Joined.{Joined, explains_by, joined_replies}
-use Rattle.m_compile.specs.Compiled.{IsCompiled, IsRunnable}
+use Rattle.m_compile.specs.Compiled.{IsCompiled, IsProgramOf, IsRunnable}
 use Rattle.m_compile.specs.Faults.{IsSourceFault}
 use Rattle.m_compile.specs.Lines.{source_line}
-use Rattle.m_compile.specs.declared.compiling.Compiled.{Compiled}
+use Rattle.m_compile.specs.declared.compiling.Program.{Program}
 use Rattle.m_compile.specs.declared.fault.SourceFault.{SourceFault}
+use Rattle.m_compile.specs.declared.fault.SourceFault.TheVariants as source_fault
+use Rattle.m_places.specs.Refusals.{Outcome}
 use Rattle.command_plans.specs.Printing.{Appends, Breaks, IsAnswered, Prints, printed, no_memory}
 use Rattle.command_plans.specs.Views.{InputView, OutputView}
 use Rattle.command_plans.specs.declared.status.Status.{Status}
@@ -52,7 +52,6 @@ use Rattle.command_answers.specs.Serves as serve
 use Rattle.command_answers.specs.Serving.{Served, to_its_end, unread, too_long, unwritten, unwritten_at_end}
 use Rattle.command_answers.specs.Sessions.{ended_replies, replies_by, scheme_showing, session_replies}
 use Rattle.command_answers.specs.Sources.{IsScheme, Refuses, households_are_refused, source_scheme}
-use Rattle.command_answers.specs.declared.program.Program.{Program}
 use Rattle.command_answers.specs.inner.Answers.{IsBegun, IsExplainerOf, IsFileOf, IsPrepared, IsServedBy, is_file}
 use Rattle.command_answers.specs.inner.Answers as prepared
 use Rattle.code_answers.proofs.CodeLemmas.{spells_whole}
@@ -195,53 +194,52 @@ session_served scheme program declared ordered rows joined runs shown of heard r
 
 -- ---- preparing
 
--- the scheme of a compiled source
-abbrev scheme_of : (source : Source) (compiled : Compiled) → IsCompiled source compiled → Scheme
-scheme_of source compiled is = source_scheme is.declared is.base is.written is.requests
+-- the scheme of a source's program
+abbrev scheme_of : (source : Source) (program : Program) → IsProgramOf source program → Scheme
+scheme_of source program is = source_scheme is.declared is.base is.written is.requests
 
-valid_of : (source : Source) (compiled : Compiled) → (is : IsCompiled source compiled) → IsScheme source (scheme_of source compiled is)
-valid_of source compiled is = record { declared = is.declared; base = is.base; written = is.written; requests = is.requests; valid = is.valid; stated = refl }
+valid_of : (source : Source) (program : Program) → (is : IsProgramOf source program) → IsScheme source (scheme_of source program is)
+valid_of source program is = record { declared = is.declared; base = is.base; written = is.written; requests = is.requests; valid = is.valid; stated = refl }
 
--- a program with the answers of the tidy program shows its scheme
-shows_of : (source : Source) (compiled : Compiled) → (is : IsCompiled source compiled) → (runs : List Value → Answer)
-    → ((vs : List Value) → runs vs ≡ flat_run compiled.tidy vs)
-    → Shows (scheme_of source compiled is) compiled.face runs
-shows_of source compiled is runs same = record {
+-- whatever has the answers of the tidy program shows its scheme
+shows_of : (source : Source) (program : Program) → (is : IsProgramOf source program) → (runs : List Value → Answer)
+    → ((vs : List Value) → runs vs ≡ flat_run program.tidy vs)
+    → Shows (scheme_of source program is) program.face runs
+shows_of source program is runs same = record {
   inputs = is.inputs;
   names = is.names;
-  answers = λ vs all. ap (observation compiled.face.labels (notes_of compiled.face.outputs)) (same vs)
+  answers = λ vs all. ap (observation program.face.labels (notes_of program.face.outputs)) (same vs)
       ∙ is.answers vs (subst (λ inputs. AreValuesOf inputs vs) (sym is.inputs) all);
 }
 
--- a compiled source is prepared
-pub is_prepared : (source : Source) (compiled : Compiled) → IsCompiled source compiled
-    → IsPrepared source (record { face = compiled.face; tidy = compiled.tidy })
-is_prepared source compiled is = record {
-  scheme = scheme_of source compiled is;
-  valid = valid_of source compiled is;
-  shows = shows_of source compiled is (flat_run compiled.tidy) (λ vs. refl);
+-- the program of a source is prepared
+pub is_prepared : (source : Source) (program : Program) → IsProgramOf source program → IsPrepared source program
+is_prepared source program is = record {
+  scheme = scheme_of source program is;
+  valid = valid_of source program is;
+  shows = shows_of source program is (flat_run program.tidy) (λ vs. refl);
 }
 
--- and so is its code
-pub is_prepared_code : (source : Source) (compiled : Compiled) (loaded : Loaded) → loaded.code ≡ compiled.code → loaded.face ≡ compiled.face
-    → IsCompiled source compiled → IsPreparedCode source loaded
-is_prepared_code source compiled loaded same_code same_face is =
-    let whole : IsCompiled source (record { face = loaded.face; tidy = compiled.tidy; code = loaded.code }) = rw (same_code, same_face) is in
+-- and so is the code of a source
+is_prepared_code : (source : Source) (loaded : Loaded) → IsCompiled source loaded → IsPreparedCode source loaded
+is_prepared_code source loaded is =
+    let program : Program = record { face = loaded.face; tidy = is.tidy } in
     record {
-      tidy = compiled.tidy;
-      compiled = whole;
-      scheme = scheme_of source _ whole;
-      valid = valid_of source _ whole;
-      shows = shows_of source (record { face = loaded.face; tidy = compiled.tidy; code = loaded.code }) whole (machine_run loaded.code)
-          (λ vs. run-is-flat_run loaded.code compiled.tidy vs whole.allocated.flow);
+      compiled = is;
+      scheme = scheme_of source program is.program;
+      valid = valid_of source program is.program;
+      shows = shows_of source program is.program (machine_run loaded.code) (λ vs. run-is-flat_run loaded.code is.tidy vs is.allocated.flow);
     }
 
-pub is_runnable_code : (source : Source) (compiled : Compiled) (loaded : Loaded) → loaded.code ≡ compiled.code → loaded.face ≡ compiled.face
-    → IsCompiled source compiled → IsRunnableCode loaded
-is_runnable_code source compiled loaded same_code same_face is = record {
-  whole = ap code_fault same_code ∙ spells_whole compiled.code compiled.tidy is.allocated.flow;
-  distinct = subst (λ (face : Face). AreDistinct (codes_of face.inputs)) (sym same_face) is.runnable.distinct;
-}
+pub prepared_outcome : (source : Source) (result : Result Loaded SourceFault) → Outcome source_fault.Memory result (IsCompiled source) (IsSourceFault source)
+    → Outcome source_fault.Memory result (IsPreparedCode source) (IsSourceFault source)
+prepared_outcome source (Ok loaded) is = is_prepared_code source loaded is
+prepared_outcome source (Err fault) is = is
+
+pub runnable_outcome : (source : Source) (result : Result Loaded SourceFault) → Outcome source_fault.Memory result (IsCompiled source) (IsSourceFault source)
+    → IfOk result (λ loaded. IsRunnableCode loaded)
+runnable_outcome source (Ok loaded) is = record { whole = spells_whole loaded.code is.tidy is.allocated.flow; distinct = is.program.runnable.distinct }
+runnable_outcome source (Err fault) is = tt
 
 -- ---- code files that are written
 
@@ -253,7 +251,7 @@ compile_refused source fault old new status (inr (same, memory)) = no_memory sam
 
 compile_as : (source : Source) (loaded : Loaded) → IsPreparedCode source loaded → (text : List ℕ) (own : Status) → IsFileOf loaded text own
     → CompileReplies source text own
-compile_as source loaded is text own (is_file form) = compile.is_compiled loaded is (form is.compiled.printable)
+compile_as source loaded is text own (is_file form) = compile.is_compiled loaded is (form is.compiled.program.printable)
 
 pub compile_answered : (source : Source) (loaded : Loaded) (old new : OutputView) (status : Status) → IsPreparedCode source loaded
     → IsAnswered (IsFileOf loaded) old new status → IsAnswered (CompileReplies source) old new status

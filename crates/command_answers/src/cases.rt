@@ -6,11 +6,11 @@ ghost use Rattle.code_answers.specs.Parts.{IsWrittenInParts};
 ghost use Rattle.command_answers.specs.Cases.{CasesReplies};
 
 use crate::program::prepare_code;
-use crate::refusal::report_source;
 use code_answers::answer_cases;
 use command_plans::Status;
 use m_places::Source;
 use m_ports::Sink;
+use rule_answers::report_source;
 use std::alloc::Global;
 use std::thread::Threads;
 

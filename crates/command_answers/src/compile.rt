@@ -6,12 +6,12 @@ ghost use Rattle.command_answers.specs.Compiles.{CompileReplies};
 ghost use Rattle.command_answers.specs.inner.Answers.{IsFileOf};
 
 use crate::program::prepare_code;
-use crate::refusal::report_source;
 use code_answers::give_code;
 use code_file::Loaded;
 use command_plans::{Status, printed};
 use m_places::Source;
 use m_ports::Sink;
+use rule_answers::report_source;
 use std::alloc::Global;
 use std::thread::Threads;
 

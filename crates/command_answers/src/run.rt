@@ -6,11 +6,11 @@ ghost use Rattle.command_plans.specs.Views.{output_view};
 ghost use Rattle.command_answers.specs.Runs.{RunReplies};
 
 use crate::program::prepare_code;
-use crate::refusal::report_source;
 use code_answers::answer_run;
 use command_plans::Status;
 use m_places::Source;
 use m_ports::Sink;
+use rule_answers::report_source;
 use std::alloc::Global;
 use std::thread::Threads;
 

@@ -20,22 +20,21 @@ ghost use Rattle.command_answers.specs.Serves.{IsServed};
 ghost use Rattle.command_answers.specs.Serving.{Served};
 ghost use Rattle.command_answers.specs.inner.Answers.{IsBegun, IsExplainerOf, IsServedBy};
 
-use crate::program::{Program, program_of};
-use crate::refusal::report_source;
 use crate::session::serve_session;
 use code_answers::{household_entry, read_given, report_refusal};
 use command_plans::Status;
 use household::HouseholdFault;
 use household_session::Session;
-use m_compile::compile_with_rules;
+use m_compile::{Program, compile_with_rules};
 use m_places::Source;
 use m_ports::{Sink, Source as Input};
+use rule_answers::report_source;
 use rule_base::RuleBase;
 use std::alloc::Global;
 use std::thread::Threads;
 use why_session::Explainer;
 
-/// Compiles a source and keeps its rules, reads the household of these bytes, and then executes the lines of the input
+/// Compiles a source, without register code, and keeps its rules, reads the household of these bytes, and then executes the lines of the input
 /// to its end. If the source or the household is rejected, or memory runs out, nothing is read from the input. No
 /// memory is taken after the first read.
 pub fn serve_source<R: Threads + Sync, S: Input, K: Sink>(
@@ -51,9 +50,7 @@ pub fn serve_source<R: Threads + Sync, S: Input, K: Sink>(
         (output_view K.written K.faults out.old) (output_view K.written K.faults out.new) result }
 {
     match compile_with_rules(rt, alloc, source) {
-        Ok((made, compiled)) => {
-            answer_serve(alloc, program_of(compiled), made, household, input, out)
-        }
+        Ok((made, program)) => answer_serve(alloc, program, made, household, input, out),
         Err(fault) => report_source(source, fault, out),
     }
 }

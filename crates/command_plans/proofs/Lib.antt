@@ -6,3 +6,7 @@ pub mod Lists
 pub mod Parts
 pub mod Rules
 pub mod SourceWithin
+pub mod PrintedLemmas
+pub mod TakenLemmas
+pub mod CourseLemmas
+pub mod ValidLemmas

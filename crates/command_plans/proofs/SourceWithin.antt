@@ -1,12 +1,12 @@
--- The files of a source are within the limit of a file.
+-- The files of a source are within the limit of a file, and a code file within its own.
 use Rattle.std.proofs.Common.{ℕ, ◌≤◌, ◌-◌, Bool, true, false, List, [], ◌∷◌, length, min, None, Result, Ok, Err, cond, arith}
-use Rattle.m_places.specs.declared.limits.TheConstants.{FILE_BYTES, RULE_BYTES}
+use Rattle.m_places.specs.declared.limits.TheConstants.{CODE_FILE_BYTES, FILE_BYTES, RULE_BYTES}
 use Rattle.command_plans.specs.Reads.{reading_of}
 use Rattle.command_plans.specs.declared.listing.Listing.{Listing}
 use Rattle.command_plans.specs.declared.list_fault.ListFault.{ListFault}
 use Rattle.command_plans.specs.Plan.{done}
 use Rattle.command_plans.proofs.Within.{KeepsWithin, within_then}
-use Rattle.command_plans.specs.Source.{is_none, listed, rules_plan, optional_plan, source_plan}
+use Rattle.command_plans.specs.Source.{code_file_plan, is_none, listed, rules_plan, optional_plan, source_file_plan, source_plan}
 use Rattle.command_plans.specs.declared.source.SourceNames.{SourceNames}
 use Rattle.command_plans.proofs.Parts.{present}
 
@@ -40,3 +40,9 @@ source_within names = (
       (λ texts. within_then FILE_BYTES (optional_plan names.driver) _ (optional_within names.driver)
       (λ driver. within_then FILE_BYTES (optional_plan names.requests) _ (optional_within names.requests) (λ requests. tt)))),
 )
+
+pub source_file_within : (names : SourceNames) (name : List ℕ) → KeepsWithin FILE_BYTES (source_file_plan names name)
+source_file_within names name = within_then FILE_BYTES (source_plan names) _ (source_within names) (λ source. (omega arith, λ bytes. tt))
+
+pub code_file_within : (code name : List ℕ) → KeepsWithin CODE_FILE_BYTES (code_file_plan code name)
+code_file_within code name = (omega arith, λ bytes. (omega arith, λ more. tt))

@@ -9,4 +9,5 @@ pub mod Files
 pub mod Listing
 pub mod Reads
 pub mod Source
+pub mod Courses
 pub mod inner

@@ -1,5 +1,5 @@
 -- What a printing call has written.
-use Rattle.std.specs.Prelude.{◌≡◌, ◌⊎◌, ℕ, List}
+use Rattle.std.specs.Prelude.{◌≡◌, ◌⊎◌, ◌<◌, ℕ, List}
 use Rattle.std.specs.Io.KnownBytes.{append_known}
 use Rattle.m_ports.specs.Counts.{Rose}
 use Rattle.m_ports.specs.Sink.{AppendsPrefix}
@@ -23,6 +23,11 @@ Breaks text old new = AppendsPrefix old.written new.written text × Rose old.fau
 -- A text was printed, with its own status, or with `WriteFault` where a write failed.
 abbrev pub Prints : List ℕ → Status → OutputView → OutputView → Status → Type 0
 Prints text own old new status = (Appends text old new × (status ≡ own)) ⊎ (Breaks text old new × (status ≡ WriteFault))
+
+-- A write fault is reported exactly if a write failed.
+pub record ReportsWrites (old new : OutputView) (status : Status) : Type 0 where
+  pub only : status ≡ WriteFault → Rose old.faults new.faults
+  pub always : old.faults < new.faults → status ≡ WriteFault
 
 -- The ending of a command was reported, with its status. For out of memory nothing is printed.
 abbrev pub ReportsEnding : Ending → OutputView → OutputView → Status → Type 0

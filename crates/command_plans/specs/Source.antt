@@ -1,7 +1,7 @@
 -- How a source is gathered: the list, the rule files that it names, the driver and the requests.
 use Rattle.std.specs.Prelude.{ℕ, ◌-◌, ◌≤◌, Bool, List, [], ◌∷◌, length, min, Option, Some, None, Result, Ok, Err, if◌then◌else◌, codes}
 use Rattle.std.specs.Str.{bytes_eq}
-use Rattle.m_places.specs.declared.limits.TheConstants.{FILE_BYTES, RULE_BYTES}
+use Rattle.m_places.specs.declared.limits.TheConstants.{CODE_FILE_BYTES, FILE_BYTES, RULE_BYTES}
 use Rattle.command_plans.specs.Reads.{reading_of}
 use Rattle.command_plans.specs.declared.listing.Listing.{Listing}
 use Rattle.command_plans.specs.declared.list_fault.ListFault.{ListFault}
@@ -53,3 +53,11 @@ parts_plan names application texts =
 abbrev pub source_plan : SourceNames → Plan Source
 source_plan names =
     and_then (list_plan names.list) (λ listing. and_then (rules_plan RULE_BYTES listing.files) (λ texts. parts_plan names listing.application texts))
+
+-- a source is gathered, and then one more file
+abbrev pub source_file_plan : SourceNames → List ℕ → Plan (Source × List ℕ)
+source_file_plan names name = and_then (source_plan names) (λ source. and_then (file_plan name FILE_BYTES) (λ bytes. done (source, bytes)))
+
+-- a code file is gathered, and then one more file
+abbrev pub code_file_plan : List ℕ → List ℕ → Plan (List ℕ × List ℕ)
+code_file_plan code name = and_then (file_plan code CODE_FILE_BYTES) (λ bytes. and_then (file_plan name FILE_BYTES) (λ more. done (bytes, more)))

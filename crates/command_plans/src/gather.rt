@@ -1,17 +1,17 @@
-//! The calls that gather a source. Each follows its plan.
+//! The calls that gather a source or a code file. Each follows its plan.
 ghost use Rattle.std.specs.Prelude.{◌≡◌, ◌≤◌, IfOk, length};
-ghost use Rattle.m_places.specs.declared.limits.TheConstants.{LIST_FILES, RULE_BYTES};
+ghost use Rattle.m_places.specs.declared.limits.TheConstants.{CODE_FILE_BYTES, LIST_FILES, RULE_BYTES};
 ghost use Rattle.command_plans.specs.Trips.{GoesAlong};
 ghost use Rattle.command_plans.specs.Views.{files_view};
 ghost use Rattle.m_places.specs.SourceLimits.{TextsAreWithin, FileIsWithin, SourceKeepsLimits};
-ghost use Rattle.command_plans.specs.Source.{is_none, list_plan, rules_plan, optional_plan, parts_plan, source_plan};
+ghost use Rattle.command_plans.specs.Source.{code_file_plan, is_none, list_plan, rules_plan, optional_plan, parts_plan, source_file_plan, source_plan};
 
 use crate::list_fault::ListFault;
 use crate::listing::Listing;
 use crate::read_listing::read_list;
 use crate::source::SourceNames;
 use crate::{Ending, Refusal, fetch};
-use m_places::limits::{FILE_BYTES, RULE_BYTES};
+use m_places::limits::{CODE_FILE_BYTES, FILE_BYTES, RULE_BYTES};
 use m_places::{Name, Seq, Source, Text};
 use m_ports::Files;
 use std::alloc::Global;
@@ -36,6 +36,38 @@ pub fn gather_source<F: Files>(
     } = gather_list(alloc, files, &names.list)?;
     let texts = gather_rules(alloc, files, rules.as_slice())?;
     gather_parts(alloc, files, names, application, texts)
+}
+
+/// Gathers a source, and then the file of this name.
+pub fn gather_source_and_file<F: Files>(
+    alloc: Global,
+    files: &mut F,
+    names: &SourceNames,
+    name: &Name,
+) -> Result<(Source, Seq<u8>), Ending>
+    ensures along { GoesAlong (source_file_plan names.now name.now) (files_view F.known_files F.attempts F.taken files.old)
+        (files_view F.known_files F.attempts F.taken files.new) result }
+    ensures within { IfOk result (λ gathered. SourceKeepsLimits gathered.0) }
+{
+    let source = gather_source(alloc, files, names)?;
+    let bytes = fetch(alloc, files, name, FILE_BYTES)?;
+    Ok((source, bytes))
+}
+
+/// Gathers the code file of the first name, and then the file of the second.
+pub fn gather_code_and_file<F: Files>(
+    alloc: Global,
+    files: &mut F,
+    code: &Name,
+    name: &Name,
+) -> Result<(Seq<u8>, Seq<u8>), Ending>
+    ensures along { GoesAlong (code_file_plan code.now name.now) (files_view F.known_files F.attempts F.taken files.old)
+        (files_view F.known_files F.attempts F.taken files.new) result }
+    ensures within { IfOk result (λ gathered. length gathered.0 ≤ CODE_FILE_BYTES) }
+{
+    let bytes = fetch(alloc, files, code, CODE_FILE_BYTES)?;
+    let more = fetch(alloc, files, name, FILE_BYTES)?;
+    Ok((bytes, more))
 }
 
 // Fetches the list, and reads it.

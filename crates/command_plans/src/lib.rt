@@ -25,9 +25,9 @@ mod status;
 
 pub use ending::Ending;
 pub use files::fetch;
-pub use gather::{gather_optional, gather_source};
+pub use gather::{gather_code_and_file, gather_optional, gather_source, gather_source_and_file};
 pub use lines::{print_fault, printed, report_ending};
 pub use list_laws::{list_meaning, one_reading};
 pub use refusal::Refusal;
-pub use source::SourceNames;
+pub use source::{SourceNames, names_of};
 pub use status::Status;

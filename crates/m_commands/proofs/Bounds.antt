@@ -1,17 +1,18 @@
 -- The clause on how much of the input was read.
-use Rattle.std.proofs.Common.{◌≡◌, ◌⊎◌, ℕ, ◌<◌, List, [], length, Option, None, Some, refl, sym, ap, ◌∙◌, inl, inr, arith}
+use Rattle.std.proofs.Common.{◌≡◌, ℕ, ◌<◌, List, [], length, Option, None, Some, refl, sym, ap, ◌∙◌, inr, arith}
 use Rattle.std.specs.Io.KnownBytes.{prepend_known}
 use Rattle.m_places.specs.declared.limits.TheConstants.{INPUT_BYTES}
-use Rattle.command_plans.specs.Printing.{Prints}
+use Rattle.command_plans.specs.Courses.{is_no_command, has_no_memory, ended, answered}
 use Rattle.command_plans.specs.Views.{FilesView, InputView, OutputView}
 use Rattle.command_plans.specs.declared.status.Status.{Status}
-use Rattle.command_plans.specs.declared.status.Status.TheVariants.{Refused, WriteFault}
+use Rattle.command_plans.specs.declared.status.Status.TheVariants.{Refused}
+use Rattle.command_plans.proofs.PrintedLemmas.{status_of}
 use Rattle.command_answers.specs.Serves as serve
 use Rattle.command_answers.specs.Serving.{Served, to_its_end, unread, too_long, unwritten, unwritten_at_end}
 use Rattle.m_commands.specs.Clauses.{KeepsInputLimit}
 use Rattle.m_commands.specs.declared.work.Work.{Work}
 use Rattle.m_commands.specs.declared.work.Work.TheVariants.{Run, Serve, Batch, Large, Compile, Exec, Check, Lint, Cases}
-use Rattle.m_commands.specs.inner.Courses.{Course, WorkIsAnswered, is_no_command, has_no_memory, ended, answered}
+use Rattle.m_commands.specs.inner.Courses.{Course, WorkIsAnswered}
 
 nothing : (known : Option (List ℕ)) → prepend_known [] known ≡ known
 nothing None = refl
@@ -32,11 +33,6 @@ less : (heard reported : InputView) (status : Status) (taken : List ℕ) → hea
     → KeepsInputLimit heard reported status
 less heard reported status taken moved few = (taken, moved, omega (arith, few), λ full. absurd (omega (arith, few, full)))
 
--- the error line was printed, or its write failed
-stated : (text : List ℕ) (old new : OutputView) (status : Status) → Prints text Refused old new status → (status ≡ Refused) ⊎ (status ≡ WriteFault)
-stated text old new status (inl p) = inl p.1
-stated text old new status (inr p) = inr p.1
-
 session_bounded : (whole each : List ℕ → List ℕ) (heard reported : InputView) (old new : OutputView) (status : Status)
     → Served whole each heard reported old new status → KeepsInputLimit heard reported status
 session_bounded whole each heard reported old new status (to_its_end taken moved few none calm appends is) = less heard reported status taken moved few
@@ -45,7 +41,7 @@ session_bounded whole each heard reported old new status (too_long taken moved f
   taken,
   moved,
   omega (arith, full),
-  λ e. stated _ old new status
+  λ e. status_of _ Refused old new status
       p,
 )
 session_bounded whole each heard reported old new status (unwritten taken moved within calm breaks is) = (taken, moved, within, λ full. inr is)
@@ -71,4 +67,4 @@ pub bounded_of : (words : List (List ℕ)) (before after : FilesView) (heard rep
 bounded_of words before after heard reported old new status (is_no_command n s h p) = untouched heard reported status h
 bounded_of words before after heard reported old new status (has_no_memory s h o e) = untouched heard reported status h
 bounded_of words before after heard reported old new status (ended command ending c g h p) = untouched heard reported status h
-bounded_of words before after heard reported old new status (answered command work c g k a) = work_bounded work heard reported old new status a
+bounded_of words before after heard reported old new status (answered command work c g a) = work_bounded work heard reported old new status a.1

@@ -1,34 +1,24 @@
 -- `cases` has one answer.
-use Rattle.std.proofs.Common.{◌≡◌, ℕ, zero, suc, List, Some, Result, Ok, Err, refl, ap, subst}
+use Rattle.std.proofs.Common.{◌≡◌, ℕ, zero, suc, List, Ok, refl, ap, subst}
 use Rattle.m_places.specs.declared.source.Source.{Source}
 use Rattle.m_cases.specs.Cases.{cases_of}
 use Rattle.m_cases.specs.declared.cases.Cases.{Cases}
-use Rattle.m_cases.specs.declared.fault.CasesFault.{CasesFault}
-use Rattle.m_compile.specs.Faults.{IsSourceFault}
-use Rattle.m_compile.specs.declared.fault.SourceFault.{SourceFault}
-use Rattle.m_compile.proofs.OneLaws.{no_valid_and_fault, one_fault}
+use Rattle.m_compile.proofs.OneLaws.{one_fault}
 use Rattle.command_plans.specs.Status.{IsComplete}
 use Rattle.command_plans.specs.declared.status.Status.{Status}
 use Rattle.command_answers.specs.Cases.{CasesHasAnswer, CasesReplies, source_is_refused, is_answered}
 use Rattle.code_answers.specs.Cases.{ComparedReplies, cases_count, cases_fault_line, cases_text, count_status, table_is_refused, is_compared}
 use Rattle.code_answers.specs.Schemes.{Scheme}
-use Rattle.command_answers.specs.Sources.{IsScheme}
 use Rattle.m_commands.specs.Output.{AreOneOutput, the_same}
-use Rattle.m_commands.proofs.Schemes.{one_line, one_scheme}
-
--- a source that has a scheme has no fault
-no_scheme_and_fault : (source : Source) (scheme : Scheme) (fault : SourceFault) → IsScheme source scheme → IsSourceFault source fault → ⊥
-no_scheme_and_fault source scheme fault v is = no_valid_and_fault source v.declared v.base v.written v.requests fault v.valid is
-
-same_fault_line : (fault other : CasesFault) (t u : List ℕ) → fault ≡ other → cases_fault_line fault ≡ Some t → cases_fault_line other ≡ Some u → t ≡ u
-same_fault_line fault other t u e a b =
-    let c : cases_fault_line other ≡ Some t = subst (λ (f : CasesFault). cases_fault_line f ≡ Some t) e a in
-    cc (c, b)
+use Rattle.command_plans.proofs.PrintedLemmas.{one_line as one_line_of}
+use Rattle.command_answers.proofs.SchemeLaws.{no_scheme_and_fault, one_scheme}
+use Rattle.m_commands.proofs.Schemes.{one_line}
 
 -- a scheme has one answer
 one_compared : (scheme : Scheme) (table t u : List ℕ) (s r : Status) → ComparedReplies scheme table t s → ComparedReplies scheme table u r
     → AreOneOutput t s u r
-one_compared scheme table t u s r (table_is_refused fault g k) (table_is_refused other h l) = the_same (same_fault_line fault other t u (cc (g, h)) k l) refl
+one_compared scheme table t u s r (table_is_refused fault g k) (table_is_refused other h l) =
+    the_same (one_line_of cases_fault_line fault other t u (cc (g, h)) k l) refl
 one_compared scheme table t u s r (table_is_refused fault g k) (is_compared cases h) = cc (g, h)
 one_compared scheme table t u s r (is_compared cases g) (table_is_refused other h l) = cc (g, h)
 one_compared scheme table t u s r (is_compared one g) (is_compared other h) =

@@ -1,5 +1,5 @@
 -- `check` has one answer.
-use Rattle.std.proofs.Common.{◌≡◌, ℕ, ◌+◌, ℤ, List, Some, Ok, Err, refl, ap, subst}
+use Rattle.std.proofs.Common.{◌≡◌, ℕ, ◌+◌, ℤ, List, Ok, refl, ap, subst}
 use Rattle.m_places.specs.declared.source.Source.{Source}
 use Rattle.tax_print.specs.FaultLines.{report_line}
 use Rattle.tax_print.specs.declared.fault.ReportFault.TheVariants as words
@@ -8,22 +8,18 @@ use Rattle.m_symbols.specs.Declarations.{Declared}
 use Rattle.micro_m.specs.declared.base.Base.{Base}
 use Rattle.why_report.specs.Derivations.{IsFirstUnsound, IsSound}
 use Rattle.why_report.specs.Reports.{parsed_report}
-use Rattle.why_report.specs.declared.fault.ReportFault.{ReportFault}
 use Rattle.why_report.specs.declared.line.ReportLine.{ReportLine}
 use Rattle.why_report.proofs.FindingLaws.{no_sound_and_unsound, one_unsound}
 use Rattle.driver_core.specs.Inputs.{inputs_declared}
 use Rattle.m_compile.proofs.OneLaws.{no_base_and_base_fault, one_base_fault, one_rules}
 use Rattle.command_plans.specs.Status.{IsComplete}
+use Rattle.code_answers.specs.Households.{household_fault_line}
 use Rattle.command_plans.specs.declared.status.Status.{Status}
 use Rattle.rule_answers.specs.Checks.{CheckHasAnswer, CheckReplies, ReportReplies, given_by, report_fault_line}
 use Rattle.rule_answers.specs.Checks as check
 use Rattle.m_commands.specs.Output.{AreOneOutput, the_same}
-use Rattle.m_commands.proofs.Schemes.{one_line, same_line}
-
-one_report_line : (fault other : ReportFault) (t u : List ℕ) → fault ≡ other → report_fault_line fault ≡ Some t → report_fault_line other ≡ Some u → t ≡ u
-one_report_line fault other t u e a b =
-    let c : report_fault_line other ≡ Some t = subst (λ (f : ReportFault). report_fault_line f ≡ Some t) e a in
-    cc (c, b)
+use Rattle.command_plans.proofs.PrintedLemmas.{one_line as one_line_of}
+use Rattle.m_commands.proofs.Schemes.{one_line}
 
 -- the result over the lines is the same
 moved : (declared : Declared) (base : Base) (pairs given : List (ℕ × ℤ)) (lines others : List ReportLine) (position : ℕ) → pairs ≡ given → lines ≡ others
@@ -35,13 +31,13 @@ moved declared base pairs given lines others position p q first =
 one_report : (declared : Declared) (base : Base) (rows report t u : List ℕ) (s r : Status) → ReportReplies declared base rows report t s
     → ReportReplies declared base rows report u r → AreOneOutput t s u r
 one_report declared base rows report t u s r (check.household_is_refused fault g k) (check.household_is_refused other h l) = the_same
-    (same_line fault other t u (cc (g, h)) k l) refl
+    (one_line_of household_fault_line fault other t u (cc (g, h)) k l) refl
 one_report declared base rows report t u s r (check.household_is_refused fault g k) (check.report_is_refused pairs other h i l) = cc (g, h)
 one_report declared base rows report t u s r (check.household_is_refused fault g k) (check.is_unsound pairs lines position h i l) = cc (g, h)
 one_report declared base rows report t u s r (check.household_is_refused fault g k) (check.is_sound pairs lines h i l) = cc (g, h)
 one_report declared base rows report t u s r (check.report_is_refused pairs fault g i k) (check.household_is_refused other h l) = cc (g, h)
 one_report declared base rows report t u s r (check.report_is_refused pairs fault g i k) (check.report_is_refused given other h j l) = the_same
-    (one_report_line fault other t u (cc (i, j)) k l) refl
+    (one_line_of report_fault_line fault other t u (cc (i, j)) k l) refl
 one_report declared base rows report t u s r (check.report_is_refused pairs fault g i k) (check.is_unsound given lines position h j l) = cc (i, j)
 one_report declared base rows report t u s r (check.report_is_refused pairs fault g i k) (check.is_sound given lines h j l) = cc (i, j)
 one_report declared base rows report t u s r (check.is_unsound pairs lines position g i k) (check.household_is_refused other h l) = cc (g, h)

@@ -1,68 +1,40 @@
 -- `compile` has one answer up to the compiled code, and a code file has one answer.
-use Rattle.std.proofs.Common.{◌≡◌, ◌≢◌, ℕ, ℤ, List, [], length, None, Some, Ok, Err, refl, sym, ap, ◌∙◌, subst}
+use Rattle.std.proofs.Common.{◌≡◌, ℕ, ℤ, List, [], length, Some, Ok, Err, refl, sym, ap, ◌∙◌, subst}
 use Rattle.m_fixed.specs.declared.amount.Value.{Value}
 use Rattle.m_places.specs.declared.source.Source.{Source}
 use Rattle.code_file.specs.Reading.{IsCodeFault, IsFormOf}
 use Rattle.code_file.specs.declared.fault.CodeFault.{CodeFault}
-use Rattle.code_file.specs.declared.fault.CodeFault.TheVariants.{Memory}
 use Rattle.code_file.specs.declared.loaded.Loaded.{Loaded}
 use Rattle.code_file.proofs.EntryLaws.{one-fault}
-use Rattle.code_file.proofs.FormLaws.{no-fault-of-form, one-form}
+use Rattle.code_file.proofs.FormLaws.{no-fault-of-form}
 use Rattle.household.specs.Household.{household_of, values_of}
 use Rattle.household.specs.declared.fault.HouseholdFault.{HouseholdFault}
 use Rattle.household.proofs.GivenLemmas.{household_gives}
-use Rattle.observables.specs.Answers.{observation}
-use Rattle.observables.specs.Outputs.{names_of, notes_of}
 use Rattle.observables.specs.declared.answer.Answer.{Answer}
 use Rattle.observables.specs.declared.face.Face.{Face}
 use Rattle.reg_machine.specs.Machine.{machine_run}
 use Rattle.m_compile.specs.Faults.{IsSourceFault}
 use Rattle.m_compile.specs.declared.fault.SourceFault.{SourceFault}
-use Rattle.m_compile.proofs.OneLaws.{no_valid_and_fault, one_fault}
+use Rattle.m_compile.proofs.OneLaws.{one_fault}
 use Rattle.command_plans.specs.declared.status.Status.{Status}
 use Rattle.tax_print.specs.Lines.{observation_lines}
 use Rattle.command_answers.specs.Compiles.{CompileReplies, CompileHasAnswer}
 use Rattle.command_answers.specs.Compiles as compiles
 use Rattle.code_answers.specs.Execs.{ExecReplies, ExecHasAnswer, code_fault_line}
 use Rattle.code_answers.specs.Execs as exec
-use Rattle.code_answers.specs.Households.{observation_status}
+use Rattle.code_answers.specs.Households.{household_fault_line, observation_status}
 use Rattle.code_answers.specs.Shown.{HouseholdReplies, Shows}
 use Rattle.code_answers.specs.Shown as prepared
 use Rattle.code_answers.specs.Schemes.{Scheme, observation_for}
-use Rattle.command_answers.specs.Sources.{IsScheme}
 use Rattle.m_commands.specs.Output.{AreOneOutput, the_same, both_compiled}
-use Rattle.m_commands.proofs.Schemes.{one_line, same_line}
+use Rattle.code_answers.proofs.OneLaws.{one_inputs, one_loaded, shown_other}
+use Rattle.command_plans.proofs.PrintedLemmas.{one_line as one_line_of}
+use Rattle.command_answers.proofs.SchemeLaws.{no_scheme_and_fault}
+use Rattle.m_commands.proofs.Schemes.{one_line}
 
 -- ---- code files
 
--- loaded code with the same parts is equal (proofs are irrelevant)
-pub record IsSameCode (one other : Loaded) : Type 0 where
-  pub code : one.code ≡ other.code
-  pub inputs : one.face.inputs ≡ other.face.inputs
-  pub labels : one.face.labels ≡ other.face.labels
-  pub outputs : one.face.outputs ≡ other.face.outputs
-
--- a code file is the form of one loaded code
-pub one_loaded : (code : List ℕ) (one other : Loaded) → IsFormOf code one → IsFormOf code other → IsSameCode one other
-one_loaded code one other a b = let same = one-form code one other a b in record { code = same.0; inputs = same.1; labels = same.2; outputs = same.3 }
-
--- the form of loaded code has no fault
-pub no_form_and_fault : (code line : List ℕ) (loaded : Loaded) (fault : CodeFault) → IsFormOf code loaded → IsCodeFault code fault
-    → code_fault_line fault ≡ Some line → ⊥
-no_form_and_fault code line loaded fault form f k = no-fault-of-form code loaded fault form f
-
--- a code file has one fault
-one_code_fault : (code line other_line : List ℕ) (fault other : CodeFault) → IsCodeFault code fault → IsCodeFault code other → code_fault_line fault ≡ Some line
-    → code_fault_line other ≡ Some other_line → fault ≡ other
-one_code_fault code line other_line fault other f g k l = one-fault code fault other f g
-
--- ---- the schemes that code shows
-
--- two schemes of one program have the same inputs
-pub one_inputs : (face : Face) (runs : List Value → Answer) (one other : Scheme) → Shows one face runs → Shows other face runs → one.inputs ≡ other.inputs
-one_inputs face runs one other a b = sym a.inputs ∙ b.inputs
-
--- they observe the same for a household
+-- two schemes of one program observe the same for a household
 pub one_reported : (face : Face) (runs : List Value → Answer) (one other : Scheme) (rows : List ℕ) (pairs : List (ℕ × ℤ)) → Shows one face runs
     → Shows other face runs
     → household_of one.inputs rows ≡ Ok pairs → household_of other.inputs rows ≡ Ok pairs → observation_for one pairs ≡ observation_for other pairs
@@ -72,23 +44,13 @@ one_reported face runs one other rows pairs a b g h =
     let y = b.answers (values_of pairs (length other.inputs)) (household_gives other.inputs rows pairs h) in
     cc (n, x, y)
 
--- equal code shows the same scheme
-pub shown_other : (scheme : Scheme) (one other : Loaded) → IsSameCode one other → Shows scheme one.face (machine_run one.code)
-    → Shows scheme other.face (machine_run other.code)
-shown_other scheme one other same s = record {
-  inputs = sym same.inputs ∙ s.inputs;
-  names = ap names_of (sym same.outputs) ∙ s.names;
-  answers = λ values given. (λ i. observation (sym same.labels i) (notes_of (sym same.outputs i)) (machine_run (sym same.code i) values))
-      ∙ s.answers values given;
-}
-
 -- a household has one answer by the schemes that code shows
 one_answer : (face : Face) (runs : List Value → Answer) (one other : Scheme) (rows t u : List ℕ) (s r : Status) → Shows one face runs → Shows other face runs
     → HouseholdReplies [] one rows t s → HouseholdReplies [] other rows u r → AreOneOutput t s u r
 one_answer face runs one other rows t u s r a b (prepared.is_refused fault g k) (prepared.is_refused also h l) =
     let f : household_of other.inputs rows ≡ Err fault = subst (λ inputs. household_of inputs rows ≡ Err fault) (one_inputs face runs one other a b) g in
     let e : fault ≡ also = cc (f, h) in
-    the_same (same_line fault also t u e k l) refl
+    the_same (one_line_of household_fault_line fault also t u e k l) refl
 one_answer face runs one other rows t u s r a b (prepared.is_refused fault g k) (prepared.is_reported pairs h) =
     let f : household_of other.inputs rows ≡ Err fault = subst (λ inputs. household_of inputs rows ≡ Err fault) (one_inputs face runs one other a b) g in
     cc (f, h)
@@ -102,20 +64,14 @@ one_answer face runs one other rows t u s r a b (prepared.is_reported pairs g) (
     let n : one.names ≡ other.names = sym a.names ∙ b.names in
     the_same (λ i. observation_lines (n i) (e i)) (ap observation_status e)
 
--- two lines of one fault of a code file are equal
-one_code_line : (fault other : CodeFault) (t u : List ℕ) → fault ≡ other → code_fault_line fault ≡ Some t → code_fault_line other ≡ Some u → t ≡ u
-one_code_line fault other t u e a b =
-    let c : code_fault_line other ≡ Some t = subst (λ (f : CodeFault). code_fault_line f ≡ Some t) e a in
-    cc (c, b)
-
 -- `exec` has one answer
 pub one_exec : (code rows t u : List ℕ) (s r : Status) → ExecReplies code rows t s → ExecReplies code rows u r → AreOneOutput t s u r
 one_exec code rows t u s r (exec.code_is_refused fault f k) (exec.code_is_refused other g l) = the_same
-    (one_code_line fault other t u (one_code_fault code t u fault other f g k l) k l) refl
+    (one_line_of code_fault_line fault other t u (one-fault code fault other f g) k l) refl
 one_exec code rows t u s r (exec.code_is_refused fault f k) (exec.is_answered loaded scheme form shown h) = absurd
-    (no_form_and_fault code t loaded fault form f k)
+    (no-fault-of-form code loaded fault form f)
 one_exec code rows t u s r (exec.is_answered loaded scheme form shown h) (exec.code_is_refused fault f k) = absurd
-    (no_form_and_fault code u loaded fault form f k)
+    (no-fault-of-form code loaded fault form f)
 one_exec code rows t u s r (exec.is_answered one scheme form shown h) (exec.is_answered other also part seen i) =
     let e = one_loaded code one other form part in
     let a = shown_other scheme one other e shown in
@@ -123,7 +79,7 @@ one_exec code rows t u s r (exec.is_answered one scheme form shown h) (exec.is_a
 
 -- a code file that has an answer has no fault
 pub code_not_refused : (code rows line : List ℕ) (fault : CodeFault) → ExecHasAnswer code rows → IsCodeFault code fault → code_fault_line fault ≡ Some line → ⊥
-code_not_refused code rows line fault h is reported = no_form_and_fault code line h.loaded fault h.form is reported
+code_not_refused code rows line fault h is reported = no-fault-of-form code h.loaded fault h.form is
 
 -- the household of an answer has no fault
 pub rows_not_refused : (code rows : List ℕ) (loaded : Loaded) (scheme : Scheme) (fault : HouseholdFault) → ExecHasAnswer code rows → IsFormOf code loaded
@@ -135,10 +91,6 @@ rows_not_refused code rows loaded scheme fault h form shown g =
     cc (f, g)
 
 -- ---- compile
-
--- a source that has a scheme has no fault
-no_scheme_and_fault : (source : Source) (scheme : Scheme) (fault : SourceFault) → IsScheme source scheme → IsSourceFault source fault → ⊥
-no_scheme_and_fault source scheme fault v is = no_valid_and_fault source v.declared v.base v.written v.requests fault v.valid is
 
 -- a valid source isn't rejected
 pub compiled_not_refused : (source : Source) (fault : SourceFault) → CompileHasAnswer source → IsSourceFault source fault → ⊥

@@ -5,6 +5,7 @@ use Rattle.code_file.specs.Reading.{IsFormOf}
 use Rattle.code_file.specs.declared.loaded.Loaded.{Loaded}
 use Rattle.tax_print.specs.FaultLines.{too_long_line}
 use Rattle.m_places.specs.declared.source.Source.{Source}
+use Rattle.command_plans.specs.Courses.{usage, refuses, answers}
 use Rattle.command_plans.specs.Plan.{Plan, End, done, refuses, fetches, and_then, fetched_end, end_of, gathered, refused}
 use Rattle.command_plans.specs.Views.{Disk, FilesView, InputView, OutputView}
 use Rattle.command_plans.specs.declared.status.Status.{Status}
@@ -16,7 +17,7 @@ use Rattle.command_answers.specs.Prepared.{IsPreparedCode}
 use Rattle.m_commands.specs.Answer.{Replies}
 use Rattle.m_commands.specs.Clauses.{WritesCode}
 use Rattle.m_commands.specs.Command.{command_of, plan_of, reads_input, takes_input}
-use Rattle.m_commands.specs.Output.{Output, usage, refuses, answers}
+use Rattle.m_commands.specs.Output.{Output}
 use Rattle.m_commands.specs.declared.command.Command.{Command}
 use Rattle.m_commands.specs.declared.command.Command.TheVariants.{Compile}
 use Rattle.m_commands.specs.declared.work.Work.{Work}

@@ -1,27 +1,28 @@
 -- The clause that a session which did all of its work is at the input's end.
-use Rattle.std.proofs.Common.{◌≡◌, true, false, ℕ, List, Option, Some, None, sym, ap, ◌∙◌, inl, inr}
+use Rattle.std.proofs.Common.{◌≡◌, true, false, ℕ, List, Some, sym, ap, ◌∙◌}
 use Rattle.std.specs.Option.{option_map_or}
 use Rattle.std.specs.Io.KnownBytes.{IsAtEnd}
 use Rattle.tax_print.specs.FaultLines.{unreadable_line, usage_line}
+use Rattle.command_plans.specs.Courses.{is_no_command, has_no_memory, ended, answered}
 use Rattle.command_plans.specs.Printing.{Prints}
 use Rattle.command_plans.specs.Refusals.{refusal_line}
 use Rattle.command_plans.specs.Views.{FilesView, InputView, OutputView}
 use Rattle.command_plans.specs.declared.ending.Ending.TheVariants as ending
 use Rattle.command_plans.specs.declared.status.Status.{Status}
 use Rattle.command_plans.specs.declared.status.Status.TheVariants.{Done, ReadFault, Refused, Usage}
+use Rattle.command_plans.proofs.PrintedLemmas.{other_status}
 use Rattle.command_answers.specs.Serves as serve
 use Rattle.command_answers.specs.Serving.{Served, to_its_end, unread, too_long, unwritten, unwritten_at_end}
 use Rattle.m_commands.specs.Command.{reads_input, takes_input}
 use Rattle.m_commands.specs.declared.command.Form.TheVariants as form
 use Rattle.m_commands.specs.declared.work.Work.{Work}
 use Rattle.m_commands.specs.declared.work.Work.TheVariants.{Run, Serve, Batch, Large, Compile, Exec, Check, Lint, Cases}
-use Rattle.m_commands.specs.inner.Courses.{Course, WorkIsAnswered, work_form, is_no_command, has_no_memory, ended, answered}
+use Rattle.m_commands.specs.inner.Courses.{Course, WorkIsAnswered, work_form}
 use Rattle.m_commands.proofs.Ways.{session_requested}
 
 -- the status isn't `Done` after such a text was printed
 not_done : (text : List ℕ) (own : Status) (old new : OutputView) (status : Status) → Prints text own old new status → (own ≡ Done → ⊥) → status ≡ Done → ⊥
-not_done text own old new status (inl p) unlike e = unlike (sym p.1 ∙ e)
-not_done text own old new status (inr p) unlike e = cc (p.1, e)
+not_done text own old new status p unlike e = other_status Done text own old new status p unlike (λ x. cc) e
 
 session_ends : (whole each : List ℕ → List ℕ) (heard reported : InputView) (old new : OutputView) (status : Status)
     → Served whole each heard reported old new status → status ≡ Done → IsAtEnd reported.left
@@ -55,5 +56,5 @@ ends_of words before after heard reported old new status (ended wanted (ending.R
 ends_of words before after heard reported old new status (ended wanted (ending.Unreadable name) c g h p) r e = absurd
     (not_done (unreadable_line name) ReadFault old new status p (λ x. cc) e)
 ends_of words before after heard reported old new status (ended wanted ending.Memory c g h p) r e = absurd (cc (p.1, e))
-ends_of words before after heard reported old new status (answered wanted work c g k a) r e =
-    work_ends work heard reported old new status a (k ∙ session_requested wanted (sym (ap (λ o. option_map_or takes_input o false) c) ∙ r)) e
+ends_of words before after heard reported old new status (answered wanted work c g a) r e =
+    work_ends work heard reported old new status a.1 (a.0 ∙ session_requested wanted (sym (ap (λ o. option_map_or takes_input o false) c) ∙ r)) e

@@ -22,10 +22,11 @@ use Rattle.command_answers.specs.Prepared.{IsPreparedCode}
 use Rattle.command_answers.specs.Runs.{RunReplies, RunHasAnswer}
 use Rattle.command_answers.specs.Runs as run
 use Rattle.command_answers.specs.Sources.{IsScheme, source_is_refused, households_are_refused}
-use Rattle.m_compile.proofs.OneLaws.{no_valid_and_fault}
-use Rattle.m_commands.proofs.Codes.{no_form_and_fault, one_inputs, one_loaded, one_reported, shown_other}
+use Rattle.code_file.proofs.FormLaws.{no-fault-of-form}
+use Rattle.code_answers.proofs.OneLaws.{one_inputs, one_loaded, shown_other}
+use Rattle.command_answers.proofs.SchemeLaws.{no_scheme_and_fault, one_scheme}
+use Rattle.m_commands.proofs.Codes.{one_reported}
 use Rattle.m_commands.proofs.Compiling.{written}
-use Rattle.m_commands.proofs.Schemes.{one_scheme}
 
 -- the answer to a household by one scheme is that by the other
 same_replies : (face : Face) (runs : List Value → Answer) (one other : Scheme) (rows text : List ℕ) (status : Status) → Shows one face runs
@@ -54,7 +55,7 @@ run_of source scheme rows text status v (prepared.is_reported pairs g) = run.is_
 executed : (source : Source) (loaded : Loaded) (code rows text : List ℕ) (status : Status) → IsPreparedCode source loaded → IsFormOf code loaded
     → ExecReplies code rows text status
     → RunReplies source rows text status
-executed source loaded code rows text status p form (exec.code_is_refused fault f k) = absurd (no_form_and_fault code text loaded fault form f k)
+executed source loaded code rows text status p form (exec.code_is_refused fault f k) = absurd (no-fault-of-form code loaded fault form f)
 executed source loaded code rows text status p form (exec.is_answered other scheme part shown replies) =
     let e = one_loaded code other loaded part form in
     let a = shown_other scheme other loaded e shown in
@@ -70,7 +71,7 @@ ran : (source : Source) (loaded : Loaded) (code rows text : List ℕ) (status : 
     → RunReplies source rows text status
     → ExecReplies code rows text status
 ran source loaded code rows text status p form (run.is_refused (source_is_refused fault is reported)) =
-    absurd (no_valid_and_fault source p.valid.declared p.valid.base p.valid.written p.valid.requests fault p.valid.valid is)
+    absurd (no_scheme_and_fault source p.scheme fault p.valid is)
 ran source loaded code rows text status p form (run.is_refused (households_are_refused scheme fault v g k)) =
     exec.is_answered loaded scheme form (shown_by source loaded scheme p v) (prepared.is_refused fault g k)
 ran source loaded code rows text status p form (run.is_reported scheme pairs v g) = exec.is_answered loaded scheme form (shown_by source loaded scheme p v)

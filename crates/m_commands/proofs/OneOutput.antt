@@ -3,17 +3,17 @@ use Rattle.std.proofs.Common.{◌≡◌, ◌<◌, ℕ, ℤ, List, ◌++◌, leng
 use Rattle.std.proofs.Common.{take}
 use Rattle.std.proofs.lemmas.List.{take-append-le, take_all}
 use Rattle.m_places.specs.declared.source.Source.{Source}
-use Rattle.tax_print.specs.FaultLines.{input_too_long_line}
+use Rattle.tax_print.specs.FaultLines.{input_too_long_line, usage_line}
 use Rattle.household.specs.Household.{household_of}
 use Rattle.household.specs.Table.{table_of}
 use Rattle.household.specs.declared.table.Row.{Row}
 use Rattle.m_large.specs.Large.{household_text}
 use Rattle.m_places.specs.declared.limits.TheConstants.{INPUT_BYTES}
 use Rattle.large_validity.specs.Sources.{large_source}
-use Rattle.command_plans.specs.Plan.{end_of, gathered, refused}
 use Rattle.command_plans.specs.Views.{Disk}
 use Rattle.command_plans.specs.declared.status.Status.{Status}
 use Rattle.command_plans.specs.declared.status.Status.TheVariants.{Done, Refused}
+use Rattle.command_plans.proofs.ValidLemmas.{one_output as one}
 use Rattle.why_session.specs.Explains.{Explaining}
 use Rattle.tax_print.specs.Lines.{observation_lines}
 use Rattle.command_answers.specs.Batches as batch
@@ -28,16 +28,16 @@ use Rattle.command_answers.specs.Sessions.{ended_replies, session_replies}
 use Rattle.command_answers.specs.Sources.{IsScheme}
 use Rattle.code_answers.specs.Tables.{rows_lines}
 use Rattle.m_commands.specs.Answer.{Replies}
-use Rattle.m_commands.specs.Command.{plan_of}
-use Rattle.m_commands.specs.Output.{Output, usage, refuses, answers, AreOneOutput, both_served, both_too_long, the_same}
-use Rattle.m_commands.specs.declared.command.Command.{Command}
+use Rattle.m_commands.specs.Command.{command_of, plan_of}
+use Rattle.m_commands.specs.Output.{Output, AreOneOutput, both_served, both_too_long, the_same}
 use Rattle.m_commands.specs.declared.work.Work.{Work}
 use Rattle.m_commands.specs.declared.work.Work.TheVariants.{Run, Serve, Batch, Large, Compile, Exec, Check, Lint, Cases}
 use Rattle.m_commands.proofs.Cases.{one_cases}
 use Rattle.m_commands.proofs.Checks.{one_check}
 use Rattle.m_commands.proofs.Codes.{one_compile, one_exec}
 use Rattle.m_commands.proofs.Lints.{one_lint}
-use Rattle.m_commands.proofs.Schemes.{not_refused, one_refusal, one_scheme, stated_other}
+use Rattle.command_answers.proofs.SchemeLaws.{one_scheme}
+use Rattle.m_commands.proofs.Schemes.{not_refused, one_refusal, stated_other}
 
 -- the pairs of a household are the same for two schemes of a source
 one_pairs : (source : Source) (rows : List ℕ) (one other : Scheme) (pairs given : List (ℕ × ℤ)) → IsScheme source one → IsScheme source other
@@ -144,26 +144,6 @@ one_reply (Cases source table) typed t u s r a b = one_cases source table t u s 
 -- The same words, files and input have one output.
 pub one_output : (words : List (List ℕ)) (disk : Disk) (typed t u : List ℕ) (s r : Status) → Output words disk typed t s → Output words disk typed u r
     → AreOneOutput t s u r
-one_output words disk typed t u s r (usage e) (usage f) = the_same refl refl
-one_output words disk typed t u s r (usage e) (refuses b f h) = cc (e, f)
-one_output words disk typed t u s r (usage e) (answers b w f h y) = cc (e, f)
-one_output words disk typed t u s r (refuses a e g) (usage f) = cc (e, f)
-one_output words disk typed t u s r (refuses a e g) (refuses b f h) =
-    let c : a ≡ b = cc (e, f) in
-    let i : end_of disk (plan_of b) ≡ refused t = subst (λ (x : Command). end_of disk (plan_of x) ≡ refused t) c g in
-    let j : t ≡ u = cc (i, h) in
-    the_same j refl
-one_output words disk typed t u s r (refuses a e g) (answers b w f h y) =
-    let c : a ≡ b = cc (e, f) in
-    let i : end_of disk (plan_of b) ≡ refused t = subst (λ (x : Command). end_of disk (plan_of x) ≡ refused t) c g in
-    cc (i, h)
-one_output words disk typed t u s r (answers a v e g x) (usage f) = cc (e, f)
-one_output words disk typed t u s r (answers a v e g x) (refuses b f h) =
-    let c : a ≡ b = cc (e, f) in
-    let i : end_of disk (plan_of b) ≡ gathered v = subst (λ (x : Command). end_of disk (plan_of x) ≡ gathered v) c g in
-    cc (i, h)
-one_output words disk typed t u s r (answers a v e g x) (answers b w f h y) =
-    let c : a ≡ b = cc (e, f) in
-    let i : end_of disk (plan_of b) ≡ gathered v = subst (λ (x : Command). end_of disk (plan_of x) ≡ gathered v) c g in
-    let k : v ≡ w = cc (i, h) in
-    one_reply w typed t u s r (subst (λ (z : Work). Replies z typed t s) k x) y
+one_output words disk typed t u s r a b =
+    one plan_of (λ work. Replies work typed) usage_line AreOneOutput (command_of words) disk t u s r (λ text other status outcome e f. the_same e f)
+    (λ work text other status outcome x y. one_reply work typed text other status outcome x y) a b

@@ -1,158 +1,50 @@
 -- The clause on the files that are read.
-use Rattle.std.proofs.Common.{◌≡◌, ℕ, true, false, List, [], ◌∷◌, ◌++◌, Some, Ok, Err, Result, refl, sym, ap, ◌∙◌, subst, inl, inr}
-use Rattle.std.proofs.lemmas.List.{append-nil}
-use Rattle.std.specs.Prelude.{◌⊎◌}
-use Rattle.std.specs.Option.{option_map_or}
-use Rattle.std.specs.Io.KnownBytes.{append_known}
-use Rattle.m_ports.specs.declared.files.Attempt.{Attempt}
-use Rattle.command_plans.specs.Attempts.{BeginsWith, names_tried, NoneFailed}
-use Rattle.command_plans.specs.Plan.{names_fetched}
-use Rattle.command_plans.specs.Printing.{Prints}
-use Rattle.tax_print.specs.FaultLines.{usage_line, unreadable_line}
-use Rattle.command_plans.specs.Refusals.{refusal_line}
+use Rattle.std.proofs.Common.{◌≡◌, ℕ, true, List, Some, Ok, subst}
+use Rattle.m_ports.specs.Counts.{Rose}
+use Rattle.tax_print.specs.FaultLines.{usage_line}
 use Rattle.command_plans.specs.Status.{IsOfEnd}
 use Rattle.command_plans.specs.Trips.{GoesAlong}
-use Rattle.command_plans.specs.Views.{Disk, FilesView, InputView, OutputView}
-use Rattle.command_plans.specs.declared.ending.Ending.{Ending}
-use Rattle.command_plans.specs.declared.ending.Ending.TheVariants as ending
+use Rattle.command_plans.specs.Views.{FilesView, InputView, OutputView}
 use Rattle.command_plans.specs.declared.status.Status.{Status}
-use Rattle.command_plans.specs.declared.status.Status.TheVariants.{Refused, Usage, ReadFault, WriteFault}
-use Rattle.m_ports.specs.Counts.{Rose}
-use Rattle.command_plans.proofs.Walks.{walks_in_order, walks_fit}
+use Rattle.command_plans.specs.declared.status.Status.TheVariants.{Refused, ReadFault}
+use Rattle.command_plans.proofs.CourseLemmas.{gathered_end, reading_of as reading}
+use Rattle.command_plans.proofs.PrintedLemmas.{not_read, whole_text}
 use Rattle.m_commands.specs.Command.{command_of, plan_of, reads_input}
 use Rattle.m_commands.specs.Clauses.{ReadsInOrder, ReportsInput, cuts_off}
-use Rattle.m_commands.specs.Output.{fetches_of}
 use Rattle.m_commands.specs.declared.command.Command.{Command}
 use Rattle.m_commands.specs.declared.work.Work.{Work}
-use Rattle.m_commands.specs.inner.Courses.{Course, IsWorkOf, is_no_command, has_no_memory, ended, answered}
-use Rattle.m_commands.proofs.Clauses.{gathers}
+use Rattle.m_commands.specs.inner.Courses.{Course, IsWorkOf}
 use Rattle.m_commands.proofs.Ways.{Way, way_of, observe, lacks_memory, breaks_off, serves_all, serves_part, serves_most, serves_front, serve_reads}
 
-abbrev first_or : Attempt → List Attempt → Attempt
-first_or a [] = a
-first_or a (b ∷ bs) = b
-
--- if none failed, the last didn't
-none_last : (made before : List Attempt) (name : List ℕ) → NoneFailed made → made ≡ before ++ record { name = name; failed = true } ∷ [] → ⊥
-none_last [] [] name h e = cc
-none_last [] (b ∷ before) name h e = cc
-none_last (m ∷ made) [] name h e =
-    let s : m ≡ record { name = name; failed = true } = ap (first_or m) e in
-    let q : true ≡ false = sym (ap (λ (a : Attempt). a.failed) s) ∙ h.0 in
-    cc
-none_last (m ∷ made) (b ∷ before) name h e = none_last made before name h.1 (cc)
-
--- the names that a command attempted, in order
-in_order_of : (words : List (List ℕ)) (before after : FilesView) (command : Command) (result : Result Work Ending) (disk : Disk)
-    → command_of words ≡ Some command
-    → (g : GoesAlong (plan_of command) before after result) → before.known_files ≡ Some disk → BeginsWith (fetches_of words disk) (names_tried g.made)
-in_order_of words before after command result disk c g t =
-    let r = walks_in_order before.known_files disk (plan_of command) g.made g.spent result g.walk t in
-    (r.0, ap (λ o. option_map_or (λ (x : Command). names_fetched disk (plan_of x)) o []) c ∙ r.1)
-
--- a read fault can only be of the input
-abbrev OfInput : List (List ℕ) → FilesView → InputView → InputView → OutputView → OutputView → Status → Type 0
-OfInput words before heard reported old new status = status ≡ ReadFault → (reads_input words ≡ true) × Rose heard.faults reported.faults
-    × ReportsInput words before heard reported old new
-
--- no attempt failed
-reading_none : (words : List (List ℕ)) (before after : FilesView) (heard reported : InputView) (old new : OutputView) (status : Status) (made : List Attempt)
-    → after.attempts ≡ before.attempts ++ made
-    → ((disk : Disk) → before.known_files ≡ Some disk → BeginsWith (fetches_of words disk) (names_tried made)) → NoneFailed made
-    → OfInput words before heard reported old new status
-    → ReadsInOrder words before after heard reported old new status
-reading_none words before after heard reported old new status made a i n r = record {
-  made = made;
-  appended = a;
-  in_order = i;
-  at_most_last = inl n;
-  failed = λ name l. absurd (none_last made l.before name n l.last);
-  cause = λ e. inr (r e);
-}
-
--- a status other than `ReadFault`
-not_read : (text : List ℕ) (own : Status) (old new : OutputView) (status : Status) → (own ≡ ReadFault → ⊥) → Prints text own old new status → status ≡ ReadFault
-    → ⊥
-not_read text own old new status unlike (inl p) e = unlike (sym p.1 ∙ e)
-not_read text own old new status unlike (inr p) e = cc (p.1, e)
-
--- nothing was fetched
-still : (words : List (List ℕ)) (before after : FilesView) (heard reported : InputView) (old new : OutputView) (status : Status) → after ≡ before
-    → (status ≡ ReadFault → ⊥) → ReadsInOrder words before after heard reported old new status
-still words before after heard reported old new status s r =
-    reading_none words before after heard reported old new status [] (ap (λ (v : FilesView). v.attempts) s ∙ sym (append-nil before.attempts))
-    (λ disk t. (fetches_of words disk, refl)) tt
-    (λ e. absurd (r e))
-
--- the last attempt failed, and was reported
-last_reported : (words : List (List ℕ)) (before after : FilesView) (heard reported : InputView) (old new : OutputView) (status : Status) (command : Command)
-    (name : List ℕ) → command_of words ≡ Some command
-    → GoesAlong (plan_of command) before after (Err (ending.Unreadable name)) → Prints (unreadable_line name) ReadFault old new status
-    → ReadsInOrder words before after heard reported old new status
-last_reported words before after heard reported old new status command name c g p = record {
-  made = g.made;
-  appended = g.attempts;
-  in_order = λ disk t. in_order_of words before after command (Err (ending.Unreadable name)) disk c g t;
-  at_most_last = inr (name, walks_fit before.known_files (plan_of command) g.made g.spent (Err (ending.Unreadable name)) g.walk);
-  failed = λ other l. either p;
-  cause = λ e. inl (name, walks_fit before.known_files (plan_of command) g.made g.spent (Err (ending.Unreadable name)) g.walk, whole p e);
-}
-  where
-    either : Prints (unreadable_line name) ReadFault old new status → (status ≡ ReadFault) ⊎ (status ≡ WriteFault)
-    either (inl q) = inl q.1
-    either (inr q) = inr q.1
-
-    whole : Prints (unreadable_line name) ReadFault old new status → status ≡ ReadFault → new.written ≡ append_known old.written (unreadable_line name)
-    whole (inl q) e = q.0.0
-    whole (inr q) e = cc (q.1, e)
-
--- the text after a failed read of the input was printed
-whole : (text : List ℕ) (old new : OutputView) (status : Status) → Prints text ReadFault old new status → status ≡ ReadFault
-    → new.written ≡ append_known old.written text
-whole text old new status (inl q) e = q.0.0
-whole text old new status (inr q) e = cc (q.1, e)
-
-reading_way : (words : List (List ℕ)) (before after : FilesView) (heard reported : InputView) (old new : OutputView) (status : Status) (command : Command)
-    (work : Work) → command_of words ≡ Some command
-    → GoesAlong (plan_of command) before after (Ok work) → IsWorkOf command work → Way work heard reported old new status
-    → OfInput words before heard reported old new status
-reading_way words before after heard reported old new status command work c g k (observe text own r o same p) = λ e. absurd
-    (not_read text own old new status (λ x. subst IsOfEnd x o) p e)
-reading_way words before after heard reported old new status command work c g k (lacks_memory same n m) = λ e. cc (m, e)
-reading_way words before after heard reported old new status command work c g k (breaks_off text own r b same a n m) = λ e. cc (m, e)
-reading_way words before after heard reported old new status command work c g k (serves_all taken text s moved none calm r a is) = λ e. cc (is, e)
-reading_way words before after heard reported old new status command work c g k (serves_part taken text s moved rose cut p) = λ e. (
-  serve_reads words command work c k s,
+-- a read fault without an unreadable file is of the input
+reading_way : (words : List (List ℕ)) (before after : FilesView) (heard reported : InputView) (old new : OutputView) (status : Status) (wanted : Command)
+    (work : Work) → command_of words ≡ Some wanted
+    → GoesAlong (plan_of wanted) before after (Ok work) → IsWorkOf wanted work → Way work heard reported old new status → status ≡ ReadFault
+    → (reads_input words ≡ true) × Rose heard.faults reported.faults × ReportsInput words before heard reported old new
+reading_way words before after heard reported old new status wanted work c g k (observe text own r o same p) e = absurd
+    (not_read text own old new status p (λ x. subst IsOfEnd x o) e)
+reading_way words before after heard reported old new status wanted work c g k (lacks_memory same n m) e = cc (m, e)
+reading_way words before after heard reported old new status wanted work c g k (breaks_off text own r b same a n m) e = cc (m, e)
+reading_way words before after heard reported old new status wanted work c g k (serves_all taken text s moved none calm r a is) e = cc (is, e)
+reading_way words before after heard reported old new status wanted work c g k (serves_part taken text s moved rose cut p) e = (
+  serve_reads words wanted work c k s,
   rose,
   λ disk typed t h. (
     taken,
     text,
     moved,
-    whole text old new status p e,
-    cuts_off command work c (gathers words disk before after command work (λ _. t) c g)
+    whole_text text ReadFault old new status p (λ x. cc) e,
+    cuts_off wanted work c (gathered_end plan_of (command_of words) wanted work disk before after (λ _. t) c g)
         cut,
   ),
 )
-reading_way words before after heard reported old new status command work c g k (serves_most taken text s moved full calm r p) = λ e. absurd
-    (not_read text Refused old new status (λ x. cc) p e)
-reading_way words before after heard reported old new status command work c g k (serves_front s calm fronts rose is) = λ e. cc (is, e)
+reading_way words before after heard reported old new status wanted work c g k (serves_most taken text s moved full calm r p) e = absurd
+    (not_read text Refused old new status p (λ x. cc) e)
+reading_way words before after heard reported old new status wanted work c g k (serves_front s calm fronts rose is) e = cc (is, e)
 
 pub reading_of : (words : List (List ℕ)) (before after : FilesView) (heard reported : InputView) (old new : OutputView) (status : Status)
     → Course words before after heard reported old new status
     → ReadsInOrder words before after heard reported old new status
-reading_of words before after heard reported old new status (is_no_command n s h p) = still words before after heard reported old new status s
-    (not_read usage_line Usage old new status (λ x. cc) p)
-reading_of words before after heard reported old new status (has_no_memory s h o m) = still words before after heard reported old new status s (λ e. cc (m, e))
-reading_of words before after heard reported old new status (ended command (ending.Refused refusal) c g h p) =
-    reading_none words before after heard reported old new status g.made g.attempts (λ disk t. in_order_of words before after command _ disk c g t)
-    (walks_fit before.known_files (plan_of command) g.made g.spent (Err (ending.Refused refusal)) g.walk)
-    (λ e. absurd (not_read (refusal_line refusal) Refused old new status (λ x. cc) p e))
-reading_of words before after heard reported old new status (ended command (ending.Unreadable name) c g h p) = last_reported words before after heard reported
-    old new status command name c g p
-reading_of words before after heard reported old new status (ended command ending.Memory c g h p) =
-    reading_none words before after heard reported old new status g.made g.attempts (λ disk t. in_order_of words before after command _ disk c g t)
-    (walks_fit before.known_files (plan_of command) g.made g.spent (Err ending.Memory) g.walk) (λ e. cc (p.1, e))
-reading_of words before after heard reported old new status (answered command work c g k a) =
-    reading_none words before after heard reported old new status g.made g.attempts (λ disk t. in_order_of words before after command _ disk c g t)
-    (walks_fit before.known_files (plan_of command) g.made g.spent (Ok work) g.walk)
-    (reading_way words before after heard reported old new status command work c g k (way_of work heard reported old new status a))
+reading_of words before after heard reported old new status course =
+    reading plan_of usage_line (command_of words) _ before after old new status course
+    (λ wanted work c g a e. reading_way words before after heard reported old new status wanted work c g a.0 (way_of work heard reported old new status a.1) e)

@@ -1,21 +1,21 @@
 -- The clause on how many bytes were read.
-use Rattle.std.proofs.Common.{◌≡◌, ◌≤◌, ◌+◌, ◌*◌, ℕ, List, ◌++◌, length, Some, Ok, Err, sym, ap, ◌∙◌, subst, arith, length-append}
-use Rattle.std.specs.Option.{option_map_or}
-use Rattle.m_ports.specs.declared.files.Attempt.{Attempt}
+use Rattle.std.proofs.Common.{◌≤◌, ℕ, List, arith}
 use Rattle.m_places.specs.declared.limits.TheConstants.{CODE_FILE_BYTES, FILE_BYTES}
-use Rattle.command_plans.specs.Attempts.{allowance, TakesWithin}
+use Rattle.tax_print.specs.FaultLines.{usage_line}
+use Rattle.command_plans.specs.Attempts.{TakesWithin}
+use Rattle.command_plans.specs.Plan.{done}
+use Rattle.command_plans.specs.Source.{code_file_plan, source_file_plan, source_plan}
 use Rattle.command_plans.specs.Views.{FilesView, InputView, OutputView}
-use Rattle.command_plans.specs.declared.ending.Ending.TheVariants as ending
 use Rattle.command_plans.specs.declared.status.Status.{Status}
-use Rattle.command_plans.specs.declared.status.Status.TheVariants.{Done, Refused, Usage, ReadFault, WriteFault, Memory, Stopped}
-use Rattle.command_plans.proofs.Walks.{walks_within}
+use Rattle.command_plans.proofs.SourceWithin.{code_file_within, source_file_within, source_within}
+use Rattle.command_plans.proofs.TakenLemmas.{taken_of as taken}
 use Rattle.command_plans.proofs.Within.{KeepsWithin, within_more, within_then}
-use Rattle.command_plans.specs.Source.{source_plan}
-use Rattle.command_plans.proofs.SourceWithin.{source_within}
 use Rattle.m_commands.specs.Command.{command_of, plan_of, file_limit, limit_of, rules_only}
 use Rattle.m_commands.specs.declared.command.Command.{Command}
 use Rattle.m_commands.specs.declared.command.Command.TheVariants.{Run, Serve, Batch, Large, Compile, Exec, Check, Lint, Cases}
-use Rattle.m_commands.specs.inner.Courses.{Course, is_no_command, has_no_memory, ended, answered}
+use Rattle.m_commands.specs.declared.work.Work.{Work}
+use Rattle.m_commands.specs.declared.work.Work.TheVariants as work
+use Rattle.m_commands.specs.inner.Courses.{Course}
 
 file_fits : FILE_BYTES ≤ CODE_FILE_BYTES
 file_fits = omega arith
@@ -23,80 +23,26 @@ file_fits = omega arith
 -- the files of a command are within its limit
 keeps_limit : (command : Command) → KeepsWithin (file_limit command) (plan_of command)
 keeps_limit (Run names household) =
-    within_then FILE_BYTES (source_plan names) _ (source_within names) (λ source. (omega arith, λ bytes. tt))
+    within_then FILE_BYTES (source_file_plan names household) _ (source_file_within names household) (λ gathered. tt)
 keeps_limit (Serve names household) =
-    within_then FILE_BYTES (source_plan names) _ (source_within names) (λ source. (omega arith, λ bytes. tt))
+    within_then FILE_BYTES (source_file_plan names household) _ (source_file_within names household) (λ gathered. tt)
 keeps_limit (Batch names table) =
-    within_then FILE_BYTES (source_plan names) _ (source_within names) (λ source. (omega arith, λ bytes. tt))
+    within_then FILE_BYTES (source_file_plan names table) _ (source_file_within names table) (λ gathered. tt)
 keeps_limit (Large n) = tt
 keeps_limit (Cases names table) =
-    within_then FILE_BYTES (source_plan names) _ (source_within names) (λ source. (omega arith, λ bytes. tt))
+    within_then FILE_BYTES (source_file_plan names table) _ (source_file_within names table) (λ gathered. tt)
 keeps_limit (Compile names) = within_then FILE_BYTES (source_plan names) _ (source_within names) (λ source. tt)
-keeps_limit (Exec code household) = (omega arith, λ bytes. (file_fits, λ rows. tt))
+keeps_limit (Exec code household) =
+    within_then {B = Work} CODE_FILE_BYTES (code_file_plan code household) (λ gathered. done (work.Exec gathered.0 gathered.1))
+    (code_file_within code household) (λ gathered. tt)
 keeps_limit (Lint names) = within_then FILE_BYTES (source_plan names) _ (source_within names) (λ source. tt)
 keeps_limit (Check list household report) =
     within_then CODE_FILE_BYTES (source_plan (rules_only list)) _ (within_more FILE_BYTES CODE_FILE_BYTES (source_plan (rules_only list)) file_fits
     (source_within (rules_only list)))
     (λ source. (file_fits, λ rows. (omega arith, λ bytes. tt)))
 
--- the bound for a call that didn't run out of memory
-no_slack : (most : ℕ) (before after : FilesView) (status : Status) → after.taken + allowance most before.attempts ≤ before.taken + allowance most after.attempts
-    → TakesWithin most before after status
-no_slack most before after Done h = h
-no_slack most before after Refused h = h
-no_slack most before after Usage h = h
-no_slack most before after ReadFault h = h
-no_slack most before after WriteFault h = h
-no_slack most before after Memory h = omega (arith, h)
-no_slack most before after Stopped h = h
-
--- the allowance of all attempts is that of the earlier ones and of those of the call
-allowed : (most : ℕ) (before after : FilesView) (made : List Attempt) → after.attempts ≡ before.attempts ++ made
-    → allowance most after.attempts ≡ allowance most before.attempts + allowance most made
-allowed most before after made e =
-    let a = ap (λ (l : List Attempt). length l * (most + 1)) e in
-    let b = ap (λ n. n * (most + 1)) (length-append before.attempts made) in
-    let d : (length before.attempts + length made) * (most + 1) ≡ length before.attempts * (most + 1) + length made * (most + 1) = omega arith in
-    a ∙ b ∙ d
-
-within : (most : ℕ) (before after : FilesView) (made : List Attempt) (spent slack : ℕ) → after.attempts ≡ before.attempts ++ made
-    → after.taken ≤ before.taken + spent → spent ≤ allowance most made + slack
-    → after.taken + allowance most before.attempts ≤ before.taken + allowance most after.attempts + slack
-within most before after made spent slack e t s = rw (allowed most before after made e)
-    (sums after.taken before.taken (allowance most before.attempts) (allowance most made) spent slack t s)
-  where
-    sums : (a b x y s k : ℕ) → a ≤ b + s → s ≤ y + k → a + x ≤ b + (x + y) + k
-    sums a b x y s k h i = omega (arith, h, i)
-
--- no file was fetched
-still : (most : ℕ) (before after : FilesView) (status : Status) → after ≡ before → TakesWithin most before after status
-still most before after status s = subst (λ (v : FilesView). TakesWithin most before v status) (sym s) (no_slack most before before status (omega arith))
-
--- the limit of the words is that of their command
-of_command : (words : List (List ℕ)) (command : Command) (before after : FilesView) (status : Status) → command_of words ≡ Some command
-    → TakesWithin (file_limit command) before after status → TakesWithin (limit_of words) before after status
-of_command words command before after status c h = subst (λ (most : ℕ). TakesWithin most before after status) (sym (ap (λ o. option_map_or file_limit o 0) c)) h
-
-without : (most : ℕ) (before after : FilesView) (made : List Attempt) (spent : ℕ) (status : Status) → after.attempts ≡ before.attempts ++ made
-    → after.taken ≤ before.taken + spent → spent ≤ allowance most made
-    → TakesWithin most before after status
-without most before after made spent status e t s =
-    no_slack most before after status (let h = within most before after made spent 0 e t (omega (arith, s)) in omega (arith, h))
-
 pub taken_of : (words : List (List ℕ)) (before after : FilesView) (heard reported : InputView) (old new : OutputView) (status : Status)
     → Course words before after heard reported old new status → TakesWithin (limit_of words) before after status
-taken_of words before after heard reported old new status (is_no_command n s h p) = still (limit_of words) before after status s
-taken_of words before after heard reported old new status (has_no_memory s h o m) = still (limit_of words) before after status s
-taken_of words before after heard reported old new status (ended command (ending.Refused refusal) c g h p) =
-    of_command words command before after status c (without (file_limit command) before after g.made g.spent status g.attempts g.taken
-    (walks_within before.known_files (file_limit command) (plan_of command) g.made g.spent (Err (ending.Refused refusal)) (keeps_limit command) g.walk))
-taken_of words before after heard reported old new status (ended command (ending.Unreadable name) c g h p) =
-    of_command words command before after status c (without (file_limit command) before after g.made g.spent status g.attempts g.taken
-    (walks_within before.known_files (file_limit command) (plan_of command) g.made g.spent (Err (ending.Unreadable name)) (keeps_limit command) g.walk))
-taken_of words before after heard reported old new status (ended command ending.Memory c g h p) =
-    of_command words command before after status c (subst (λ (s : Status). TakesWithin (file_limit command) before after s) (sym p.1)
-    (within (file_limit command) before after g.made g.spent (file_limit command + 1) g.attempts g.taken
-    (walks_within before.known_files (file_limit command) (plan_of command) g.made g.spent (Err ending.Memory) (keeps_limit command) g.walk)))
-taken_of words before after heard reported old new status (answered command work c g k a) =
-    of_command words command before after status c (without (file_limit command) before after g.made g.spent status g.attempts g.taken
-    (walks_within before.known_files (file_limit command) (plan_of command) g.made g.spent (Ok work) (keeps_limit command) g.walk))
+taken_of words before after heard reported old new status course =
+    taken plan_of usage_line (command_of words) before after old new status file_limit keeps_limit
+    course

@@ -1,23 +1,16 @@
 -- The clause that valid words and files are answered.
-use Rattle.std.proofs.Common.{◌≡◌, ◌<◌, ◌+◌, ℕ, Bool, true, List, [], ◌∷◌, ◌++◌, length, Some, Err, refl, sym, ap, ◌∙◌, subst, zero-add, arith, inl, inr}
-use Rattle.std.specs.Prelude.{if◌then◌else◌}
+use Rattle.std.proofs.Common.{◌≡◌, ℕ, List, [], ◌∷◌, ◌++◌, length, Some, sym, subst, arith}
 use Rattle.m_places.specs.declared.limits.TheConstants.{INPUT_BYTES}
 use Rattle.m_ports.specs.Counts.{Rose}
-use Rattle.m_ports.specs.Files.{failed_count}
-use Rattle.m_ports.specs.declared.files.Attempt.{Attempt}
-use Rattle.m_ports.proofs.FileLemmas.{failed_count-append}
+use Rattle.tax_print.specs.FaultLines.{usage_line}
 use Rattle.observables.specs.Answers.{Observation, values, stopped}
 use Rattle.household.specs.Household.{household_of}
 use Rattle.household.specs.Table.{table_of}
-use Rattle.command_plans.specs.Attempts.{NoneFailed, LastFailed}
-use Rattle.command_plans.specs.Plan.{end_of, gathered, refused}
-use Rattle.command_plans.specs.Printing.{Prints}
-use Rattle.command_plans.specs.Refusals.{refusal_line}
 use Rattle.command_plans.specs.Status.{IsComplete}
-use Rattle.command_plans.specs.Views.{Disk, FilesView, InputView, OutputView}
-use Rattle.command_plans.specs.declared.ending.Ending.TheVariants as ending
+use Rattle.command_plans.specs.Views.{FilesView, InputView, OutputView}
 use Rattle.command_plans.specs.declared.status.Status.{Status}
-use Rattle.command_plans.proofs.Walks.{walks_to_end, walks_fit}
+use Rattle.command_plans.proofs.PrintedLemmas.{complete_status}
+use Rattle.command_plans.proofs.ValidLemmas.{complete_of as complete}
 use Rattle.command_answers.specs.Batches as batch
 use Rattle.command_answers.specs.Compiles as compiles
 use Rattle.code_answers.specs.Execs as exec
@@ -30,12 +23,10 @@ use Rattle.command_answers.specs.Serves as serve
 use Rattle.m_commands.specs.Answer.{Replies, HasAnswer}
 use Rattle.m_commands.specs.Command.{command_of, plan_of}
 use Rattle.m_commands.specs.Clauses.{AnswersValid, TakesFew}
-use Rattle.m_commands.specs.Output.{IsValidCommand}
 use Rattle.m_commands.specs.declared.command.Command.{Command}
 use Rattle.m_commands.specs.declared.work.Work.{Work}
 use Rattle.m_commands.specs.declared.work.Work.TheVariants.{Run, Serve, Batch, Large, Compile, Exec, Check, Lint, Cases}
-use Rattle.m_commands.specs.inner.Courses.{Course, IsWorkOf, is_no_command, has_no_memory, ended, answered}
-use Rattle.m_commands.proofs.Clauses.{asking, gathers}
+use Rattle.m_commands.specs.inner.Courses.{Course, IsWorkOf}
 use Rattle.m_commands.proofs.Cases.{compared_complete}
 use Rattle.m_commands.proofs.Checks.{checked_complete}
 use Rattle.m_commands.proofs.Codes.{compiled_not_refused, code_not_refused, rows_not_refused}
@@ -77,54 +68,12 @@ replies_complete (Check source rows report) text status h replies = checked_comp
 replies_complete (Lint source) text status h replies = linted_complete source text status h replies
 replies_complete (Cases source table) text status h replies = compared_complete source table text status h replies
 
--- valid words and files aren't rejected
-not_refused : (words : List (List ℕ)) (disk : Disk) (command : Command) (line : List ℕ) → IsValidCommand words disk → command_of words ≡ Some command
-    → end_of disk (plan_of command) ≡ refused line → ⊥
-not_refused words disk command line valid c e =
-    let s : command ≡ valid.command = cc (c, valid.is_command) in
-    let q : end_of disk (plan_of valid.command) ≡ refused line = subst (λ (x : Command). end_of disk (plan_of x) ≡ refused line) s e in
-    cc (q, valid.gathers)
-
--- the work gathered by valid words and files has an answer
-has_answer : (words : List (List ℕ)) (disk : Disk) (command : Command) (work : Work) → IsValidCommand words disk → command_of words ≡ Some command
-    → end_of disk (plan_of command) ≡ gathered work → HasAnswer work
-has_answer words disk command work valid c e =
-    let s : command ≡ valid.command = cc (c, valid.is_command) in
-    let q : end_of disk (plan_of valid.command) ≡ gathered work = subst (λ (x : Command). end_of disk (plan_of x) ≡ gathered work) s e in
-    let w : valid.work ≡ work = cc (q, valid.gathers) in
-    subst HasAnswer w valid.answer
-
-none_counted : (made : List Attempt) → NoneFailed made → failed_count made ≡ 0
-none_counted [] h = refl
-none_counted (attempt ∷ made) h = ap (λ (failed : Bool). (if failed then 1 else 0) + failed_count made) h.0 ∙ zero-add (failed_count made)
-    ∙ none_counted made h.1
-
--- the count of failed attempts rose by one if the last attempt failed
-rose : (before after : FilesView) (made : List Attempt) (name : List ℕ) → after.attempts ≡ before.attempts ++ made → LastFailed made name
-    → failed_count after.attempts ≡ failed_count before.attempts + 1
-rose before after made name a l =
-    omega (
-      arith,
-      ap failed_count a,
-      failed_count-append before.attempts made,
-      ap failed_count l.last,
-      failed_count-append l.before
-          (record { name = name; failed = true } ∷ []),
-      none_counted l.before l.others,
-    )
-
--- an answer that was printed is complete
-complete : (text : List ℕ) (own : Status) (old new : OutputView) (status : Status) → Prints text own old new status → IsComplete own
-    → (Rose old.faults new.faults → ⊥) → IsComplete status
-complete text own old new status (inl p) d q = subst IsComplete (sym p.1) d
-complete text own old new status (inr p) d q = absurd (q p.0.1)
-
 -- a text cut short by a failed read of the input
 complete_way : (words : List (List ℕ)) (command : Command) (work : Work) (heard reported : InputView) (old new : OutputView) (status : Status)
     → command_of words ≡ Some command → IsWorkOf command work
     → HasAnswer work → (Rose heard.faults reported.faults → ⊥) → (Rose old.faults new.faults → ⊥) → TakesFew words heard reported
     → Way work heard reported old new status → IsComplete status
-complete_way words command work heard reported old new status c k h input out few (observe text own r o same p) = complete text own old new status p
+complete_way words command work heard reported old new status c k h input out few (observe text own r o same p) = complete_status text own old new status p
     (replies_complete work text own h (r [])) out
 complete_way words command work heard reported old new status c k h input out few (lacks_memory same n m) = subst IsComplete (sym m) tt
 complete_way words command work heard reported old new status c k h input out few (breaks_off text own r b same a n m) = subst IsComplete (sym m) tt
@@ -138,16 +87,7 @@ complete_way words command work heard reported old new status c k h input out fe
 pub complete_of : (words : List (List ℕ)) (before after : FilesView) (heard reported : InputView) (old new : OutputView) (status : Status)
     → Course words before after heard reported old new status
     → AnswersValid words before after heard reported old new status
-complete_of words before after heard reported old new status (is_no_command n s h p) disk t valid quiet few = let i = valid.is_command in cc (n, i)
-complete_of words before after heard reported old new status (has_no_memory s h o m) disk t valid quiet few = subst IsComplete (sym m) tt
-complete_of words before after heard reported old new status (ended command (ending.Refused refusal) c g h p) disk t valid quiet few =
-    absurd (not_refused words disk command (refusal_line refusal) valid c
-    (walks_to_end before.known_files disk (plan_of command) g.made g.spent (Err (ending.Refused refusal)) g.walk (asking words disk before command t c)))
-complete_of words before after heard reported old new status (ended command (ending.Unreadable name) c g h p) disk t valid quiet few =
-    absurd (quiet.0 (inl (rose before after g.made name g.attempts (walks_fit before.known_files (plan_of command) g.made g.spent (Err (ending.Unreadable name))
-    g.walk))))
-complete_of words before after heard reported old new status (ended command ending.Memory c g h p) disk t valid quiet few = subst IsComplete (sym p.1) tt
-complete_of words before after heard reported old new status (answered command work c g k a) disk t valid quiet few =
-    complete_way words command work heard reported old new status c k
-    (has_answer words disk command work valid c (gathers words disk before after command work t c g)) quiet.1 quiet.2 few
-    (way_of work heard reported old new status a)
+complete_of words before after heard reported old new status course disk t valid quiet few =
+    complete plan_of usage_line HasAnswer (command_of words) disk before after old new status course t valid quiet.0
+    (λ wanted work c h a. complete_way words wanted work heard reported old new status c a.0 h quiet.1 quiet.2 few
+    (way_of work heard reported old new status a.1))

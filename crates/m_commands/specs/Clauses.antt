@@ -1,5 +1,5 @@
 -- The clauses of `m_tax`: what a call has read and written, given the views before and after it.
-use Rattle.std.specs.Prelude.{◌≡◌, ◌⊎◌, ℕ, ◌<◌, ◌≤◌, true, List, ◌++◌, length, Some, None}
+use Rattle.std.specs.Prelude.{◌≡◌, ◌⊎◌, ℕ, ◌<◌, ◌≤◌, true, List, ◌++◌, length, Some}
 use Rattle.std.specs.Io.KnownBytes.{append_known, prepend_known}
 use Rattle.m_places.specs.declared.limits.TheConstants.{INPUT_BYTES}
 use Rattle.code_file.specs.Reading.{IsFormOf}
@@ -9,26 +9,24 @@ use Rattle.m_ports.specs.Counts.{Rose}
 use Rattle.m_ports.specs.Files.{failed_count}
 use Rattle.m_ports.specs.Sink.{AppendsPrefix}
 use Rattle.m_ports.specs.declared.files.Attempt.{Attempt}
-use Rattle.command_plans.specs.Attempts.{BeginsWith, names_tried, NoneFailed, LastFailed}
+use Rattle.command_plans.specs.Attempts.{LastFailed}
+use Rattle.command_plans.specs.Courses.{IsValidCommand, KnowsDisk}
+use Rattle.command_plans.specs.Courses as courses
 use Rattle.tax_print.specs.FaultLines.{unreadable_line}
 use Rattle.command_plans.specs.Plan.{end_of, gathered}
 use Rattle.command_plans.specs.Status.{IsFaultless, IsComplete}
 use Rattle.command_plans.specs.Views.{Disk, FilesView, InputView, OutputView}
 use Rattle.command_plans.specs.declared.status.Status.{Status}
-use Rattle.command_plans.specs.declared.status.Status.TheVariants.{Done, Refused, Usage, ReadFault, WriteFault, Memory}
+use Rattle.command_plans.specs.declared.status.Status.TheVariants.{Done, Refused, WriteFault, Memory}
 use Rattle.command_plans.specs.Source.{source_plan}
 use Rattle.command_plans.specs.declared.source.SourceNames.{SourceNames}
 use Rattle.command_answers.specs.Prepared.{IsPreparedCode}
-use Rattle.m_commands.specs.Answer.{CutOff}
-use Rattle.m_commands.specs.Command.{command_of, plan_of, reads_files, reads_input}
-use Rattle.m_commands.specs.Output.{fetches_of, Output, IsValidCommand}
+use Rattle.m_commands.specs.Answer.{CutOff, HasAnswer}
+use Rattle.m_commands.specs.Command.{command_of, plan_of, reads_input}
+use Rattle.m_commands.specs.Output.{Output}
 use Rattle.m_commands.specs.declared.command.Command.{Command}
 use Rattle.m_commands.specs.declared.command.Command.TheVariants.{Compile}
 use Rattle.m_commands.specs.declared.work.Work.{Work}
-
--- the files have these known contents, if the command fetches a file
-abbrev pub KnowsDisk : List (List ℕ) → FilesView → Disk → Type 0
-KnowsDisk words files disk = reads_files words ≡ true → files.known_files ≡ Some disk
 
 -- the input has these known contents, if the command reads it
 abbrev pub IsTyped : List (List ℕ) → InputView → List ℕ → Type 0
@@ -38,7 +36,7 @@ IsTyped words input typed = reads_input words ≡ true → input.left ≡ Some t
 -- appended text and the status are an `Output`.
 abbrev pub PrintsOutput : List (List ℕ) → FilesView → InputView → OutputView → OutputView → Status → Type 0
 PrintsOutput words files input old new status =
-    (disk : Disk) (typed : List ℕ) → KnowsDisk words files disk → IsTyped words input typed → IsFaultless status
+    (disk : Disk) (typed : List ℕ) → KnowsDisk plan_of (command_of words) files disk → IsTyped words input typed → IsFaultless status
     → (text : List ℕ) × (new.written ≡ append_known old.written text) × Output words disk typed text status
 
 -- the text of a command if its read of the input fails after these bytes
@@ -61,17 +59,12 @@ KeepsInputLimit heard reported status =
     (taken : List ℕ) × (heard.left ≡ prepend_known taken reported.left) × (length taken ≤ INPUT_BYTES)
     × (length taken ≡ INPUT_BYTES → (status ≡ Refused) ⊎ (status ≡ WriteFault))
 
--- The attempts of a call to read files. If the files' contents are known, the names are fetched in the order of
--- `fetches_of`. At most the last attempt failed, and then the status reports this or a failed write. The status is
--- `ReadFault` only then or after a failed read of the input, and the line of an unreadable file has its name.
-pub record ReadsInOrder (words : List (List ℕ)) (before after : FilesView) (heard reported : InputView) (old new : OutputView) (status : Status) : Type 0 where
-  pub made : List Attempt
-  pub appended : after.attempts ≡ before.attempts ++ made
-  pub in_order : (disk : Disk) → before.known_files ≡ Some disk → BeginsWith (fetches_of words disk) (names_tried made)
-  pub at_most_last : NoneFailed made ⊎ ((name : List ℕ) × LastFailed made name)
-  pub failed : (name : List ℕ) → LastFailed made name → (status ≡ ReadFault) ⊎ (status ≡ WriteFault)
-  pub cause : status ≡ ReadFault → ((name : List ℕ) × LastFailed made name × (new.written ≡ append_known old.written (unreadable_line name)))
-      ⊎ ((reads_input words ≡ true) × Rose heard.faults reported.faults × ReportsInput words before heard reported old new)
+-- The attempts of a call to read files. The status may be `ReadFault` also after a failed read of the input.
+abbrev pub ReadsInOrder : List (List ℕ) → FilesView → FilesView → InputView → InputView → OutputView → OutputView → Status → Type 0
+ReadsInOrder words before after heard reported old new =
+    courses.ReadsInOrder plan_of (command_of words)
+    ((reads_input words ≡ true) × Rose heard.faults reported.faults × ReportsInput words before heard reported old new)
+    before after old new
 
 -- The whole text that a call writes if no write fails: an output, the line of the file that can't be read, or the text
 -- after a failed read of the input.
@@ -87,14 +80,14 @@ pub data IsWholeText (words : List (List ℕ)) (disk : Disk) (typed : List ℕ) 
 -- appended text is a prefix of a whole text.
 abbrev pub WritesFront : List (List ℕ) → FilesView → FilesView → InputView → InputView → OutputView → OutputView → Status → Type 0
 WritesFront words before after heard reported old new status =
-    (disk : Disk) (typed : List ℕ) → KnowsDisk words before disk → IsTyped words heard typed → status ≡ WriteFault
+    (disk : Disk) (typed : List ℕ) → KnowsDisk plan_of (command_of words) before disk → IsTyped words heard typed → status ≡ WriteFault
     → (text : List ℕ) × IsWholeText words disk typed before after heard reported text × AppendsPrefix old.written new.written text
 
 -- If the files' contents are known (unless the command fetches none), and memory ran out, nothing or a prefix of an
 -- output is appended.
 abbrev pub StopsInFront : List (List ℕ) → FilesView → OutputView → OutputView → Status → Type 0
 StopsInFront words before old new status =
-    (disk : Disk) (typed : List ℕ) → KnowsDisk words before disk → status ≡ Memory
+    (disk : Disk) (typed : List ℕ) → KnowsDisk plan_of (command_of words) before disk → status ≡ Memory
     → (new.written ≡ old.written) ⊎ ((text : List ℕ) × (own : Status) × Output words disk typed text own × AppendsPrefix old.written new.written text)
 
 -- If the files' contents are known, a `compile` that did all of its work has written a code file of its compiled
@@ -119,10 +112,6 @@ TakesFew words heard reported = reads_input words ≡ true → (taken : List ℕ
 -- doesn't fetch need not be known.
 abbrev pub AnswersValid : List (List ℕ) → FilesView → FilesView → InputView → InputView → OutputView → OutputView → Status → Type 0
 AnswersValid words before after heard reported old new status =
-    (disk : Disk) → KnowsDisk words before disk → IsValidCommand words disk → NothingFailed before after heard reported old new → TakesFew words heard reported
+    (disk : Disk) → KnowsDisk plan_of (command_of words) before disk → IsValidCommand plan_of HasAnswer (command_of words) disk
+    → NothingFailed before after heard reported old new → TakesFew words heard reported
     → IsComplete status
-
--- The usage line is printed only for words that are no command, and for these always unless a write or memory failed.
-pub record IsUsageReport (words : List (List ℕ)) (status : Status) : Type 0 where
-  pub only : status ≡ Usage → command_of words ≡ None
-  pub always : command_of words ≡ None → (status ≡ Usage) ⊎ (status ≡ WriteFault) ⊎ (status ≡ Memory)

@@ -5,8 +5,8 @@ use Rattle.std.specs.Option.{option_map, option_map_or, option_or}
 use Rattle.std.specs.Str.{bytes_eq, is_utf8}
 use Rattle.m_places.specs.declared.limits.TheConstants.{CODE_FILE_BYTES, FILE_BYTES, LARGE}
 use Rattle.m_text.specs.Numbers.{whole_number}
-use Rattle.command_plans.specs.Plan.{Plan, done, requests_file, file_plan, and_then}
-use Rattle.command_plans.specs.Source.{source_plan}
+use Rattle.command_plans.specs.Plan.{Plan, done, file_plan, and_then}
+use Rattle.command_plans.specs.Source.{code_file_plan, source_file_plan, source_plan}
 use Rattle.command_plans.specs.declared.source.SourceNames.{SourceNames}
 use Rattle.m_places.specs.declared.source.Source.{Source}
 use Rattle.m_commands.specs.declared.command.Command.{Command}
@@ -103,15 +103,7 @@ work_of form.Cases = work.Cases
 
 -- a source is gathered, and then one more file
 abbrev pub work_plan : SourceNames → List ℕ → (Source → List ℕ → Work) → Plan Work
-work_plan names behind gathered = and_then (source_plan names) (λ source. and_then (file_plan behind FILE_BYTES) (λ bytes. done (gathered source bytes)))
-
--- only a source is gathered
-abbrev pub compile_plan : SourceNames → Plan Work
-compile_plan names = and_then (source_plan names) (λ source. done (work.Compile source))
-
--- a code file is gathered, and then a household
-abbrev pub exec_plan : List ℕ → List ℕ → Plan Work
-exec_plan code household = and_then (file_plan code CODE_FILE_BYTES) (λ bytes. and_then (file_plan household FILE_BYTES) (λ rows. done (work.Exec bytes rows)))
+work_plan names behind kind = and_then (source_file_plan names behind) (λ gathered. done (kind gathered.0 gathered.1))
 
 -- the names of a source that has rules only: no driver and no requests
 abbrev pub rules_only : List ℕ → SourceNames
@@ -123,10 +115,6 @@ check_plan list household report =
     and_then (source_plan (rules_only list)) (λ source. and_then (file_plan household FILE_BYTES)
     (λ rows. and_then (file_plan report CODE_FILE_BYTES) (λ bytes. done (work.Check source rows bytes))))
 
--- only a source is gathered
-abbrev pub lint_plan : SourceNames → Plan Work
-lint_plan names = and_then (source_plan names) (λ source. done (work.Lint source))
-
 -- The plan of a command: which files it fetches, in which order, where it rejects them, and what it has gathered in
 -- the end. `large N` fetches none.
 abbrev pub plan_of : Command → Plan Work
@@ -134,15 +122,11 @@ plan_of (Run names household) = work_plan names household work.Run
 plan_of (Serve names household) = work_plan names household work.Serve
 plan_of (Batch names table) = work_plan names table work.Batch
 plan_of (Large n) = done (work.Large n)
-plan_of (Compile names) = compile_plan names
-plan_of (Exec code household) = exec_plan code household
+plan_of (Compile names) = and_then (source_plan names) (λ source. done (work.Compile source))
+plan_of (Exec code household) = and_then (code_file_plan code household) (λ gathered. done (work.Exec gathered.0 gathered.1))
 plan_of (Check list household report) = check_plan list household report
-plan_of (Lint names) = lint_plan names
+plan_of (Lint names) = and_then (source_plan names) (λ source. done (work.Lint source))
 plan_of (Cases names table) = work_plan names table work.Cases
-
--- whether the words are a command that fetches a file: its plan requests one
-abbrev pub reads_files : List (List ℕ) → Bool
-reads_files words = option_map_or (λ command. requests_file (plan_of command)) (command_of words) false
 
 -- the greatest number of bytes of a file that a command fetches; `large N` fetches none
 abbrev pub file_limit : Command → ℕ

@@ -3,7 +3,7 @@ ghost use Rattle.std.specs.Prelude.{◌≡◌, IfOk, IfSome};
 ghost use Rattle.m_commands.specs.Command.{IsInReach, check_command, command_of, compile_command, exec_command};
 ghost use Rattle.m_commands.specs.Command.{form_of, large_command, large_number, lint_command, of_form, source_command};
 
-use command_plans::SourceNames;
+use command_plans::{SourceNames, names_of};
 use m_places::limits::LARGE;
 use m_places::{Name, Word};
 use m_text::{is_text, whole_number};
@@ -190,22 +190,6 @@ fn source_command(alloc: Global, words: &[Word]) -> Result<Option<Command>, Allo
     let behind = behind.copy(alloc)?;
     let names = names_of(alloc, list, driver, requests)?;
     Ok(Some(of_form(form, names, behind)))
-}
-
-// The names of a source. The only error is out of memory.
-fn names_of(
-    alloc: Global,
-    list: &Word,
-    driver: &Word,
-    requests: &Word,
-) -> Result<SourceNames, AllocError>
-    ensures { IfOk result (λ names. names ≡ record { list = list.now; driver = driver.now; requests = requests.now }) }
-{
-    Ok(SourceNames {
-        list: list.copy(alloc)?,
-        driver: driver.copy(alloc)?,
-        requests: requests.copy(alloc)?,
-    })
 }
 
 // The form of a command over a source and one more file, by its word.

@@ -4,12 +4,14 @@ ghost use Rattle.m_places.specs.SourceLimits.{SourceKeepsLimits};
 ghost use Rattle.command_plans.specs.Trips.{GoesAlong};
 ghost use Rattle.command_plans.specs.Views.{files_view};
 ghost use Rattle.m_commands.specs.Answer.{WorkKeepsLimits};
-ghost use Rattle.m_commands.specs.Command.{IsInReach, check_plan, compile_plan, exec_plan, lint_plan, rules_only, plan_of, work_of, work_plan};
+ghost use Rattle.m_commands.specs.Command.{IsInReach, check_plan, rules_only, plan_of, work_of, work_plan};
 ghost use Rattle.m_commands.specs.inner.Courses.{IsWorkOf, work_form};
 
 use crate::command::{Command, Form};
 use crate::work::Work;
-use command_plans::{Ending, SourceNames, fetch, gather_source};
+use command_plans::{
+    Ending, SourceNames, fetch, gather_code_and_file, gather_source, gather_source_and_file,
+};
 use m_places::limits::{CODE_FILE_BYTES, FILE_BYTES};
 use m_places::{Name, Seq, Source};
 use m_ports::Files;
@@ -46,7 +48,7 @@ fn gather_compile<F: Files>(
     files: &mut F,
     names: &SourceNames,
 ) -> Result<Work, Ending>
-    ensures along { GoesAlong (compile_plan names.now) (files_view F.known_files F.attempts F.taken files.old)
+    ensures along { GoesAlong (plan_of (Command.Compile names.now)) (files_view F.known_files F.attempts F.taken files.old)
         (files_view F.known_files F.attempts F.taken files.new) result }
     ensures within { IfOk result WorkKeepsLimits }
     ensures kind { IfOk result (λ work. work_form work ≡ None) }
@@ -62,19 +64,18 @@ fn gather_exec<F: Files>(
     code: &Name,
     household: &Name,
 ) -> Result<Work, Ending>
-    ensures along { GoesAlong (exec_plan code.now household.now) (files_view F.known_files F.attempts F.taken files.old)
+    ensures along { GoesAlong (plan_of (Command.Exec code.now household.now)) (files_view F.known_files F.attempts F.taken files.old)
         (files_view F.known_files F.attempts F.taken files.new) result }
     ensures within { IfOk result WorkKeepsLimits }
     ensures kind { IfOk result (λ work. work_form work ≡ None) }
 {
-    let code = fetch(alloc, files, code, CODE_FILE_BYTES)?;
-    let rows = fetch(alloc, files, household, FILE_BYTES)?;
+    let (code, rows) = gather_code_and_file(alloc, files, code, household)?;
     Ok(Work::Exec(code, rows))
 }
 
 // Gathers only a source.
 fn gather_lint<F: Files>(alloc: Global, files: &mut F, names: &SourceNames) -> Result<Work, Ending>
-    ensures along { GoesAlong (lint_plan names.now) (files_view F.known_files F.attempts F.taken files.old)
+    ensures along { GoesAlong (plan_of (Command.Lint names.now)) (files_view F.known_files F.attempts F.taken files.old)
         (files_view F.known_files F.attempts F.taken files.new) result }
     ensures within { IfOk result WorkKeepsLimits }
     ensures kind { IfOk result (λ work. work_form work ≡ None) }
@@ -127,8 +128,7 @@ fn gather_work<F: Files>(
     ensures within { IfOk result WorkKeepsLimits }
     ensures kind { IfOk result (λ work. work_form work ≡ Some form) }
 {
-    let source = gather_source(alloc, files, names)?;
-    let bytes = fetch(alloc, files, behind, FILE_BYTES)?;
+    let (source, bytes) = gather_source_and_file(alloc, files, names, behind)?;
     Ok(work_of(form, source, bytes))
 }
 

@@ -3,10 +3,11 @@ ghost use Rattle.std.specs.Prelude.{◌≡◌, ◌<◌, ◌⊎◌, ℕ, List, So
 ghost use Rattle.std.specs.Io.KnownBytes.{IsAtEnd};
 ghost use Rattle.m_ports.specs.Counts.{Rose};
 ghost use Rattle.command_plans.specs.Attempts.{TakesWithin};
+ghost use Rattle.command_plans.specs.Courses.{IsUsageReport};
 ghost use Rattle.command_plans.specs.Views.{Disk, files_view, input_view, output_view};
 ghost use Rattle.command_plans.specs.declared.status.Status.{Status};
 ghost use Rattle.m_commands.specs.Command.{IsInReach, command_of, limit_of, reads_input, writes_early};
-ghost use Rattle.m_commands.specs.Clauses.{PrintsOutput, WritesCode, KeepsInputLimit, ReadsInOrder, WritesFront, StopsInFront, AnswersValid, IsUsageReport};
+ghost use Rattle.m_commands.specs.Clauses.{PrintsOutput, WritesCode, KeepsInputLimit, ReadsInOrder, WritesFront, StopsInFront, AnswersValid};
 ghost use Rattle.m_commands.specs.Output.{Output, AreOneOutput};
 ghost use Rattle.m_commands.specs.inner.Courses.{Course};
 
@@ -138,7 +139,7 @@ pub fn m_tax<R: Threads + Sync, F: Files, S: Source, K: Sink>(
         (output_view K.written K.faults out.old) (output_view K.written K.faults out.new) result }
 
     // The usage line is printed only for words that are no command, and for these unless a write or memory failed.
-    ensures usage { IsUsageReport words.now result }
+    ensures usage { IsUsageReport (command_of words.now) result }
 {
     perform(rt, alloc, words, files, input, out)
 }

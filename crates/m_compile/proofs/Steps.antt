@@ -49,15 +49,14 @@ use Rattle.rule_base.specs.Base.{IsBaseOf}
 use Rattle.rule_base.specs.Faults.{IsRuleFault}
 use Rattle.rule_base.specs.declared.fault.RuleFault.{RuleFault}
 use Rattle.rule_base.specs.declared.fault.RuleFault.TheVariants as rules
-use Rattle.reg_machine.specs.Flow.{Listing}
-use Rattle.register_alloc.specs.Allocation.{IsAllocation}
+use Rattle.m_compile.specs.declared.compiling.Program.{Program}
 use Rattle.m_compile.specs.declared.fault.SourceFault.{SourceFault}
 use Rattle.m_compile.specs.declared.fault.SourceFault.TheVariants.{Memory}
 use Rattle.m_compile.specs.Sources.{HasRules, IsWritten, running}
 use Rattle.m_compile.specs.Faults.{IsBaseFault, of_files, IsSourceFault, of_rules, of_driver, of_core, of_requests, of_weight}
-use Rattle.m_compile.specs.Compiled.{IsCompiled, IsRunnable}
-use Rattle.m_compile.specs.inner.Parts.{AreRequests, IsRequestsFault, in_driver, in_requests, IsProgram, IsHeavy, heavy, of_lines, of_names, IsDriverFault}
-use Rattle.m_compile.specs.inner.Parts.{IsReady, compiled_of}
+use Rattle.m_compile.specs.Compiled.{IsProgramOf}
+use Rattle.m_compile.specs.inner.Parts.{AreRequests, IsRequestsFault, in_driver, in_requests, IsProgramBy, IsHeavy, heavy, of_lines, of_names, IsDriverFault}
+use Rattle.m_compile.specs.inner.Parts.{IsReady}
 use Rattle.m_compile.proofs.Distinct.{parsed_codes, distinct_codes, many_inputs}
 use Rattle.m_compile.proofs.Noted.{names_noted, notes_noted}
 use Rattle.m_compile.proofs.words.Faces.{printable_face}
@@ -158,72 +157,63 @@ heavy_reported : (source : Source) (declared : Declared) (base : Base) (written 
 heavy_reported source declared base written wanted fault r d q (heavy w) = of_weight r d q w
 
 -- all steps together
-compiled_when : (source : Source) (declared : Declared) (base : Base) (wanted : List ℕ) (core : Core) (flat : Flat) (face : Face)
-    (runnable : IsRunnable face flat) → HasRules source declared base → AreRequests declared source core wanted
-    → IsProgram declared base core wanted flat face → (code : Listing) → IsAllocation flat (length face.labels) code
-    → IsCompiled source (compiled_of flat face code)
-compiled_when source declared base wanted core flat face runnable r a p code l =
+program_when : (source : Source) (declared : Declared) (base : Base) (wanted : List ℕ) (core : Core) (program : Program) → HasRules source declared base
+    → AreRequests declared source core wanted → IsProgramBy declared base core wanted program → IsProgramOf source program
+program_when source declared base wanted core program r a p =
     record {
       declared = declared;
       base = base;
       written = a.written;
       requests = wanted;
       valid = record { rules = r; driven = a.driven; requested = a.requested; light = subst (λ c. weight_of c base ≤ DRIVER_WEIGHT) a.runs p.light };
-      runnable = runnable;
+      runnable = record {
+        valid = p.valid;
+        shown = p.shown;
+        distinct = rw (ap codes_of p.inputs ∙ parsed_codes declared)
+            (distinct_codes source.texts source.application declared base r.made);
+        nodes_fit = p.nodes_fit;
+      };
       tidy = p.tidy;
-      allocated = l;
       inputs = p.inputs;
       names = p.names;
       notes = p.notes;
       first_labels = p.first_labels;
       further_labels = p.further_labels;
-      labels_are = subst (λ c. face.labels ≡ (labelling_of c base).labels) a.runs p.labels_are;
-      notes_are = subst (λ c. notes_of face.outputs ≡ (labelling_of c base).notes) a.runs p.notes_are;
-      checks_among = subst (λ c. AllByRecursion (λ check. is_among check.label (labelling_of c base).checks ≡ true) flat.checks) a.runs p.checks_among;
-      few_checks = subst (λ c. length flat.checks ≤ length (labelling_of c base).checks) a.runs p.few_checks;
-      printable = printable_face source.texts source.application source.requests declared base wanted face r.made a.requested
+      labels_are = subst (λ c. program.face.labels ≡ (labelling_of c base).labels) a.runs p.labels_are;
+      notes_are = subst (λ c. notes_of program.face.outputs ≡ (labelling_of c base).notes) a.runs p.notes_are;
+      checks_among = subst (λ c. AllByRecursion (λ check. is_among check.label (labelling_of c base).checks ≡ true) program.tidy.checks) a.runs
+          p.checks_among;
+      few_checks = subst (λ c. length program.tidy.checks ≤ length (labelling_of c base).checks) a.runs p.few_checks;
+      printable = printable_face source.texts source.application source.requests declared base wanted program.face r.made a.requested
           (distinct_codes source.texts source.application declared base r.made)
           (ap codes_of p.inputs ∙ parsed_codes declared) p.names p.first_labels p.further_labels;
       answers = λ inputs given. rw (sym a.runs) (p.answers inputs given);
-    }
-
-runnable_when : (source : Source) (declared : Declared) (base : Base) (wanted : List ℕ) (core : Core) (flat : Flat) (face : Face)
-    → HasRules source declared base → IsProgram declared base core wanted flat face → IsRunnable face flat
-runnable_when source declared base wanted core flat face r p =
-    record {
-      valid = p.valid;
-      shown = p.shown;
-      distinct = rw (ap codes_of p.inputs ∙ parsed_codes declared)
-          (distinct_codes source.texts source.application declared base r.made);
-      nodes_fit = p.nodes_fit;
     }
 
 -- the number of labels fits 32 bits, since the program is small
 few_when_fit : (labels base : ℕ) → base ≤ PARTS → labels ≤ base + most_nodes → labels < 2 ^ 32
 few_when_fit labels base b l = omega (arith, b, l)
 
-ready_when : (source : Source) (declared : Declared) (base : Base) (wanted : List ℕ) (core : Core) (flat : Flat) (face : Face) → length base.labels ≤ PARTS
+ready_when : (source : Source) (declared : Declared) (base : Base) (wanted : List ℕ) (core : Core) (program : Program) → length base.labels ≤ PARTS
     → HasRules source declared base → AreRequests declared source core wanted
-    → IsProgram declared base core wanted flat face → IsReady source flat face
-ready_when source declared base wanted core flat face few r a p =
-    let runnable = runnable_when source declared base wanted core flat face r p in
+    → IsProgramBy declared base core wanted program → IsReady source program
+ready_when source declared base wanted core program few r a p =
     record {
-      few_labels = few_when_fit (length face.labels) (length base.labels) few p.labels_fit;
+      few_labels = few_when_fit (length program.face.labels) (length base.labels) few p.labels_fit;
       small = record {
         nodes = omega (arith, p.nodes_fit);
         checks = omega (arith, p.checks_fit);
         outputs = omega (arith, p.few_outputs, p.shown.outputs);
-        labelled = labels_all (length face.labels) flat.checks p.shown.labels;
+        labelled = labels_all (length program.face.labels) program.tidy.checks p.shown.labels;
       };
-      runnable = runnable;
-      compiled = compiled_when source declared base wanted core flat face runnable r a p;
+      compiled = program_when source declared base wanted core program r a p;
     }
 
-pub finished : (source : Source) (declared : Declared) (base : Base) (wanted : List ℕ) (core : Core) (result : Result (Flat × Face) SourceFault)
+pub finished : (source : Source) (declared : Declared) (base : Base) (wanted : List ℕ) (core : Core) (result : Result Program SourceFault)
     → length base.labels ≤ PARTS → HasRules source declared base
-    → AreRequests declared source core wanted → Outcome Memory result (λ given. IsProgram declared base core wanted given.0 given.1) (IsHeavy core base)
-    → Outcome Memory result (λ given. IsReady source given.0 given.1) (IsSourceFault source)
-finished source declared base wanted core (Ok given) few r a p = ready_when source declared base wanted core given.0 given.1 few r a p
+    → AreRequests declared source core wanted → Outcome Memory result (IsProgramBy declared base core wanted) (IsHeavy core base)
+    → Outcome Memory result (IsReady source) (IsSourceFault source)
+finished source declared base wanted core (Ok program) few r a p = ready_when source declared base wanted core program few r a p
 finished source declared base wanted core (Err fault) few r a p = λ m. heavy_reported source declared base a.written wanted fault r a.driven a.requested
     (subst (λ c. IsHeavy c base fault) a.runs (p m))
 
@@ -252,7 +242,7 @@ pub program_made : (declared : Declared) (base : Base) (core : Core) (wanted : L
     (notes : List ℕ) → HasWeight core base
     → IsInlined core base declared wanted flat labels notes → Becomes flat tidy → IsTidy tidy → face.labels ≡ labels → face.inputs ≡ inputs_declared declared
     → face.outputs ≡ outputs_made declared notes wanted
-    → length wanted ≤ REQUESTS → IsProgram declared base core wanted tidy face
+    → length wanted ≤ REQUESTS → IsProgramBy declared base core wanted (record { face = face; tidy = tidy })
 program_made declared base core wanted flat tidy face labels notes w i b t l f o h =
     let many = as_many_outputs declared face.outputs notes wanted o in
     let noted : notes_of face.outputs ≡ notes = ap notes_of o ∙ notes_noted notes (map (cell_name declared) wanted) in

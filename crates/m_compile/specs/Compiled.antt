@@ -23,7 +23,8 @@ use Rattle.m_symbols.specs.Cells.{cell_name}
 use Rattle.mpp_inline.specs.Inlined.{IsDriverLine, most_nodes}
 use Rattle.mpp_inline.specs.Labelling.{labelling_of}
 use Rattle.code_file.specs.Printable.{IsPrintable}
-use Rattle.m_compile.specs.declared.compiling.Compiled.{Compiled}
+use Rattle.code_file.specs.declared.loaded.Loaded.{Loaded}
+use Rattle.m_compile.specs.declared.compiling.Program.{Program}
 use Rattle.m_compile.specs.Sources.{IsValid, running}
 use Rattle.m_compile.specs.Answers.{answer_to}
 
@@ -35,34 +36,38 @@ pub record IsRunnable (face : Face) (flat : Flat) : Type 0 where
   pub distinct : AreDistinct (codes_of face.inputs)
   pub nodes_fit : length flat.nodes ≤ most_nodes
 
--- The source is valid and compiles to this. For every list of values that the inputs may have, the
--- answer of the tidy program, read through its face, is that of the source. The face has the inputs
--- with their types; the labels of the base's checks, then those of driver lines; and as outputs the
--- notes, each of a check of the base, then the names of the requested cells. Which labels and notes
--- there are, and in which order, is determined by the driver and the base; each check of the tidy
--- program has the label of one of theirs, and there are no more. A code file can represent the
--- face. The code implements the tidy program, with one label for each of the face, and uses the
--- registers and slots of its width.
-pub record IsCompiled (source : Source) (compiled : Compiled) : Type 0 where
+-- The source is valid and compiles to this program. For every list of values that the inputs may have, the answer of
+-- the tidy program, read through its face, is that of the source. The face has the inputs with their types; the labels
+-- of the base's checks, then those of driver lines; and as outputs the notes, each of a check of the base, then the
+-- names of the requested cells. Which labels and notes there are, and in which order, is determined by the driver and
+-- the base; each check of the tidy program has the label of one of theirs, and there are no more. A code file can
+-- represent the face.
+pub record IsProgramOf (source : Source) (program : Program) : Type 0 where
   pub declared : Declared
   pub base : Base
   pub written : Option Core
   pub requests : List ℕ
   pub valid : IsValid source declared base written requests
-  pub runnable : IsRunnable compiled.face compiled.tidy
-  pub tidy : IsTidy compiled.tidy
-  pub allocated : IsAllocation compiled.tidy (length compiled.face.labels) compiled.code
-  pub inputs : compiled.face.inputs ≡ inputs_declared declared
-  pub names : names_of compiled.face.outputs ≡ map (cell_name declared) requests
-  pub notes : AllByRecursion (λ number. number < length base.labels) (notes_of compiled.face.outputs)
-  pub first_labels : take (length base.labels) compiled.face.labels ≡ map Verif base.labels
-  pub further_labels : AllByRecursion IsDriverLine (drop (length base.labels) compiled.face.labels)
-  pub labels_are : compiled.face.labels ≡ (labelling_of (running written requests declared) base).labels
-  pub notes_are : notes_of compiled.face.outputs ≡ (labelling_of (running written requests declared) base).notes
+  pub runnable : IsRunnable program.face program.tidy
+  pub tidy : IsTidy program.tidy
+  pub inputs : program.face.inputs ≡ inputs_declared declared
+  pub names : names_of program.face.outputs ≡ map (cell_name declared) requests
+  pub notes : AllByRecursion (λ number. number < length base.labels) (notes_of program.face.outputs)
+  pub first_labels : take (length base.labels) program.face.labels ≡ map Verif base.labels
+  pub further_labels : AllByRecursion IsDriverLine (drop (length base.labels) program.face.labels)
+  pub labels_are : program.face.labels ≡ (labelling_of (running written requests declared) base).labels
+  pub notes_are : notes_of program.face.outputs ≡ (labelling_of (running written requests declared) base).notes
   pub checks_among : AllByRecursion (λ check. is_among check.label (labelling_of (running written requests declared) base).checks ≡ true)
-      compiled.tidy.checks
-  pub few_checks : length compiled.tidy.checks ≤ length (labelling_of (running written requests declared) base).checks
-  pub printable : IsPrintable compiled.face
-  pub answers : (inputs : List Value) → AreValuesOf compiled.face.inputs inputs
-      → observation compiled.face.labels (notes_of compiled.face.outputs) (flat_run compiled.tidy inputs) ≡ Some
+      program.tidy.checks
+  pub few_checks : length program.tidy.checks ≤ length (labelling_of (running written requests declared) base).checks
+  pub printable : IsPrintable program.face
+  pub answers : (inputs : List Value) → AreValuesOf program.face.inputs inputs
+      → observation program.face.labels (notes_of program.face.outputs) (flat_run program.tidy inputs) ≡ Some
       (answer_to declared base written requests inputs)
+
+-- The source compiles to this code, by way of some tidy program with the same face. The code implements the tidy
+-- program, with one label for each of the face, and uses the registers and slots of its width.
+pub record IsCompiled (source : Source) (loaded : Loaded) : Type 0 where
+  pub tidy : Flat
+  pub program : IsProgramOf source (record { face = loaded.face; tidy = tidy })
+  pub allocated : IsAllocation tidy (length loaded.face.labels) loaded.code

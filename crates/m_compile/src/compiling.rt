@@ -13,13 +13,14 @@ ghost use Rattle.m_compile.specs.Faults.{IsSourceFault};
 ghost use Rattle.flat_code.specs.Faces.{IsFaceOf};
 ghost use Rattle.register_alloc.specs.Allocation.{IsAllocation, IsSmall};
 ghost use Rattle.code_file.specs.Loading.{counts_agree};
-ghost use Rattle.m_compile.specs.Compiled.{IsCompiled, IsRunnable};
-ghost use Rattle.m_compile.specs.inner.Parts.{AreRequests, IsRequestsFault, IsProgram, IsHeavy, IsDriverFault, IsReady};
+ghost use Rattle.m_compile.specs.Compiled.{IsCompiled, IsProgramOf, IsRunnable};
+ghost use Rattle.m_compile.specs.inner.Parts.{AreRequests, IsRequestsFault, IsProgramBy, IsHeavy, IsDriverFault, IsReady};
 ghost use Rattle.m_compile.specs.declared.fault.SourceFault.TheVariants.{Memory};
 
 use crate::SourceFault;
 use crate::base::compile_base;
 use crate::face::face_of;
+use code_file::Loaded;
 use dead_rules::tidy;
 use driver_core::Core;
 use flat_code::Tidy;
@@ -35,48 +36,44 @@ use rule_base::RuleBase;
 use std::alloc::{AllocError, Global};
 use std::thread::Threads;
 
-/// A compiled source.
+/// The program of a source, in the tidy form.
 #[derive(Drop)]
-pub struct Compiled {
+pub struct Program {
     /// The inputs with their types; the labels, by which stops and notes are reported; and as
     /// outputs the notes, then the names of the requested cells.
     pub face: Face,
-    /// The program, in the tidy form.
     pub tidy: Tidy,
-    /// The program as register code, with one label for each of the face.
-    pub code: Code,
 }
 
-/// Compiles a source, or reports the fault of its earliest faulty step: rule files, driver syntax,
-/// driver names, requests, weight.
+/// Compiles a source to register code, or reports the fault of its earliest faulty step: rule files,
+/// driver syntax, driver names, requests, weight.
 ///
-/// For every list of values that the inputs may have by their types, the program's answer, read
+/// For every list of values that the inputs may have by their types, the code's answer, read
 /// through its face, is that of the source: the verifications that are noted and the values of the
-/// requested cells, or the first stop.
+/// requested cells, or the first stop. The code has one label for each of the face.
 pub fn compile_with<R: Threads + Sync>(
     rt: &R,
     alloc: Global,
     source: &Source,
-) -> Result<Compiled, SourceFault>
+) -> Result<Loaded, SourceFault>
     requires { SourceKeepsLimits source.now }
-    ensures outcome { Outcome Memory result (IsCompiled source.now) (IsSourceFault source.now) }
-    ensures runnable { IfOk result (λ compiled. IsRunnable compiled.face compiled.tidy) }
-    ensures loadable { IfOk result (λ compiled. IsTrue (counts_agree compiled.code compiled.face.inputs compiled.face.labels compiled.face.outputs)) }
+    ensures { Outcome Memory result (IsCompiled source.now) (IsSourceFault source.now) }
 {
-    let (tidy, face) = ready(rt, alloc, source)?;
-    let code = coded(alloc, &tidy, &face)?;
-    Ok(Compiled { face, tidy, code })
+    let program = program_of(rt, alloc, source)?;
+    let code = coded(alloc, &program)?;
+    let Program { face, tidy: _tidy } = program;
+    Ok(Loaded { code, face })
 }
 
-/// Compiles a source as `compile_with` does, and also returns its rules in their order, for callers
-/// that report on both.
+/// Compiles a source to its program, without register code, and also returns its rules in their
+/// order, for callers that report on both. Its faults are those of `compile_with`.
 pub fn compile_with_rules<R: Threads + Sync>(
     rt: &R,
     alloc: Global,
     source: &Source,
-) -> Result<(RuleBase, Compiled), SourceFault>
+) -> Result<(RuleBase, Program), SourceFault>
     requires { SourceKeepsLimits source.now }
-    ensures outcome { Outcome Memory result (λ given. IsCompiled source.now given.1) (IsSourceFault source.now) }
+    ensures outcome { Outcome Memory result (λ given. IsProgramOf source.now given.1) (IsSourceFault source.now) }
     ensures runnable { IfOk result (λ given. IsRunnable given.1.face given.1.tidy) }
     ensures rules { IfOk result (λ given. HasRules source.now given.0.symbols given.0.ordered.base) }
     ensures valid { IfOk result (λ given. IsValidBase given.0.ordered.base) }
@@ -85,24 +82,8 @@ pub fn compile_with_rules<R: Threads + Sync>(
     ensures cells { IfOk result (λ given. given.0.ordered.base.cells ≡ length (owners_from 0 given.0.symbols.variables)) }
 {
     let made = rules_of(rt, alloc, source)?;
-    let compiled = compiled_over(alloc, source, &made)?;
-    Ok((made, compiled))
-}
-
-// Compiles a source whose rules are given in an order.
-fn compiled_over(alloc: Global, source: &Source, made: &RuleBase) -> Result<Compiled, SourceFault>
-    requires limits { SourceKeepsLimits source.now }
-    requires rules { HasRules source.now made.now.symbols made.now.ordered.base }
-    requires base { IsValidBase made.now.ordered.base }
-    requires order { IsOrder made.now.ordered.base made.now.ordered.sequence }
-    requires cells { made.now.ordered.base.cells ≡ length (owners_from 0 made.now.symbols.variables) }
-    requires placed { IsPlaced made.now.symbols }
-    ensures outcome { Outcome Memory result (IsCompiled source.now) (IsSourceFault source.now) }
-    ensures runnable { IfOk result (λ compiled. IsRunnable compiled.face compiled.tidy) }
-{
-    let (tidy, face) = program(alloc, source, made)?;
-    let code = coded(alloc, &tidy, &face)?;
-    Ok(Compiled { face, tidy, code })
+    let program = program_over(alloc, source, &made)?;
+    Ok((made, program))
 }
 
 // The base of a source's rule files, in an order.
@@ -127,40 +108,41 @@ fn rules_of<R: Threads + Sync>(
     Ok(made)
 }
 
-// The tidy program of a source, with its face.
-fn ready<R: Threads + Sync>(
+// The program of a source.
+fn program_of<R: Threads + Sync>(
     rt: &R,
     alloc: Global,
     source: &Source,
-) -> Result<(Tidy, Face), SourceFault>
+) -> Result<Program, SourceFault>
     requires { SourceKeepsLimits source.now }
-    ensures { Outcome Memory result (λ given. IsReady source.now given.0 given.1) (IsSourceFault source.now) }
+    ensures { Outcome Memory result (IsReady source.now) (IsSourceFault source.now) }
 {
     let made = rules_of(rt, alloc, source)?;
-    program(alloc, source, &made)
+    program_over(alloc, source, &made)
 }
 
 // The register code of a program, with one label for each of the face. The program is small enough,
 // so the only error is running out of memory.
-fn coded(alloc: Global, tidy: &Tidy, face: &Face) -> Result<Code, AllocError>
-    requires shown { IsFaceOf face.now tidy.now }
-    requires few { length face.now.labels < 2 ^ 32 }
-    requires small { IsSmall tidy.now (length face.now.labels) }
-    ensures allocated { IfOk result (IsAllocation tidy.now (length face.now.labels)) }
-    ensures loadable { IfOk result (λ code. IsTrue (counts_agree code face.now.inputs face.now.labels face.now.outputs)) }
+fn coded(alloc: Global, program: &Program) -> Result<Code, AllocError>
+    requires shown { IsFaceOf program.now.face program.now.tidy }
+    requires few { length program.now.face.labels < 2 ^ 32 }
+    requires small { IsSmall program.now.tidy (length program.now.face.labels) }
+    ensures allocated { IfOk result (IsAllocation program.now.tidy (length program.now.face.labels)) }
+    ensures loadable { IfOk result (λ code. IsTrue (counts_agree code program.now.face.inputs program.now.face.labels program.now.face.outputs)) }
 {
-    allocate(alloc, tidy, face.labels.as_slice().len() as u32)
+    let labels = program.face.labels.as_slice().len() as u32;
+    allocate(alloc, &program.tidy, labels)
 }
 
-// The tidy program of the requests over rules in an order, with its face.
-fn program(alloc: Global, source: &Source, made: &RuleBase) -> Result<(Tidy, Face), SourceFault>
+// The program of a source over its rules in an order.
+fn program_over(alloc: Global, source: &Source, made: &RuleBase) -> Result<Program, SourceFault>
     requires limits { SourceKeepsLimits source.now }
     requires rules { HasRules source.now made.now.symbols made.now.ordered.base }
     requires base { IsValidBase made.now.ordered.base }
     requires order { IsOrder made.now.ordered.base made.now.ordered.sequence }
     requires cells { made.now.ordered.base.cells ≡ length (owners_from 0 made.now.symbols.variables) }
     requires placed { IsPlaced made.now.symbols }
-    ensures { Outcome Memory result (λ given. IsReady source.now given.0 given.1) (IsSourceFault source.now) }
+    ensures { Outcome Memory result (IsReady source.now) (IsSourceFault source.now) }
 {
     let (core, requests) = core_and_requests(alloc, source, &made.symbols)?;
     faced(alloc, made, &core, requests.as_slice())
@@ -227,13 +209,13 @@ fn running(
     }
 }
 
-// The tidy program of a driver over rules in an order, and its face.
+// The program of a driver over rules in an order.
 fn faced(
     alloc: Global,
     made: &RuleBase,
     core: &Core,
     requests: &[u32],
-) -> Result<(Tidy, Face), SourceFault>
+) -> Result<Program, SourceFault>
     requires base { IsValidBase made.now.ordered.base }
     requires order { IsOrder made.now.ordered.base made.now.ordered.sequence }
     requires cells { made.now.ordered.base.cells ≡ length (owners_from 0 made.now.symbols.variables) }
@@ -242,11 +224,10 @@ fn faced(
     requires few_labels { length made.now.ordered.base.labels ≤ PARTS }
     requires known { All (λ c. c < length (owners_from 0 made.now.symbols.variables)) requests.now }
     requires few { length requests.now ≤ REQUESTS }
-    ensures { Outcome Memory result (λ given. IsProgram made.now.symbols made.now.ordered.base core.now requests.now given.0 given.1)
-        (IsHeavy core.now made.now.ordered.base) }
+    ensures { Outcome Memory result (IsProgramBy made.now.symbols made.now.ordered.base core.now requests.now) (IsHeavy core.now made.now.ordered.base) }
 {
     let (flat, labels, notes) = inline(alloc, core, &made.ordered, &made.symbols, requests)?;
     let tidy = tidy(alloc, &flat)?;
     let face = face_of(alloc, &made.symbols, labels, notes.as_slice(), requests)?;
-    Ok((tidy, face))
+    Ok(Program { face, tidy })
 }

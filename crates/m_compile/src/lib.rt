@@ -13,7 +13,7 @@ mod fault;
 mod laws;
 
 pub use base::compile_base;
-pub use compiling::{Compiled, compile_with, compile_with_rules};
+pub use compiling::{Program, compile_with, compile_with_rules};
 pub use entries::fault_entry;
 pub use face::inputs_of;
 pub use fault::SourceFault;

@@ -17,7 +17,7 @@ use why_report::ReportFault;
 
 /// Reports the fault of a source by its line, or out of memory by no line. It takes the fault by value, so that the
 /// fault is dropped here: if an arm of each caller dropped it, the callers' borrow check would take half a minute.
-pub(crate) fn report_source<K: Sink>(source: &Source, fault: SourceFault, out: &mut K) -> Status
+pub fn report_source<K: Sink>(source: &Source, fault: SourceFault, out: &mut K) -> Status
     ensures { ReportsLine (source_line source.now.texts fault) (output_view K.written K.faults out.old) (output_view K.written K.faults out.new) result }
 {
     let status = report_refusal(out, fault_entry(source.texts.as_slice(), &fault));

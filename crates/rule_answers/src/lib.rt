@@ -12,4 +12,5 @@ mod lint;
 mod start;
 
 pub use check::check_source;
+pub use entries::report_source;
 pub use lint::lint_source;

@@ -20,8 +20,8 @@ use Rattle.m_facts.specs.Lines.{named_facts}
 use Rattle.m_facts.specs.Truths.{ArePossible, DependsOn, IsSilent}
 use Rattle.m_facts.proofs.TruthLemmas.{depends-true, possible-true, silent-true}
 use Rattle.m_compile.specs.Answers.{answer_to}
-use Rattle.m_compile.specs.Compiled.{IsCompiled}
-use Rattle.m_compile.specs.declared.compiling.Compiled.{Compiled}
+use Rattle.m_compile.specs.Compiled.{IsProgramOf}
+use Rattle.m_compile.specs.declared.compiling.Program.{Program}
 use Rattle.m_compile.proofs.OneLaws.{one_validity}
 use Rattle.command_plans.specs.declared.status.Status.{Status}
 use Rattle.command_plans.specs.declared.status.Status.TheVariants.{Done}
@@ -32,18 +32,18 @@ use Rattle.survey_commands.specs.FactsTruths.{AreTrueFacts}
 use Rattle.survey_commands.proofs.FactsLemmas.{scheme_inputs}
 
 -- the program's observations are those of the scheme
-reported_same : (source : Source) (scheme : Scheme) (compiled : Compiled) → IsScheme source scheme → IsCompiled source compiled → (vs : List Value)
-    → AreValuesOf compiled.face.inputs vs
-    → observation compiled.face.labels (notes_of compiled.face.outputs) (flat_run compiled.tidy vs) ≡ Some (scheme.observe vs)
-reported_same source scheme compiled v is vs given =
+reported_same : (source : Source) (scheme : Scheme) (program : Program) → IsScheme source scheme → IsProgramOf source program → (vs : List Value)
+    → AreValuesOf program.face.inputs vs
+    → observation program.face.labels (notes_of program.face.outputs) (flat_run program.tidy vs) ≡ Some (scheme.observe vs)
+reported_same source scheme program v is vs given =
     let same = one_validity source is.declared v.declared is.base v.base is.written v.written is.requests v.requests is.valid v.valid in
     is.answers vs given
     ∙ (λ i. Some (answer_to (same.0 i) (same.1 i) (same.2 i) (same.3 i) vs))
     ∙ sym (ap (λ (s : Scheme). Some (s.observe vs)) v.stated)
 
-names_same : (source : Source) (scheme : Scheme) (compiled : Compiled) → IsScheme source scheme → (is : IsCompiled source compiled)
+names_same : (source : Source) (scheme : Scheme) (program : Program) → IsScheme source scheme → (is : IsProgramOf source program)
     → map (cell_name is.declared) is.requests ≡ scheme.names
-names_same source scheme compiled v is =
+names_same source scheme program v is =
     let same = one_validity source is.declared v.declared is.base v.base is.written v.written is.requests v.requests is.valid v.valid in
     (λ i. map (cell_name (same.0 i)) (same.3 i)) ∙ sym (ap (λ (s : Scheme). s.names) v.stated)
 
@@ -60,12 +60,12 @@ pub facts_true : (source : Source) (ranges : Option (List ℕ)) (scheme : Scheme
     → FactsReplies source ranges text status → status ≡ Done
     → AreTrueFacts source ranges scheme text
 facts_true source ranges scheme text status v (source_is_refused fault f k) e = cc e
-facts_true source ranges scheme text status v (ranges_are_refused compiled fault is f k) e = cc e
-facts_true source ranges scheme text status v (facts_are_found declared base compiled given rules is g) e =
-    let inputs = scheme_inputs source scheme compiled v is in
-    let all = reported_same source scheme compiled v is in
-    let flat = compiled.tidy in
-    let face = compiled.face in
+facts_true source ranges scheme text status v (ranges_are_refused program fault is f k) e = cc e
+facts_true source ranges scheme text status v (facts_are_found declared base program given rules is g) e =
+    let inputs = scheme_inputs source scheme program v is in
+    let all = reported_same source scheme program v is in
+    let flat = program.tidy in
+    let face = program.face in
     let found = found_of base flat face given in
     record {
       declared = declared;
@@ -76,7 +76,7 @@ facts_true source ranges scheme text status v (facts_are_found declared base com
       face = face;
       found = found;
       inputs = inputs;
-      names = is.names ∙ names_same source scheme compiled v is;
+      names = is.names ∙ names_same source scheme program v is;
       lines = refl;
       possible = subst (λ (ins : List Coded). ArePossible ins given scheme.observe (named_facts face.outputs found.possible)) inputs
           (possible-true base flat face given scheme.observe is.runnable.valid is.runnable.shown all);

@@ -7,7 +7,6 @@ pub mod OneOutput
 pub mod OutputLemmas
 pub mod Reading
 pub mod RecordLemmas
-pub mod Schemes
 pub mod Taken
 pub mod Valid
 pub mod Ways

@@ -4,12 +4,10 @@ use Rattle.std.specs.List.{AllByRecursion}
 use Rattle.m_fixed.specs.declared.amount.Value.{Value}
 use Rattle.m_places.specs.declared.source.Source.{Source}
 use Rattle.m_places.specs.declared.source.Text.{Text}
-use Rattle.tax_print.specs.FaultLines.{cycle_line, recursion_line}
 use Rattle.observables.specs.Inputs.{AreValuesOf}
 use Rattle.observables.specs.declared.answer.Answer.{Answer}
 use Rattle.observables.specs.declared.face.Face.{Face}
 use Rattle.reg_machine.specs.Machine.{machine_run}
-use Rattle.code_file.specs.declared.fault.CodeFault.{CodeFault}
 use Rattle.code_file.proofs.EntryLaws.{one-fault}
 use Rattle.household.specs.Household.{values_of}
 use Rattle.household.specs.Table.{table_of}
@@ -17,64 +15,51 @@ use Rattle.household.specs.declared.fault.HouseholdFault.{HouseholdFault}
 use Rattle.household.specs.declared.table.Row.{Row}
 use Rattle.household.proofs.GivenLemmas.{table_gives}
 use Rattle.m_compile.specs.Faults.{AreOneSourceFault}
-use Rattle.m_compile.specs.Faults as laws
 use Rattle.m_compile.specs.Lines.{source_line}
 use Rattle.m_compile.specs.declared.fault.SourceFault.{SourceFault}
-use Rattle.m_compile.specs.Compiled.{IsCompiled}
-use Rattle.m_compile.specs.Faults.{IsSourceFault}
-use Rattle.m_compile.specs.declared.compiling.Compiled.{Compiled}
-use Rattle.m_compile.proofs.OneLaws.{no_valid_and_fault, one_fault, one_rules}
+use Rattle.m_compile.specs.Compiled.{IsProgramOf}
+use Rattle.m_compile.specs.declared.compiling.Program.{Program}
+use Rattle.m_compile.proofs.LineLaws.{AreOneLine}
+use Rattle.m_compile.proofs.LineLaws as line_laws
+use Rattle.m_compile.proofs.OneLaws.{one_fault, one_rules}
 use Rattle.definedness.specs.Facts.{Possible}
 use Rattle.m_facts.specs.Lines.{facts_text}
 use Rattle.survey_commands.specs.Facts.{FactsReplies, facts_are_found, given_by, ranges_are_refused, ranges_fault_line}
 use Rattle.survey_commands.specs.Facts as facts
-use Rattle.survey_commands.proofs.FactsLemmas.{same_inputs}
-use Rattle.command_plans.specs.Plan.{end_of, gathered, refused}
+use Rattle.m_compile.proofs.ProgramLaws.{no_program_and_fault, same_inputs}
 use Rattle.command_plans.specs.Views.{Disk}
 use Rattle.command_plans.specs.declared.status.Status.{Status}
 use Rattle.command_plans.specs.declared.status.Status.TheVariants.{Done, Refused}
+use Rattle.command_plans.proofs.ValidLemmas.{one_output as one}
 use Rattle.code_answers.specs.Execs.{code_fault_line}
 use Rattle.code_answers.specs.Households.{household_fault_line}
 use Rattle.code_answers.specs.Schemes.{Scheme, observation_for}
 use Rattle.code_answers.specs.Shown.{Shows}
 use Rattle.survey_commands.specs.Answer.{Replies}
-use Rattle.survey_commands.specs.Command.{plan_of}
+use Rattle.survey_commands.specs.Command.{command_of, plan_of}
 use Rattle.survey_commands.specs.Csv.{field_text}
-use Rattle.survey_commands.specs.Output.{Output, usage, refuses, answers, AreOneOutput, both_cycles, both_found, both_recursions, the_same}
+use Rattle.survey_commands.specs.Lines.{usage_line}
+use Rattle.survey_commands.specs.Output.{Output, AreOneOutput, both_cycles, both_found, both_recursions, the_same}
 use Rattle.survey_commands.specs.Records.{header, rows_records, table_text, observation_fields}
 use Rattle.survey_commands.specs.Tables.{CodeReplies, SchemeReplies, SourceReplies, code_answers, code_is_refused, rows_are_answered, source_answers}
 use Rattle.survey_commands.specs.Tables.{source_is_refused, table_is_refused}
-use Rattle.survey_commands.specs.declared.command.Command.{Command}
 use Rattle.survey_commands.specs.declared.work.Work.{Work}
 use Rattle.survey_commands.specs.declared.work.Work.TheVariants.{Table, Facts, CodeTable, Version}
-use Rattle.survey_commands.proofs.Schemes.{no_form_and_fault, no_scheme_and_fault, one_inputs, one_loaded, one_scheme, shown_other}
+use Rattle.code_file.proofs.FormLaws.{no-fault-of-form}
+use Rattle.code_answers.proofs.OneLaws.{one_inputs, one_loaded, shown_other}
+use Rattle.command_plans.proofs.PrintedLemmas.{one_line as one_line_of}
+use Rattle.command_answers.proofs.SchemeLaws.{no_scheme_and_fault, one_scheme}
 
 -- ---- two error lines
 
 one_line : (texts : List Text) (fault other : SourceFault) (t u : List ℕ) → AreOneSourceFault fault other → source_line texts fault ≡ Some t
     → source_line texts other ≡ Some u → AreOneOutput t Refused u Refused
-one_line texts fault other t u (laws.the_same e) a b =
-    let c : source_line texts other ≡ Some t = subst (λ (f : SourceFault). source_line texts f ≡ Some t) e a in
-    the_same (cc (c, b)) refl
-one_line texts fault other t u (laws.both_cycles {names = ns} {others = os}) a b =
-    let c : cycle_line ns ≡ t = cc a in
-    let d : cycle_line os ≡ u = cc b in
-    subst (λ (x : List ℕ). AreOneOutput x Refused u Refused) c (subst (λ (x : List ℕ). AreOneOutput (cycle_line ns) Refused x Refused) d (both_cycles ns os))
-one_line texts fault other t u (laws.both_rings {names = ns} {others = os}) a b =
-    let c : recursion_line ns ≡ t = cc a in
-    let d : recursion_line os ≡ u = cc b in
-    subst (λ (x : List ℕ). AreOneOutput x Refused u Refused) c (subst (λ (x : List ℕ). AreOneOutput (recursion_line ns) Refused x Refused) d
-    (both_recursions ns os))
-
-same_line : (fault other : HouseholdFault) (t u : List ℕ) → fault ≡ other → household_fault_line fault ≡ Some t → household_fault_line other ≡ Some u → t ≡ u
-same_line fault other t u e a b =
-    let c : household_fault_line other ≡ Some t = subst (λ (f : HouseholdFault). household_fault_line f ≡ Some t) e a in
-    cc (c, b)
-
-one_code_line : (fault other : CodeFault) (t u : List ℕ) → fault ≡ other → code_fault_line fault ≡ Some t → code_fault_line other ≡ Some u → t ≡ u
-one_code_line fault other t u e a b =
-    let c : code_fault_line other ≡ Some t = subst (λ (f : CodeFault). code_fault_line f ≡ Some t) e a in
-    cc (c, b)
+one_line texts fault other t u same a b = of_lines t u (line_laws.one_line texts fault other t u same a b)
+  where
+    of_lines : (t u : List ℕ) → AreOneLine t u → AreOneOutput t Refused u Refused
+    of_lines _ _ (line_laws.the_same e) = the_same e refl
+    of_lines _ _ (line_laws.both_cycles names others) = both_cycles names others
+    of_lines _ _ (line_laws.both_rings names others) = both_recursions names others
 
 -- ---- tables
 
@@ -117,7 +102,7 @@ one_answer : (face : Face) (runs : List Value → Answer) (one other : Scheme) (
 one_answer face runs one other table t u s r a b (table_is_refused fault g k) (table_is_refused also h l) =
     let f : table_of other.inputs table ≡ Err fault = subst (λ inputs. table_of inputs table ≡ Err fault) (one_inputs face runs one other a b) g in
     let e : fault ≡ also = cc (f, h) in
-    the_same (same_line fault also t u e k l) refl
+    the_same (one_line_of household_fault_line fault also t u e k l) refl
 one_answer face runs one other table t u s r a b (table_is_refused fault g k) (rows_are_answered rows h) =
     let f : table_of other.inputs table ≡ Err fault = subst (λ inputs. table_of inputs table ≡ Err fault) (one_inputs face runs one other a b) g in
     cc (f, h)
@@ -132,7 +117,8 @@ one_answer face runs one other table t u s r a b (rows_are_answered rows g) (row
 
 -- a scheme has one answer to a table
 one_reply_of : (scheme : Scheme) (table t u : List ℕ) (s r : Status) → SchemeReplies scheme table t s → SchemeReplies scheme table u r → AreOneOutput t s u r
-one_reply_of scheme table t u s r (table_is_refused fault g k) (table_is_refused other h l) = the_same (same_line fault other t u (cc (g, h)) k l) refl
+one_reply_of scheme table t u s r (table_is_refused fault g k) (table_is_refused other h l) =
+    the_same (one_line_of household_fault_line fault other t u (cc (g, h)) k l) refl
 one_reply_of scheme table t u s r (table_is_refused fault g k) (rows_are_answered rows h) = cc (g, h)
 one_reply_of scheme table t u s r (rows_are_answered rows g) (table_is_refused other h l) = cc (g, h)
 one_reply_of scheme table t u s r (rows_are_answered rows g) (rows_are_answered others h) =
@@ -149,24 +135,15 @@ one_source source table t u s r (source_answers one v a) (source_answers other w
 
 one_code : (code table t u : List ℕ) (s r : Status) → CodeReplies code table t s → CodeReplies code table u r → AreOneOutput t s u r
 one_code code table t u s r (code_is_refused fault f k) (code_is_refused other g l) = the_same
-    (one_code_line fault other t u (one-fault code fault other f g) k l) refl
-one_code code table t u s r (code_is_refused fault f k) (code_answers loaded scheme form shown h) = absurd (no_form_and_fault code loaded fault form f)
-one_code code table t u s r (code_answers loaded scheme form shown h) (code_is_refused fault f k) = absurd (no_form_and_fault code loaded fault form f)
+    (one_line_of code_fault_line fault other t u (one-fault code fault other f g) k l) refl
+one_code code table t u s r (code_is_refused fault f k) (code_answers loaded scheme form shown h) = absurd (no-fault-of-form code loaded fault form f)
+one_code code table t u s r (code_answers loaded scheme form shown h) (code_is_refused fault f k) = absurd (no-fault-of-form code loaded fault form f)
 one_code code table t u s r (code_answers one scheme form shown h) (code_answers other also part seen i) =
     one_answer other.face (machine_run other.code) scheme also table t u s r (shown_other scheme one other (one_loaded code one other form part) shown) seen h i
 
--- a compiled source has no fault
-no_compiled_and_fault : (source : Source) (compiled : Compiled) (fault : SourceFault) → IsCompiled source compiled → IsSourceFault source fault → ⊥
-no_compiled_and_fault source compiled fault is f = no_valid_and_fault source is.declared is.base is.written is.requests fault is.valid f
-
-same_ranges_line : (fault other : HouseholdFault) (t u : List ℕ) → fault ≡ other → ranges_fault_line fault ≡ Some t → ranges_fault_line other ≡ Some u → t ≡ u
-same_ranges_line fault other t u e a b =
-    let c : ranges_fault_line other ≡ Some t = subst (λ (f : HouseholdFault). ranges_fault_line f ≡ Some t) e a in
-    cc (c, b)
-
 -- ranges give the same facts for two compilations of a source
-given_again : (source : Source) (ranges : Option (List ℕ)) (one other : Compiled) (stated : Result (List Possible) HouseholdFault) → IsCompiled source one
-    → IsCompiled source other
+given_again : (source : Source) (ranges : Option (List ℕ)) (one other : Program) (stated : Result (List Possible) HouseholdFault) → IsProgramOf source one
+    → IsProgramOf source other
     → given_by one.face.inputs ranges ≡ stated → given_by other.face.inputs ranges ≡ stated
 given_again source ranges one other stated is was h = subst (λ inputs. given_by inputs ranges ≡ stated) (same_inputs source one other is was) h
 
@@ -174,20 +151,20 @@ one_facts : (source : Source) (ranges : Option (List ℕ)) (t u : List ℕ) (s r
     → AreOneOutput t s u r
 one_facts source ranges t u s r (facts.source_is_refused fault f k) (facts.source_is_refused other g l) = one_line source.texts fault other t u
     (one_fault source fault other f g) k l
-one_facts source ranges t u s r (facts.source_is_refused fault f k) (ranges_are_refused compiled other is g l) = absurd
-    (no_compiled_and_fault source compiled fault is f)
-one_facts source ranges t u s r (facts.source_is_refused fault f k) (facts_are_found declared base compiled given rules is g) = absurd
-    (no_compiled_and_fault source compiled fault is f)
-one_facts source ranges t u s r (ranges_are_refused compiled other is g l) (facts.source_is_refused fault f k) = absurd
-    (no_compiled_and_fault source compiled fault is f)
+one_facts source ranges t u s r (facts.source_is_refused fault f k) (ranges_are_refused program other is g l) = absurd
+    (no_program_and_fault source program fault is f)
+one_facts source ranges t u s r (facts.source_is_refused fault f k) (facts_are_found declared base program given rules is g) = absurd
+    (no_program_and_fault source program fault is f)
+one_facts source ranges t u s r (ranges_are_refused program other is g l) (facts.source_is_refused fault f k) = absurd
+    (no_program_and_fault source program fault is f)
 one_facts source ranges t u s r (ranges_are_refused one fault is f k) (ranges_are_refused two other was g l) =
     let e : fault ≡ other = cc (given_again source ranges one two (Err fault) is was f, g) in
-    the_same (same_ranges_line fault other t u e k l) refl
+    the_same (one_line_of ranges_fault_line fault other t u e k l) refl
 one_facts source ranges t u s r (ranges_are_refused one fault is f k) (facts_are_found declared base two given rules was g) =
     let e = given_again source ranges one two (Err fault) is was f in
     cc (e, g)
-one_facts source ranges t u s r (facts_are_found declared base compiled given rules is g) (facts.source_is_refused fault f k) = absurd
-    (no_compiled_and_fault source compiled fault is f)
+one_facts source ranges t u s r (facts_are_found declared base program given rules is g) (facts.source_is_refused fault f k) = absurd
+    (no_program_and_fault source program fault is f)
 one_facts source ranges t u s r (facts_are_found declared base one given rules is g) (ranges_are_refused two fault was f k) =
     let e = given_again source ranges one two (Ok given) is was g in
     cc (e, f)
@@ -206,26 +183,6 @@ one_reply Version t u s r a b = the_same (a.0 ∙ sym b.0) (a.1 ∙ sym b.1)
 
 -- The same words and files have one output.
 pub one_output : (words : List (List ℕ)) (disk : Disk) (t u : List ℕ) (s r : Status) → Output words disk t s → Output words disk u r → AreOneOutput t s u r
-one_output words disk t u s r (usage e) (usage f) = the_same refl refl
-one_output words disk t u s r (usage e) (refuses b f h) = cc (e, f)
-one_output words disk t u s r (usage e) (answers b w f h y) = cc (e, f)
-one_output words disk t u s r (refuses a e g) (usage f) = cc (e, f)
-one_output words disk t u s r (refuses a e g) (refuses b f h) =
-    let c : a ≡ b = cc (e, f) in
-    let i : end_of disk (plan_of b) ≡ refused t = subst (λ (x : Command). end_of disk (plan_of x) ≡ refused t) c g in
-    let j : t ≡ u = cc (i, h) in
-    the_same j refl
-one_output words disk t u s r (refuses a e g) (answers b w f h y) =
-    let c : a ≡ b = cc (e, f) in
-    let i : end_of disk (plan_of b) ≡ refused t = subst (λ (x : Command). end_of disk (plan_of x) ≡ refused t) c g in
-    cc (i, h)
-one_output words disk t u s r (answers a v e g x) (usage f) = cc (e, f)
-one_output words disk t u s r (answers a v e g x) (refuses b f h) =
-    let c : a ≡ b = cc (e, f) in
-    let i : end_of disk (plan_of b) ≡ gathered v = subst (λ (x : Command). end_of disk (plan_of x) ≡ gathered v) c g in
-    cc (i, h)
-one_output words disk t u s r (answers a v e g x) (answers b w f h y) =
-    let c : a ≡ b = cc (e, f) in
-    let i : end_of disk (plan_of b) ≡ gathered v = subst (λ (x : Command). end_of disk (plan_of x) ≡ gathered v) c g in
-    let k : v ≡ w = cc (i, h) in
-    one_reply w t u s r (subst (λ (z : Work). Replies z t s) k x) y
+one_output words disk t u s r a b =
+    one plan_of Replies usage_line AreOneOutput (command_of words) disk t u s r (λ text other status outcome e f. the_same e f)
+    (λ work text other status outcome x y. one_reply work text other status outcome x y) a b

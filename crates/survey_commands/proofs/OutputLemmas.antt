@@ -16,7 +16,7 @@ use Rattle.observables.specs.declared.face.FaceOutput.TheVariants.{Named, Noted}
 use Rattle.observables.specs.Answers.{cause_of, reported_note, reported_notes, stopped}
 use Rattle.observables.specs.Outputs.{are_named, names_of, notes_of, notes_stand_first}
 use Rattle.survey_commands.specs.Records.{cause_field, empty_fields, more_notes, name_fields, observation_fields, value_field, value_fields}
-use Rattle.survey_commands.specs.inner.Outputs.{note_text, output_empties, output_names, output_note, output_notes, output_value, output_values}
+use Rattle.survey_commands.specs.inner.Outputs.{note_text, output_fields, output_note, output_notes, output_value, output_values}
 
 -- ---- from some output on
 
@@ -59,12 +59,12 @@ notes_end some labels outputs vs k h = ap (λ left. output_notes some labels (dr
 
 -- ---- names and empty fields
 
-pub names_are : (outputs : List FaceOutput) → output_names outputs ≡ name_fields (names_of outputs)
+pub names_are : (outputs : List FaceOutput) → output_fields true outputs ≡ name_fields (names_of outputs)
 names_are [] = refl
 names_are (Named name ∷ outputs) = ap (λ rest. joined (codes "," ∷ name ∷ []) ++ rest) (names_are outputs)
 names_are (Noted number ∷ outputs) = names_are outputs
 
-pub empties_are : (outputs : List FaceOutput) → output_empties outputs ≡ empty_fields (names_of outputs)
+pub empties_are : (outputs : List FaceOutput) → output_fields false outputs ≡ empty_fields (names_of outputs)
 empties_are [] = refl
 empties_are (Named name ∷ outputs) = ap (λ rest. codes "," ++ rest) (empties_are outputs)
 empties_are (Noted number ∷ outputs) = empties_are outputs

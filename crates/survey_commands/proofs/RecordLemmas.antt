@@ -24,7 +24,7 @@ use Rattle.code_answers.specs.Schemes.{Scheme}
 use Rattle.code_answers.specs.Shown.{Shows}
 use Rattle.survey_commands.specs.Csv.{field_text}
 use Rattle.survey_commands.specs.Records.{header, rows_records, table_text, observation_fields}
-use Rattle.survey_commands.specs.inner.Outputs.{answer_fields, output_empties, output_notes, output_values, stop_field}
+use Rattle.survey_commands.specs.inner.Outputs.{answer_fields, output_fields, output_notes, output_values, stop_field}
 use Rattle.survey_commands.specs.inner.Printers.{record_by, text_by}
 use Rattle.survey_commands.proofs.OutputLemmas.{empties_are, notes_are, stop_fields, values_are}
 
@@ -38,7 +38,7 @@ reported_values face vs = λ i. joined (codes ",," ∷ notes_are false face.labe
 
 -- the fields of a stop
 pub stop_reported : (face : Face) (stop : Stop) → label_number stop < length face.labels
-    → joined (codes "," ∷ stop_field face.labels stop ∷ codes "," ∷ output_empties face.outputs ∷ new_line ∷ []) ≡ answer_fields face (Stopped stop)
+    → joined (codes "," ∷ stop_field face.labels stop ∷ codes "," ∷ output_fields false face.outputs ∷ new_line ∷ []) ≡ answer_fields face (Stopped stop)
 stop_reported face stop is =
     ap (λ rest. joined (codes "," ∷ stop_field face.labels stop ∷ codes "," ∷ rest ∷ new_line ∷ [])) (empties_are face.outputs)
     ∙ sym (stop_fields (names_of face.outputs) face.labels stop (slice_get face.labels (label_number stop))

@@ -4,8 +4,8 @@ use Rattle.std.specs.List.{list_all}
 use Rattle.std.specs.Option.{option_map_or, option_or}
 use Rattle.std.specs.Str.{bytes_eq, is_utf8}
 use Rattle.m_places.specs.declared.limits.TheConstants.{CODE_FILE_BYTES, FILE_BYTES}
-use Rattle.command_plans.specs.Plan.{Plan, done, requests_file, file_plan, and_then}
-use Rattle.command_plans.specs.Source.{optional_plan, source_plan}
+use Rattle.command_plans.specs.Plan.{Plan, done, and_then}
+use Rattle.command_plans.specs.Source.{code_file_plan, optional_plan, source_file_plan, source_plan}
 use Rattle.command_plans.specs.declared.source.SourceNames.{SourceNames}
 use Rattle.survey_commands.specs.declared.command.Command.{Command}
 use Rattle.survey_commands.specs.declared.command.Command.TheVariants.{Table, Facts, CodeTable, Version}
@@ -52,30 +52,13 @@ command_of words = option_or (version_command words) (option_or (code_command wo
 
 -- ---- plans
 
--- a source is gathered, and then a table
-abbrev pub source_table_plan : SourceNames → List ℕ → Plan Work
-source_table_plan names table = and_then (source_plan names) (λ source. and_then (file_plan table FILE_BYTES) (λ bytes. done (work.Table source bytes)))
-
--- a source is gathered, and then ranges, unless their name is `-`
-abbrev pub facts_plan : SourceNames → List ℕ → Plan Work
-facts_plan names ranges = and_then (source_plan names) (λ source. and_then (optional_plan ranges) (λ bytes. done (work.Facts source bytes)))
-
--- a code file is gathered, and then a table
-abbrev pub code_table_plan : List ℕ → List ℕ → Plan Work
-code_table_plan code table = and_then (file_plan code CODE_FILE_BYTES)
-    (λ bytes. and_then (file_plan table FILE_BYTES) (λ rows. done (work.CodeTable bytes rows)))
-
 -- The plan of a command: which files it fetches, in which order, where it rejects them, and what it has gathered in
--- the end. `version` fetches none.
+-- the end. The ranges of `facts` may be `-`, and `version` fetches no file.
 abbrev pub plan_of : Command → Plan Work
-plan_of (Table names table) = source_table_plan names table
-plan_of (Facts names ranges) = facts_plan names ranges
-plan_of (CodeTable code table) = code_table_plan code table
+plan_of (Table names table) = and_then (source_file_plan names table) (λ gathered. done (work.Table gathered.0 gathered.1))
+plan_of (Facts names ranges) = and_then (source_plan names) (λ source. and_then (optional_plan ranges) (λ bytes. done (work.Facts source bytes)))
+plan_of (CodeTable code table) = and_then (code_file_plan code table) (λ gathered. done (work.CodeTable gathered.0 gathered.1))
 plan_of Version = done work.Version
-
--- whether the words are a command that fetches a file: its plan requests one
-abbrev pub reads_files : List (List ℕ) → Bool
-reads_files words = option_map_or (λ command. requests_file (plan_of command)) (command_of words) false
 
 -- the greatest number of bytes of a file that a command fetches
 abbrev pub file_limit : Command → ℕ

@@ -10,11 +10,11 @@ use Rattle.household.specs.declared.fault.HouseholdFault.{HouseholdFault}
 use Rattle.household.specs.declared.fault.HouseholdFault.TheVariants.{BadHeader, TooManyRows, BadRow, UnknownCode, BadAmount, NotOfType, CodeTwice, Memory}
 use Rattle.input_ranges.specs.Ranges.{ranges_of, type_facts}
 use Rattle.m_facts.specs.Lines.{facts_text}
-use Rattle.m_compile.specs.Compiled.{IsCompiled}
+use Rattle.m_compile.specs.Compiled.{IsProgramOf}
 use Rattle.m_compile.specs.Faults.{IsSourceFault}
 use Rattle.m_compile.specs.Lines.{source_line}
 use Rattle.m_compile.specs.Sources.{HasRules}
-use Rattle.m_compile.specs.declared.compiling.Compiled.{Compiled}
+use Rattle.m_compile.specs.declared.compiling.Program.{Program}
 use Rattle.m_compile.specs.declared.fault.SourceFault.{SourceFault}
 use Rattle.command_plans.specs.declared.status.Status.{Status}
 use Rattle.command_plans.specs.declared.status.Status.TheVariants.{Done, Refused}
@@ -49,16 +49,16 @@ ranges_fault_line Memory = None
 -- ---- answers
 
 -- The answer of a source and ranges: the line of the source's fault; or the line of the fault of the ranges, for the
--- inputs of the compiled source; or the lines of the facts that it has for all households within the ranges.
+-- inputs of its program; or the lines of the facts that it has for all households within the ranges.
 pub data FactsReplies (source : Source) (ranges : Option (List ℕ)) : List ℕ → Status → Type 0 where
   source_is_refused : {line : List ℕ} (fault : SourceFault) → IsSourceFault source fault → source_line source.texts fault ≡ Some line
       → FactsReplies source ranges line Refused
-  ranges_are_refused : {line : List ℕ} (compiled : Compiled) (fault : HouseholdFault) → IsCompiled source compiled
-      → given_by compiled.face.inputs ranges ≡ Err fault
+  ranges_are_refused : {line : List ℕ} (program : Program) (fault : HouseholdFault) → IsProgramOf source program
+      → given_by program.face.inputs ranges ≡ Err fault
       → ranges_fault_line fault ≡ Some line → FactsReplies source ranges line Refused
-  facts_are_found : (declared : Declared) (base : Base) (compiled : Compiled) (given : List Possible) → HasRules source declared base
-      → IsCompiled source compiled
-      → given_by compiled.face.inputs ranges ≡ Ok given → FactsReplies source ranges (facts_text base compiled.tidy compiled.face given) Done
+  facts_are_found : (declared : Declared) (base : Base) (program : Program) (given : List Possible) → HasRules source declared base
+      → IsProgramOf source program
+      → given_by program.face.inputs ranges ≡ Ok given → FactsReplies source ranges (facts_text base program.tidy program.face given) Done
 
 -- a valid source, and ranges without a fault for its inputs
 pub record FactsHaveAnswer (source : Source) (ranges : Option (List ℕ)) : Type 0 where

@@ -1,21 +1,17 @@
 //! `table` for a code file.
-ghost use Rattle.std.specs.Prelude.{◌≡◌, ◌≤◌, length};
-ghost use Rattle.std.specs.Option.{option_map};
+ghost use Rattle.std.specs.Prelude.{◌≤◌, length};
 ghost use Rattle.m_places.specs.declared.limits.TheConstants.{CODE_FILE_BYTES};
-ghost use Rattle.tax_print.specs.FaultLines.{fault_line};
 ghost use Rattle.command_plans.specs.Views.{output_view};
-ghost use Rattle.code_answers.specs.Execs.{code_fault_line};
 ghost use Rattle.code_answers.specs.Parts.{IsWrittenInParts};
 ghost use Rattle.survey_commands.specs.Tables.{CodeReplies};
 
 use crate::table::answer_table;
-use code_answers::report_refusal;
-use code_file::{CodeFault, read_code};
+use code_answers::{code_entry, report_refusal};
+use code_file::read_code;
 use command_plans::Status;
 use m_ports::Sink;
 use std::alloc::Global;
 use std::thread::Threads;
-use tax_print::{CodeFault as Words, Fault};
 
 /// Reads the code file of these bytes, and prints the answers of its code to the rows of the table of these bytes as
 /// CSV, or the line of the first fault of the two.
@@ -32,17 +28,5 @@ pub(crate) fn table_code<R: Threads + Sync, K: Sink>(
     match read_code(alloc, code) {
         Ok(loaded) => answer_table(rt, alloc, &loaded, table, out),
         Err(fault) => report_refusal(out, code_entry(fault)),
-    }
-}
-
-// Maps a fault of a code file to its line; none for out of memory.
-fn code_entry<'a>(fault: CodeFault) -> Option<Fault<'a>>
-    ensures { option_map fault_line result ≡ code_fault_line fault }
-{
-    match fault {
-        CodeFault::BadHeader => Some(Fault::CodeHeader),
-        CodeFault::BadLine(line) => Some(Fault::CodeLine(line, Words::BadLine)),
-        CodeFault::BadOrder(line) => Some(Fault::CodeLine(line, Words::ReadBeforeWrite)),
-        CodeFault::Memory => None,
     }
 }

@@ -1,9 +1,11 @@
 //! The first record, and the fields of a household whose run stops.
+ghost use Rattle.std.specs.Prelude.{◌≡◌, [], if◌then◌else◌};
 ghost use Rattle.m_ports.specs.Giving.{Gives};
 ghost use Rattle.observables.specs.Outputs.{names_of};
 ghost use Rattle.survey_commands.specs.Records.{header};
-ghost use Rattle.survey_commands.specs.inner.Outputs.{output_empties, output_empty, output_name, output_names};
+ghost use Rattle.survey_commands.specs.inner.Outputs.{output_field, output_fields};
 
+use m_places::Name;
 use m_ports::{Failed, FixedText, Sink, give_all, give_pieces};
 use observables::FaceOutput;
 
@@ -30,43 +32,35 @@ fn print_header<K: Sink>(outputs: &[FaceOutput], out: &mut K) -> Result<(), Fail
     ensures { Gives K.written K.faults out.old out.new result (header (names_of outputs.now)) }
 {
     give_pieces(out, &[b"name,stop,notes"])?;
-    give_names(outputs, out)?;
+    give_fields(outputs, true, out)?;
     give_pieces(out, &[b"\n"])
 }
 
-fn give_names<K: Sink>(outputs: &[FaceOutput], out: &mut K) -> Result<(), Failed>
-    ensures { Gives K.written K.faults out.old out.new result (output_names outputs.now) }
+/// Writes a field for each output with a name, after a comma: its name, or nothing.
+pub(crate) fn give_fields<K: Sink>(
+    outputs: &[FaceOutput],
+    filled: bool,
+    out: &mut K,
+) -> Result<(), Failed>
+    ensures { Gives K.written K.faults out.old out.new result (output_fields filled outputs.now) }
 {
     for output in outputs {
-        give_name(output, out)?;
+        give_output(output, filled, out)?;
     }
     Ok(())
 }
 
-fn give_name<K: Sink>(output: &FaceOutput, out: &mut K) -> Result<(), Failed>
-    ensures { Gives K.written K.faults out.old out.new result (output_name output.now) }
+fn give_output<K: Sink>(output: &FaceOutput, filled: bool, out: &mut K) -> Result<(), Failed>
+    ensures { Gives K.written K.faults out.old out.new result (output_field filled output.now) }
 {
     match output {
-        FaceOutput::Named(name) => give_pieces(out, &[b",", name.bytes()]),
+        FaceOutput::Named(name) => give_pieces(out, &[b",", field_of(name, filled)]),
         FaceOutput::Noted(_) => give_pieces(out, &[]),
     }
 }
 
-/// Writes an empty field for each output with a name.
-pub(crate) fn give_empties<K: Sink>(outputs: &[FaceOutput], out: &mut K) -> Result<(), Failed>
-    ensures { Gives K.written K.faults out.old out.new result (output_empties outputs.now) }
+fn field_of(name: &Name, filled: bool) -> &[u8]
+    ensures { result.now ≡ if filled then name.now else [] }
 {
-    for output in outputs {
-        give_empty(output, out)?;
-    }
-    Ok(())
-}
-
-fn give_empty<K: Sink>(output: &FaceOutput, out: &mut K) -> Result<(), Failed>
-    ensures { Gives K.written K.faults out.old out.new result (output_empty output.now) }
-{
-    match output {
-        FaceOutput::Named(_) => give_pieces(out, &[b","]),
-        FaceOutput::Noted(_) => give_pieces(out, &[]),
-    }
+    if filled { name.bytes() } else { b"" }
 }

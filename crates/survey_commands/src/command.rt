@@ -2,7 +2,7 @@
 ghost use Rattle.std.specs.Prelude.{◌≡◌, IfOk};
 ghost use Rattle.survey_commands.specs.Command.{code_command, command_of, command_over, over_source, source_command, version_command};
 
-use command_plans::SourceNames;
+use command_plans::{SourceNames, names_of};
 use m_places::{Name, Word};
 use m_text::is_text;
 use std::alloc::{AllocError, Global};
@@ -113,20 +113,4 @@ fn command_over(wanted: OverSource, names: SourceNames, file: Name) -> Command
         OverSource::Table => Command::Table(names, file),
         OverSource::Facts => Command::Facts(names, file),
     }
-}
-
-// The names of a source. The only error is out of memory.
-fn names_of(
-    alloc: Global,
-    list: &Word,
-    driver: &Word,
-    requests: &Word,
-) -> Result<SourceNames, AllocError>
-    ensures { IfOk result (λ names. names ≡ record { list = list.now; driver = driver.now; requests = requests.now }) }
-{
-    Ok(SourceNames {
-        list: list.copy(alloc)?,
-        driver: driver.copy(alloc)?,
-        requests: requests.copy(alloc)?,
-    })
 }

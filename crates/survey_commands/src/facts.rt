@@ -12,14 +12,14 @@ ghost use Rattle.survey_commands.specs.inner.Finding.{IsFactsBy, IsFactsOf};
 
 use crate::found::give_found;
 use crate::ranges::{given_facts, report_ranges};
-use crate::source::report_source;
 use command_plans::{Status, printed};
 use definedness::Fact;
-use m_compile::{Compiled, compile_with_rules};
+use m_compile::{Program, compile_with_rules};
 use m_facts::find_facts;
 use m_places::{Seq, Source};
 use m_ports::Sink;
 use micro_m::Base;
+use rule_answers::report_source;
 use std::alloc::{AllocError, Global};
 use std::thread::Threads;
 
@@ -36,34 +36,34 @@ pub(crate) fn facts_source<R: Threads + Sync, K: Sink>(
     ensures { IsAnswered (FactsReplies source.now ranges.now) (output_view K.written K.faults out.old) (output_view K.written K.faults out.new) result }
 {
     match compile_with_rules(rt, alloc, source) {
-        Ok((made, compiled)) => {
-            let status = answer_facts(alloc, &made.ordered.base, &compiled, ranges, out);
+        Ok((made, program)) => {
+            let status = answer_facts(alloc, &made.ordered.base, &program, ranges, out);
             drop(made);
-            drop(compiled);
+            drop(program);
             status
         }
         Err(fault) => report_source(source, fault, out),
     }
 }
 
-// Prints the facts of a base and its compiled source within ranges.
+// Prints the facts of a base and its program within ranges.
 fn answer_facts<K: Sink>(
     alloc: Global,
     base: &Base,
-    compiled: &Compiled,
+    program: &Program,
     ranges: &Option<Seq<u8>>,
     out: &mut K,
 ) -> Status
     requires valid { IsValidBase base.now }
     requires few { length base.now.checks < 2 ^ 32 }
-    requires runnable { IsRunnable compiled.now.face compiled.now.tidy }
-    requires first_labels { take (length base.now.labels) compiled.now.face.labels ≡ map Verif base.now.labels }
-    ensures { IsAnswered (IsFactsOf base.now compiled.now ranges.now) (output_view K.written K.faults out.old) (output_view K.written K.faults out.new) result }
+    requires runnable { IsRunnable program.now.face program.now.tidy }
+    requires first_labels { take (length base.now.labels) program.now.face.labels ≡ map Verif base.now.labels }
+    ensures { IsAnswered (IsFactsOf base.now program.now ranges.now) (output_view K.written K.faults out.old) (output_view K.written K.faults out.new) result }
 {
-    let inputs = compiled.face.inputs.as_slice();
-    match given_facts(alloc, inputs, compiled.tidy.flat().inputs, ranges) {
+    let inputs = program.face.inputs.as_slice();
+    match given_facts(alloc, inputs, program.tidy.flat().inputs, ranges) {
         Ok(given) => {
-            let status = print_found(alloc, base, compiled, given.as_slice(), out);
+            let status = print_found(alloc, base, program, given.as_slice(), out);
             drop(given);
             status
         }
@@ -75,19 +75,19 @@ fn answer_facts<K: Sink>(
 fn print_found<K: Sink>(
     alloc: Global,
     base: &Base,
-    compiled: &Compiled,
+    program: &Program,
     given: &[Fact],
     out: &mut K,
 ) -> Status
     requires valid { IsValidBase base.now }
     requires few { length base.now.checks < 2 ^ 32 }
-    requires shown { IsFaceOf compiled.now.face compiled.now.tidy }
-    requires first_labels { take (length base.now.labels) compiled.now.face.labels ≡ map Verif base.now.labels }
-    ensures { IsAnswered (IsFactsBy base.now compiled.now given.now) (output_view K.written K.faults out.old) (output_view K.written K.faults out.new) result }
+    requires shown { IsFaceOf program.now.face program.now.tidy }
+    requires first_labels { take (length base.now.labels) program.now.face.labels ≡ map Verif base.now.labels }
+    ensures { IsAnswered (IsFactsBy base.now program.now given.now) (output_view K.written K.faults out.old) (output_view K.written K.faults out.new) result }
 {
-    match find_facts(alloc, base, &compiled.tidy, &compiled.face, given) {
+    match find_facts(alloc, base, &program.tidy, &program.face, given) {
         Ok(found) => {
-            let given = give_found(base, &compiled.face, &found, out);
+            let given = give_found(base, &program.face, &found, out);
             let status = printed(given, Status::Done);
             drop(found);
             status

@@ -3,14 +3,16 @@ ghost use Rattle.std.specs.Prelude.{◌≡◌, true, false, IfOk};
 ghost use Rattle.command_plans.specs.Trips.{GoesAlong};
 ghost use Rattle.command_plans.specs.Views.{files_view};
 ghost use Rattle.survey_commands.specs.Answer.{WorkKeepsLimits};
-ghost use Rattle.survey_commands.specs.Command.{code_table_plan, facts_plan, plan_of, source_table_plan};
+ghost use Rattle.survey_commands.specs.Command.{plan_of};
 ghost use Rattle.survey_commands.specs.inner.Courses.{IsWorkOf, work_in_parts};
 
 use crate::command::Command;
 use crate::work::Work;
-use command_plans::{Ending, SourceNames, fetch, gather_optional, gather_source};
+use command_plans::{
+    Ending, SourceNames, gather_code_and_file, gather_optional, gather_source,
+    gather_source_and_file,
+};
 use m_places::Name;
-use m_places::limits::{CODE_FILE_BYTES, FILE_BYTES};
 use m_ports::Files;
 use std::alloc::Global;
 
@@ -36,13 +38,12 @@ fn gather_table<F: Files>(
     names: &SourceNames,
     table: &Name,
 ) -> Result<Work, Ending>
-    ensures along { GoesAlong (source_table_plan names.now table.now) (files_view F.known_files F.attempts F.taken files.old)
+    ensures along { GoesAlong (plan_of (Command.Table names.now table.now)) (files_view F.known_files F.attempts F.taken files.old)
         (files_view F.known_files F.attempts F.taken files.new) result }
     ensures within { IfOk result WorkKeepsLimits }
     ensures kind { IfOk result (λ work. work_in_parts work ≡ true) }
 {
-    let source = gather_source(alloc, files, names)?;
-    let rows = fetch(alloc, files, table, FILE_BYTES)?;
+    let (source, rows) = gather_source_and_file(alloc, files, names, table)?;
     Ok(Work::Table(source, rows))
 }
 
@@ -53,7 +54,7 @@ fn gather_facts<F: Files>(
     names: &SourceNames,
     ranges: &Name,
 ) -> Result<Work, Ending>
-    ensures along { GoesAlong (facts_plan names.now ranges.now) (files_view F.known_files F.attempts F.taken files.old)
+    ensures along { GoesAlong (plan_of (Command.Facts names.now ranges.now)) (files_view F.known_files F.attempts F.taken files.old)
         (files_view F.known_files F.attempts F.taken files.new) result }
     ensures within { IfOk result WorkKeepsLimits }
     ensures kind { IfOk result (λ work. work_in_parts work ≡ false) }
@@ -70,12 +71,11 @@ fn gather_code_table<F: Files>(
     code: &Name,
     table: &Name,
 ) -> Result<Work, Ending>
-    ensures along { GoesAlong (code_table_plan code.now table.now) (files_view F.known_files F.attempts F.taken files.old)
+    ensures along { GoesAlong (plan_of (Command.CodeTable code.now table.now)) (files_view F.known_files F.attempts F.taken files.old)
         (files_view F.known_files F.attempts F.taken files.new) result }
     ensures within { IfOk result WorkKeepsLimits }
     ensures kind { IfOk result (λ work. work_in_parts work ≡ true) }
 {
-    let code = fetch(alloc, files, code, CODE_FILE_BYTES)?;
-    let rows = fetch(alloc, files, table, FILE_BYTES)?;
+    let (code, rows) = gather_code_and_file(alloc, files, code, table)?;
     Ok(Work::CodeTable(code, rows))
 }

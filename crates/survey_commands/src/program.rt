@@ -1,12 +1,13 @@
 //! The top call.
 ghost use Rattle.std.specs.Prelude.{◌≡◌, ◌<◌, ℕ, List, Some, false};
 ghost use Rattle.command_plans.specs.Attempts.{TakesWithin};
+ghost use Rattle.command_plans.specs.Courses.{IsUsageReport};
 ghost use Rattle.command_plans.specs.Printing.{Prints};
 ghost use Rattle.command_plans.specs.Views.{Disk, files_view, output_view};
 ghost use Rattle.command_plans.specs.declared.status.Status.{Status};
 ghost use Rattle.m_ports.specs.Counts.{Rose};
 ghost use Rattle.survey_commands.specs.Command.{command_of, limit_of, writes_early};
-ghost use Rattle.survey_commands.specs.Clauses.{PrintsOutput, ReadsInOrder, WritesFront, StopsInFront, AnswersValid, IsUsageReport};
+ghost use Rattle.survey_commands.specs.Clauses.{PrintsOutput, ReadsInOrder, WritesFront, StopsInFront, AnswersValid};
 ghost use Rattle.survey_commands.specs.Lines.{usage_line};
 ghost use Rattle.survey_commands.specs.Output.{Output, AreOneOutput};
 ghost use Rattle.survey_commands.specs.inner.Courses.{Course};
@@ -118,7 +119,7 @@ pub fn m_survey<R: Threads + Sync, F: Files, K: Sink>(
         (output_view K.written K.faults out.old) (output_view K.written K.faults out.new) result }
 
     // The usage line is printed only for words that are no command, and for these unless a write or memory failed.
-    ensures usage { IsUsageReport words.now result }
+    ensures usage { IsUsageReport (command_of words.now) result }
 {
     perform(rt, alloc, words, files, out)
 }

@@ -5,9 +5,9 @@ ghost use Rattle.m_text.specs.Pieces.{joined, new_line};
 ghost use Rattle.observables.specs.Answers.{label_number};
 ghost use Rattle.tax_print.specs.Lines.{AnswerIsWithin};
 ghost use Rattle.survey_commands.specs.Csv.{field_text};
-ghost use Rattle.survey_commands.specs.inner.Outputs.{answer_fields, output_empties, output_notes, output_values, stop_field};
+ghost use Rattle.survey_commands.specs.inner.Outputs.{answer_fields, output_fields, output_notes, output_values, stop_field};
 
-use crate::columns::give_empties;
+use crate::columns::give_fields;
 use crate::csv::give_field;
 use crate::notes::give_notes;
 use crate::stops::give_stop;
@@ -98,11 +98,11 @@ fn print_stop<K: Sink>(
 ) -> Result<(), Failed>
     requires { label_number stop < length labels.now }
     ensures { Gives K.written K.faults out.old out.new result
-        (joined (codes "," ∷ stop_field labels.now stop ∷ codes "," ∷ output_empties outputs.now ∷ new_line ∷ [])) }
+        (joined (codes "," ∷ stop_field labels.now stop ∷ codes "," ∷ output_fields false outputs.now ∷ new_line ∷ [])) }
 {
     give_pieces(out, &[b","])?;
     give_stop(labels, stop, out)?;
     give_pieces(out, &[b","])?;
-    give_empties(outputs, out)?;
+    give_fields(outputs, false, out)?;
     give_pieces(out, &[b"\n"])
 }

@@ -23,7 +23,7 @@ use Rattle.code_answers.specs.Shown.{Shows}
 use Rattle.command_answers.specs.Serving.{Served}
 use Rattle.command_answers.specs.Sessions.{ended_replies, session_replies}
 use Rattle.command_answers.specs.Sources.{IsScheme}
-use Rattle.command_answers.specs.declared.program.Program.{Program}
+use Rattle.m_compile.specs.declared.compiling.Program.{Program}
 
 -- the text is the code file of the code, and a form of it where its face is printable, and the command has done its
 -- work

@@ -1,12 +1,10 @@
 -- The course of a call of the program, from which all its clauses follow.
-use Rattle.std.specs.Prelude.{◌≡◌, ℕ, List, Option, Some, None, Ok, Err}
+use Rattle.std.specs.Prelude.{◌≡◌, ℕ, List, Option, Some, None}
 use Rattle.tax_print.specs.FaultLines.{usage_line}
-use Rattle.command_plans.specs.Printing.{Prints, ReportsEnding, IsAnswered}
-use Rattle.command_plans.specs.Trips.{GoesAlong}
+use Rattle.command_plans.specs.Courses as courses
+use Rattle.command_plans.specs.Printing.{IsAnswered}
 use Rattle.command_plans.specs.Views.{FilesView, InputView, OutputView}
-use Rattle.command_plans.specs.declared.ending.Ending.{Ending}
 use Rattle.command_plans.specs.declared.status.Status.{Status}
-use Rattle.command_plans.specs.declared.status.Status.TheVariants.{Usage, Memory}
 use Rattle.command_answers.specs.Batches.{BatchReplies}
 use Rattle.code_answers.specs.Parts.{IsWrittenInParts}
 use Rattle.command_answers.specs.Cases.{CasesReplies}
@@ -65,14 +63,8 @@ WorkIsAnswered (Check source rows report) heard reported old new status = (repor
 WorkIsAnswered (Lint source) heard reported old new status = (reported ≡ heard) × IsAnswered (LintReplies source) old new status
 WorkIsAnswered (Cases source table) heard reported old new status = (reported ≡ heard) × IsWrittenInParts (CasesReplies source table) old new status
 
--- The words were no command, or there was no memory to copy them, or the plan of their command ended before its files
--- were gathered, or the files were gathered and answered.
-pub data Course (words : List (List ℕ)) (before after : FilesView) (heard reported : InputView) (old new : OutputView) (status : Status) : Type 0 where
-  is_no_command : command_of words ≡ None → after ≡ before → reported ≡ heard → Prints usage_line Usage old new status
-      → Course words before after heard reported old new status
-  has_no_memory : after ≡ before → reported ≡ heard → new ≡ old → status ≡ Memory → Course words before after heard reported old new status
-  ended : (wanted : Command) (ending : Ending) → command_of words ≡ Some wanted → GoesAlong (plan_of wanted) before after (Err ending) → reported ≡ heard
-      → ReportsEnding ending old new status
-      → Course words before after heard reported old new status
-  answered : (wanted : Command) (work : Work) → command_of words ≡ Some wanted → GoesAlong (plan_of wanted) before after (Ok work) → IsWorkOf wanted work
-      → WorkIsAnswered work heard reported old new status → Course words before after heard reported old new status
+-- The course of a call: nothing was read from the input unless the command's work was answered.
+abbrev pub Course : List (List ℕ) → (before after : FilesView) → (heard reported : InputView) → (old new : OutputView) → Status → Type 0
+Course words before after heard reported old new status =
+    courses.Course plan_of usage_line (reported ≡ heard) (λ wanted work. IsWorkOf wanted work × WorkIsAnswered work heard reported old new status)
+    (command_of words) before after old new status

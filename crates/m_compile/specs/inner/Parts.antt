@@ -9,15 +9,13 @@ use Rattle.micro_m.specs.declared.base.Base.{Base}
 use Rattle.micro_m.specs.Bases.{is_among}
 use Rattle.observables.specs.declared.face.Face.{Face}
 use Rattle.observables.specs.declared.face.FaceLabel.TheVariants.{Verif}
-use Rattle.flat_code.specs.declared.program.Flat.{Flat}
 use Rattle.flat_code.specs.Faces.{IsFaceOf}
 use Rattle.flat_code.specs.Runs.{IsFlat, flat_run}
 use Rattle.flat_code.specs.Tidy.{IsTidy}
 use Rattle.observables.specs.Answers.{observation}
 use Rattle.observables.specs.Inputs.{AreValuesOf}
 use Rattle.observables.specs.Outputs.{names_of, notes_of}
-use Rattle.reg_machine.specs.Flow.{Listing}
-use Rattle.register_alloc.specs.Allocation.{IsAllocation, IsSmall}
+use Rattle.register_alloc.specs.Allocation.{IsSmall}
 use Rattle.driver_core.specs.declared.program.Core.{Core}
 use Rattle.driver_core.specs.Answers.{answer_of}
 use Rattle.driver_core.specs.Inputs.{inputs_declared}
@@ -32,12 +30,12 @@ use Rattle.mpp_parser.specs.declared.command.Driver.{Driver}
 use Rattle.mpp_parser.specs.Faults.{IsDriver, IsFault}
 use Rattle.mpp_core.specs.declared.fault.CoreFault.{CoreFault}
 use Rattle.mpp_core.specs.Cores.{IsCoreFault}
-use Rattle.m_compile.specs.declared.compiling.Compiled.{Compiled}
+use Rattle.m_compile.specs.declared.compiling.Program.{Program}
 use Rattle.m_compile.specs.declared.fault.SourceFault.{SourceFault}
 use Rattle.m_compile.specs.declared.fault.SourceFault.TheVariants.{Driver as DriverIs, Core as CoreIs, Requests, DriverTooLarge}
 use Rattle.m_compile.specs.Sources.{IsWritten, running}
 use Rattle.m_compile.specs.Faults.{observation_weight}
-use Rattle.m_compile.specs.Compiled.{IsCompiled, IsRunnable}
+use Rattle.m_compile.specs.Compiled.{IsProgramOf}
 
 -- The fault of a driver over declarations: one of syntax, or else of names. No driver has no fault.
 pub data IsDriverFault (declared : Declared) : Option (List ℕ) → SourceFault → Type 0 where
@@ -59,38 +57,32 @@ pub data IsRequestsFault (declared : Declared) (source : Source) : SourceFault �
       → IsRequestsFault declared source (Requests fault)
 
 -- the program of a driver over rules in an order, for these requested cells
-pub record IsProgram (declared : Declared) (base : Base) (core : Core) (requests : List ℕ) (flat : Flat) (face : Face) : Type 0 where
+pub record IsProgramBy (declared : Declared) (base : Base) (core : Core) (requests : List ℕ) (program : Program) : Type 0 where
   pub light : weight_of core base ≤ DRIVER_WEIGHT
-  pub valid : IsFlat flat
-  pub tidy : IsTidy flat
-  pub shown : IsFaceOf face flat
-  pub inputs : face.inputs ≡ inputs_declared declared
-  pub names : names_of face.outputs ≡ map (cell_name declared) requests
-  pub notes : AllByRecursion (λ number. number < length base.labels) (notes_of face.outputs)
-  pub first_labels : take (length base.labels) face.labels ≡ map Verif base.labels
-  pub further_labels : AllByRecursion IsDriverLine (drop (length base.labels) face.labels)
-  pub labels_are : face.labels ≡ (labelling_of core base).labels
-  pub notes_are : notes_of face.outputs ≡ (labelling_of core base).notes
-  pub checks_among : AllByRecursion (λ check. is_among check.label (labelling_of core base).checks ≡ true) flat.checks
-  pub few_checks : length flat.checks ≤ length (labelling_of core base).checks
-  pub nodes_fit : length flat.nodes ≤ most_nodes
-  pub checks_fit : length flat.checks ≤ most_nodes
-  pub labels_fit : length face.labels ≤ length base.labels + most_nodes
-  pub few_outputs : length face.outputs ≤ most_nodes + REQUESTS
-  pub answers : (inputs : List Value) → AreValuesOf face.inputs inputs
-      → observation face.labels (notes_of face.outputs) (flat_run flat inputs) ≡ Some (answer_of core base declared requests inputs)
+  pub valid : IsFlat program.tidy
+  pub tidy : IsTidy program.tidy
+  pub shown : IsFaceOf program.face program.tidy
+  pub inputs : program.face.inputs ≡ inputs_declared declared
+  pub names : names_of program.face.outputs ≡ map (cell_name declared) requests
+  pub notes : AllByRecursion (λ number. number < length base.labels) (notes_of program.face.outputs)
+  pub first_labels : take (length base.labels) program.face.labels ≡ map Verif base.labels
+  pub further_labels : AllByRecursion IsDriverLine (drop (length base.labels) program.face.labels)
+  pub labels_are : program.face.labels ≡ (labelling_of core base).labels
+  pub notes_are : notes_of program.face.outputs ≡ (labelling_of core base).notes
+  pub checks_among : AllByRecursion (λ check. is_among check.label (labelling_of core base).checks ≡ true) program.tidy.checks
+  pub few_checks : length program.tidy.checks ≤ length (labelling_of core base).checks
+  pub nodes_fit : length program.tidy.nodes ≤ most_nodes
+  pub checks_fit : length program.tidy.checks ≤ most_nodes
+  pub labels_fit : length program.face.labels ≤ length base.labels + most_nodes
+  pub few_outputs : length program.face.outputs ≤ most_nodes + REQUESTS
+  pub answers : (inputs : List Value) → AreValuesOf program.face.inputs inputs
+      → observation program.face.labels (notes_of program.face.outputs) (flat_run program.tidy inputs) ≡ Some (answer_of core base declared requests inputs)
 
--- a program, its face and its code
-abbrev pub compiled_of : Flat → Face → Listing → Compiled
-compiled_of flat face code = record { face = face; tidy = flat; code = code }
-
--- A compiled source without its code. Any code of the program completes it, and there is such code,
--- since the program is small enough.
-pub record IsReady (source : Source) (flat : Flat) (face : Face) : Type 0 where
-  pub few_labels : length face.labels < 2 ^ 32
-  pub small : IsSmall flat (length face.labels)
-  pub runnable : IsRunnable face flat
-  pub compiled : (code : Listing) → IsAllocation flat (length face.labels) code → IsCompiled source (compiled_of flat face code)
+-- A compiled source whose program is small enough for register code.
+pub record IsReady (source : Source) (program : Program) : Type 0 where
+  pub few_labels : length program.face.labels < 2 ^ 32
+  pub small : IsSmall program.tidy (length program.face.labels)
+  pub compiled : IsProgramOf source program
 
 -- a driver whose weight exceeds the limit
 pub data IsHeavy (core : Core) (base : Base) : SourceFault → Type 0 where

@@ -1,11 +1,10 @@
 -- The course of a call of the program, from which all its clauses follow.
-use Rattle.std.specs.Prelude.{◌≡◌, ℕ, Bool, true, false, List, Some, None, Ok, Err}
-use Rattle.command_plans.specs.Printing.{IsAnswered, Prints, ReportsEnding}
-use Rattle.command_plans.specs.Trips.{GoesAlong}
+use Rattle.std.specs.Prelude.{◌≡◌, ℕ, Bool, true, false, List}
+use Rattle.command_plans.specs.Courses as courses
+use Rattle.command_plans.specs.Printing.{IsAnswered, Prints}
 use Rattle.command_plans.specs.Views.{FilesView, OutputView}
-use Rattle.command_plans.specs.declared.ending.Ending.{Ending}
 use Rattle.command_plans.specs.declared.status.Status.{Status}
-use Rattle.command_plans.specs.declared.status.Status.TheVariants.{Done, Usage, Memory}
+use Rattle.command_plans.specs.declared.status.Status.TheVariants.{Done}
 use Rattle.code_answers.specs.Parts.{IsWrittenInParts}
 use Rattle.survey_commands.specs.Command.{command_of, plan_of, writes_in_parts}
 use Rattle.survey_commands.specs.Facts.{FactsReplies}
@@ -33,13 +32,9 @@ WorkIsAnswered (Facts source ranges) old new status = IsAnswered (FactsReplies s
 WorkIsAnswered (CodeTable code table) old new status = IsWrittenInParts (CodeReplies code table) old new status
 WorkIsAnswered Version old new status = Prints version_line Done old new status
 
--- The words were no command, or there was no memory to copy them, or the plan of their command ended before its files
--- were gathered, or the files were gathered and answered.
-pub data Course (words : List (List ℕ)) (before after : FilesView) (old new : OutputView) (status : Status) : Type 0 where
-  is_no_command : command_of words ≡ None → after ≡ before → Prints usage_line Usage old new status → Course words before after old new status
-  has_no_memory : after ≡ before → new ≡ old → status ≡ Memory → Course words before after old new status
-  ended : (wanted : Command) (ending : Ending) → command_of words ≡ Some wanted → GoesAlong (plan_of wanted) before after (Err ending)
-      → ReportsEnding ending old new status
-      → Course words before after old new status
-  answered : (wanted : Command) (work : Work) → command_of words ≡ Some wanted → GoesAlong (plan_of wanted) before after (Ok work) → IsWorkOf wanted work
-      → WorkIsAnswered work old new status → Course words before after old new status
+-- The course of a call.
+abbrev pub Course : List (List ℕ) → (before after : FilesView) → (old new : OutputView) → Status → Type 0
+Course words before after old new status =
+    courses.Course plan_of usage_line (Unit {0}) (λ wanted work. IsWorkOf wanted work × WorkIsAnswered work old new status)
+    (command_of words) before after old new
+    status

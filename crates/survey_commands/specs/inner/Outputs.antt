@@ -1,5 +1,5 @@
 -- What is printed of the outputs of a face, one after another.
-use Rattle.std.specs.Prelude.{ℕ, Bool, ◌||◌, List, [], ◌∷◌, ◌++◌, Option, None, Some, is_some, codes, slice_get}
+use Rattle.std.specs.Prelude.{ℕ, Bool, ◌||◌, List, [], ◌∷◌, ◌++◌, Option, None, Some, is_some, codes, slice_get, if◌then◌else◌}
 use Rattle.std.specs.List.{flat_map}
 use Rattle.std.specs.Option.{option_map_or}
 use Rattle.m_text.specs.Pieces.{joined}
@@ -15,13 +15,13 @@ use Rattle.observables.specs.declared.face.FaceOutput.{FaceOutput}
 use Rattle.observables.specs.declared.face.FaceOutput.TheVariants.{Named, Noted}
 use Rattle.survey_commands.specs.Records.{between, cause_field, observation_fields, value_field}
 
--- the name of an output, after a comma
-abbrev pub output_name : FaceOutput → List ℕ
-output_name (Named name) = joined (codes "," ∷ name ∷ [])
-output_name (Noted number) = []
+-- the field of an output with a name, after a comma: its name, or nothing
+abbrev pub output_field : (filled : Bool) → FaceOutput → List ℕ
+output_field filled (Named name) = joined (codes "," ∷ (if filled then name else []) ∷ [])
+output_field filled (Noted number) = []
 
-abbrev pub output_names : List FaceOutput → List ℕ
-output_names outputs = flat_map output_name outputs
+abbrev pub output_fields : (filled : Bool) → List FaceOutput → List ℕ
+output_fields filled outputs = flat_map (output_field filled) outputs
 
 -- the value of an output, after a comma
 abbrev pub output_value : FaceOutput → Value → List ℕ
@@ -32,14 +32,6 @@ abbrev pub output_values : List FaceOutput → List Value → List ℕ
 output_values [] vs = []
 output_values (output ∷ outputs) [] = []
 output_values (output ∷ outputs) (v ∷ vs) = output_value output v ++ output_values outputs vs
-
--- an empty field for an output with a name
-abbrev pub output_empty : FaceOutput → List ℕ
-output_empty (Named name) = codes ","
-output_empty (Noted number) = []
-
-abbrev pub output_empties : List FaceOutput → List ℕ
-output_empties outputs = flat_map output_empty outputs
 
 -- the verification that an output with this value notes, if any
 abbrev pub output_note : List FaceLabel → FaceOutput → Value → Option Label

@@ -1,9 +1,9 @@
 use Rattle.command_answers.proofs.Ways.{cases_answered, cases_refused}
-use Rattle.command_answers.proofs.Refusals.{fault_reported}
+use Rattle.rule_answers.proofs.Refusals.{fault_reported}
 use Rattle.command_answers.proofs.cases.cases_source.Goals as goal
 
 pub answer_cases-requires-clause-few : goal.answer_cases-requires-clause-few
-answer_cases-requires-clause-few g c = λ κs held. c.in-Ok.ensures.outcome.compiled.runnable.shown.few
+answer_cases-requires-clause-few g c = λ κs held. c.in-Ok.ensures.outcome.compiled.program.runnable.shown.few
 
 pub returns-in-Ok : goal.returns-in-Ok
 returns-in-Ok g c =

@@ -1,4 +1,4 @@
-use Rattle.command_answers.proofs.Refusals.{fault_reported}
+use Rattle.rule_answers.proofs.Refusals.{fault_reported}
 use Rattle.command_answers.proofs.Ways.{compile_answered, compile_refused}
 use Rattle.command_answers.proofs.compile.compile_source.Goals as goal
 

@@ -1,10 +1,8 @@
-use Rattle.command_answers.proofs.Ways.{is_prepared_code, is_runnable_code}
+use Rattle.command_answers.proofs.Ways.{prepared_outcome, runnable_outcome}
 use Rattle.command_answers.proofs.program.prepare_code.Goals as goal
 
-pub returns-in-Ok-clause-outcome : goal.returns-in-Ok-clause-outcome
-returns-in-Ok-clause-outcome g c =
-    is_prepared_code c.args.source.now c.in-Ok.compiled c.code_of.result c.code_of.ensures.code c.code_of.ensures.face c.in-Ok.ensures.outcome
+pub returns-clause-outcome : goal.returns-clause-outcome
+returns-clause-outcome g c = prepared_outcome c.args.source.now _ c.compile_with.ensures
 
-pub returns-in-Ok-clause-runnable : goal.returns-in-Ok-clause-runnable
-returns-in-Ok-clause-runnable g c =
-    is_runnable_code c.args.source.now c.in-Ok.compiled c.code_of.result c.code_of.ensures.code c.code_of.ensures.face c.in-Ok.ensures.outcome
+pub returns-clause-runnable : goal.returns-clause-runnable
+returns-clause-runnable g c = runnable_outcome c.args.source.now _ c.compile_with.ensures

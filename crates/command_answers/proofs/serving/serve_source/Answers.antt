@@ -1,6 +1,5 @@
 use Rattle.household.specs.Household.{household_of}
 use Rattle.why_session.specs.Joined.{explains_by}
-use Rattle.command_answers.specs.inner.Answers.{IsPrepared}
 use Rattle.command_answers.proofs.ExplainedLemmas.{as_many_inputs, is_explained}
 use Rattle.command_answers.proofs.Refusals.{source_reported}
 use Rattle.command_answers.proofs.Ways.{is_prepared, serve_answered, serve_refused}
@@ -8,14 +7,13 @@ use Rattle.command_answers.proofs.serving.serve_source.Goals as goal
 
 pub answer_serve-requires-clause-many : goal.answer_serve-requires-clause-many
 answer_serve-requires-clause-many g c =
-    as_many_inputs c.args.source.now c.program_of.result c.in-Ok.made.symbols c.in-Ok.made.ordered.base
-    (rw c.program_of.ensures (is_prepared c.args.source.now c.in-Ok.compiled c.in-Ok.ensures.outcome)) c.in-Ok.ensures.rules
+    as_many_inputs c.args.source.now c.in-Ok.program c.in-Ok.made.symbols c.in-Ok.made.ordered.base
+    (is_prepared c.args.source.now c.in-Ok.program c.in-Ok.ensures.outcome) c.in-Ok.ensures.rules
 
 pub returns-in-Ok : goal.returns-in-Ok
 returns-in-Ok g c =
-    let is : IsPrepared c.args.source.now c.program_of.result = rw c.program_of.ensures
-    (is_prepared c.args.source.now c.in-Ok.compiled c.in-Ok.ensures.outcome) in
-    serve_answered c.args.source.now c.program_of.result c.args.household.now _ _ _ _ _ (explains_by c.in-Ok.made.symbols c.in-Ok.made.ordered) is
+    let is = is_prepared c.args.source.now c.in-Ok.program c.in-Ok.ensures.outcome in
+    serve_answered c.args.source.now c.in-Ok.program c.args.household.now _ _ _ _ _ (explains_by c.in-Ok.made.symbols c.in-Ok.made.ordered) is
     (is_explained c.args.source.now c.in-Ok.made.symbols c.in-Ok.made.ordered c.in-Ok.ensures.rules c.in-Ok.ensures.valid c.in-Ok.ensures.order)
     (c.answer_serve.ensures is.scheme is.shows)
 

@@ -1,7 +1,4 @@
 use Rattle.m_compile.proofs.compiling.compile_with.Goals as goal
 
-pub returns-clause-outcome : goal.returns-clause-outcome
-returns-clause-outcome g c = c.in_ok-tidy.ensures.compiled _ c.in_ok-code.ensures.allocated
-
-pub returns-clause-runnable : goal.returns-clause-runnable
-returns-clause-runnable g c = c.in_ok-tidy.ensures.runnable
+pub returns : goal.returns
+returns g c = record { tidy = c.in_ok-program.program.tidy; program = c.in_ok-program.ensures.compiled; allocated = c.in_ok-code.ensures.allocated }

@@ -12,11 +12,11 @@ returns-in_err-give_pieces g c =
     (none_given _ _ _ _)
     failed.failed failed.prefix failed.counted
 
-pub returns-in_err-give_names : goal.returns-in_err-give_names
-returns-in_err-give_names g c =
-    let p = err_from_is_err_and c.from_residual-in_err-give_names.result c.from_residual-in_err-give_names.ensures.1 in
+pub returns-in_err-give_fields : goal.returns-in_err-give_fields
+returns-in_err-give_fields g c =
+    let p = err_from_is_err_and c.from_residual-in_err-give_fields.result c.from_residual-in_err-give_fields.ensures.1 in
     let gave-1 = c.in_ok-give_pieces.ensures in
-    let failed = rw (names_are c.args.outputs.now) at c.in_err-give_names.ensures in
+    let failed = rw (names_are c.args.outputs.now) at c.in_err-give_fields.ensures in
     piece_failed _ _ _ _ _ _ _ _ _ _ _ p.1 refl
     (piece_given _ _ _ _ _ _ _ _ _ refl (none_given _ _ _ _) gave-1.all gave-1.faultless)
     failed.failed failed.prefix failed.counted
@@ -24,7 +24,7 @@ returns-in_err-give_names g c =
 pub returns : goal.returns
 returns g c =
     let gave-1 = c.in_ok-give_pieces.ensures in
-    let gave-2 = rw (names_are c.args.outputs.now) at c.in_ok-give_names.ensures in
+    let gave-2 = rw (names_are c.args.outputs.now) at c.in_ok-give_fields.ensures in
     last_given _ _ _ _ _ _ _ _
     (piece_given _ _ _ _ _ _ _ _ _ refl (piece_given _ _ _ _ _ _ _ _ _ refl (none_given _ _ _ _) gave-1.all gave-1.faultless) gave-2.all gave-2.faultless)
     c.give_pieces-2.ensures

@@ -16,10 +16,10 @@ given_facts-requires-clause-count g c =
 
 pub returns-in-Ok : goal.returns-in-Ok
 returns-in-Ok g c =
-    found_answered c.args.base.now c.args.compiled.now c.args.ranges.now c.in-Ok.given _ _ _ (rw c.as_slice-inputs.ensures at c.in-Ok.ensures)
+    found_answered c.args.base.now c.args.program.now c.args.ranges.now c.in-Ok.given _ _ _ (rw c.as_slice-inputs.ensures at c.in-Ok.ensures)
     (rw c.as_slice.ensures at c.print_found-status.ensures)
 
 pub returns-in-Err : goal.returns-in-Err
 returns-in-Err g c =
-    ranges_refused c.args.base.now c.args.compiled.now c.args.ranges.now c.in-Err.fault _ _ _ (rw c.as_slice-inputs.ensures at c.in-Err.ensures)
+    ranges_refused c.args.base.now c.args.program.now c.args.ranges.now c.in-Err.fault _ _ _ (rw c.as_slice-inputs.ensures at c.in-Err.ensures)
     c.report_ranges.ensures

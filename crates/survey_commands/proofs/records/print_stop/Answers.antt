@@ -30,13 +30,13 @@ returns-in_err-give_pieces-2 g c =
     (piece_given _ _ _ _ _ _ _ _ _ refl (piece_given _ _ _ _ _ _ _ _ _ refl (none_given _ _ _ _) gave-1.all gave-1.faultless) gave-2.all gave-2.faultless)
     failed.failed failed.prefix failed.counted
 
-pub returns-in_err-give_empties : goal.returns-in_err-give_empties
-returns-in_err-give_empties g c =
-    let p = err_from_is_err_and c.from_residual-in_err-give_empties.result c.from_residual-in_err-give_empties.ensures.1 in
+pub returns-in_err-give_fields : goal.returns-in_err-give_fields
+returns-in_err-give_fields g c =
+    let p = err_from_is_err_and c.from_residual-in_err-give_fields.result c.from_residual-in_err-give_fields.ensures.1 in
     let gave-1 = c.in_ok-give_pieces.ensures in
     let gave-2 = c.in_ok-give_stop.ensures in
     let gave-3 = c.in_ok-give_pieces-2.ensures in
-    let failed = c.in_err-give_empties.ensures in
+    let failed = c.in_err-give_fields.ensures in
     piece_failed _ _ _ _ _ _ _ _ _ _ _ p.1 refl
     (piece_given _ _ _ _ _ _ _ _ _ refl (piece_given _ _ _ _ _ _ _ _ _ refl
     (piece_given _ _ _ _ _ _ _ _ _ refl (none_given _ _ _ _) gave-1.all gave-1.faultless) gave-2.all gave-2.faultless) gave-3.all gave-3.faultless)
@@ -47,7 +47,7 @@ returns g c =
     let gave-1 = c.in_ok-give_pieces.ensures in
     let gave-2 = c.in_ok-give_stop.ensures in
     let gave-3 = c.in_ok-give_pieces-2.ensures in
-    let gave-4 = c.in_ok-give_empties.ensures in
+    let gave-4 = c.in_ok-give_fields.ensures in
     last_given _ _ _ _ _ _ _ _
     (piece_given _ _ _ _ _ _ _ _ _ refl (piece_given _ _ _ _ _ _ _ _ _ refl
     (piece_given _ _ _ _ _ _ _ _ _ refl (piece_given _ _ _ _ _ _ _ _ _ refl (none_given _ _ _ _) gave-1.all gave-1.faultless) gave-2.all gave-2.faultless)

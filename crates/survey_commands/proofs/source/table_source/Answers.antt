@@ -1,4 +1,4 @@
-use Rattle.command_answers.proofs.Refusals.{fault_reported}
+use Rattle.rule_answers.proofs.Refusals.{fault_reported}
 use Rattle.survey_commands.proofs.Ways.{source_answered, source_refused}
 use Rattle.survey_commands.proofs.source.table_source.Goals as goal
 

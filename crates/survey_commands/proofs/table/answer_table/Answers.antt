@@ -21,7 +21,7 @@ returns-in-Ok-rows_of g c = λ scheme shown.
     let rows = c.in-Ok-rows_of.rows in
     let given = subst (λ inputs. table_of inputs c.args.table.now ≡ Ok rows) shown.inputs c.in-Ok-rows_of.ensures.outcome in
     batch_written _ _ _ _ _ _ (SchemeReplies scheme c.args.table.now) _ (rows_are_answered rows given)
-    c.status_of.ensures
+    c.status_of_rows.ensures
     (rw (text_reported scheme c.args.loaded.now rows shown (code_many scheme c.args.loaded.now shown) (table_gives scheme.inputs c.args.table.now rows given))
     at (rw c.as_slice-rows.ensures at c.print_table.ensures))
 

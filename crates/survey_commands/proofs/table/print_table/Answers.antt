@@ -15,15 +15,15 @@ returns-in_err-give_header g c =
     let gave = rw c.as_slice.ensures at c.in_err-give_header.ensures in
     part_stopped _ _ _ _ _ _ _ _ _ _ _ _ p.1 p.2 refl (none_given _ _ _ _) gave.prefix gave.failed
 
-pub returns-in_err-print_batch : goal.returns-in_err-print_batch
-returns-in_err-print_batch g c =
-    let p = err_from_is_err_and c.from_residual-in_err-print_batch.result c.from_residual-in_err-print_batch.ensures.1 in
+pub returns-in_err-count : goal.returns-in_err-count
+returns-in_err-count g c =
+    let p = err_from_is_err_and c.from_residual-in_err-count.result c.from_residual-in_err-count.ensures.1 in
     let gave = rw c.as_slice.ensures at c.in_ok-give_header.ensures in
     part_stopped _ _ _ _ _ _ _ _ _ _ _ _ p.1 p.2 (sym (append-nil _))
-    (piece_given _ _ _ _ _ _ _ _ _ refl (none_given _ _ _ _) gave.all gave.faultless) c.in_err-print_batch.ensures.text.prefix
-    c.in_err-print_batch.ensures.text.counted
+    (piece_given _ _ _ _ _ _ _ _ _ refl (none_given _ _ _ _) gave.all gave.faultless) c.in_err-count.ensures.text.prefix
+    c.in_err-count.ensures.text.counted
 
 pub returns : goal.returns
 returns g c =
     let gave = rw c.as_slice.ensures at c.in_ok-give_header.ensures in
-    two_written _ _ _ _ _ _ _ _ gave.all gave.faultless c.in_ok-print_batch.ensures.text.all c.in_ok-print_batch.ensures.text.counted
+    two_written _ _ _ _ _ _ _ _ gave.all gave.faultless c.in_ok-count.ensures.text.all c.in_ok-count.ensures.text.counted

@@ -1,7 +1,7 @@
 use Rattle.m_symbols.proofs.Outcomes.{reported}
 use Rattle.rule_base.proofs.Small.{few-cells, few-labels}
 use Rattle.m_compile.proofs.Steps.{requested_reported, few_requested, finished}
-use Rattle.m_compile.proofs.compiling.program.Goals as goal
+use Rattle.m_compile.proofs.compiling.program_over.Goals as goal
 
 pub returns-in_err-core : goal.returns-in_err-core
 returns-in_err-core c = reported _ _ _ _ _ c.from_residual.ensures.1

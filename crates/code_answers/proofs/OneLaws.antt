@@ -1,32 +1,16 @@
--- A source has one scheme, and a code file one form; neither is rejected if it has one.
+-- A code file is the form of one code, and code shows one scheme.
 use Rattle.std.proofs.Common.{◌≡◌, ℕ, List, sym, ap, ◌∙◌}
 use Rattle.m_fixed.specs.declared.amount.Value.{Value}
-use Rattle.m_places.specs.declared.source.Source.{Source}
 use Rattle.observables.specs.Answers.{observation}
 use Rattle.observables.specs.Outputs.{names_of, notes_of}
 use Rattle.observables.specs.declared.answer.Answer.{Answer}
 use Rattle.observables.specs.declared.face.Face.{Face}
 use Rattle.reg_machine.specs.Machine.{machine_run}
-use Rattle.code_file.specs.Reading.{IsCodeFault, IsFormOf}
-use Rattle.code_file.specs.declared.fault.CodeFault.{CodeFault}
+use Rattle.code_file.specs.Reading.{IsFormOf}
 use Rattle.code_file.specs.declared.loaded.Loaded.{Loaded}
-use Rattle.code_file.proofs.FormLaws.{no-fault-of-form, one-form}
-use Rattle.m_compile.specs.Faults.{IsSourceFault}
-use Rattle.m_compile.specs.declared.fault.SourceFault.{SourceFault}
-use Rattle.m_compile.proofs.OneLaws.{no_valid_and_fault, one_validity}
+use Rattle.code_file.proofs.FormLaws.{one-form}
 use Rattle.code_answers.specs.Schemes.{Scheme}
 use Rattle.code_answers.specs.Shown.{Shows}
-use Rattle.command_answers.specs.Sources.{IsScheme, source_scheme}
-
--- a source has one scheme
-pub one_scheme : (source : Source) (one other : Scheme) → IsScheme source one → IsScheme source other → one ≡ other
-one_scheme source one other a b =
-    let same = one_validity source a.declared b.declared a.base b.base a.written b.written a.requests b.requests a.valid b.valid in
-    a.stated ∙ (λ i. source_scheme (same.0 i) (same.1 i) (same.2 i) (same.3 i)) ∙ sym b.stated
-
--- a source that has a scheme has no fault
-pub no_scheme_and_fault : (source : Source) (scheme : Scheme) (fault : SourceFault) → IsScheme source scheme → IsSourceFault source fault → ⊥
-no_scheme_and_fault source scheme fault v is = no_valid_and_fault source v.declared v.base v.written v.requests fault v.valid is
 
 -- loaded code with the same parts is equal (proofs are irrelevant)
 pub record IsSameCode (one other : Loaded) : Type 0 where
@@ -38,10 +22,6 @@ pub record IsSameCode (one other : Loaded) : Type 0 where
 -- a code file is the form of one loaded code
 pub one_loaded : (code : List ℕ) (one other : Loaded) → IsFormOf code one → IsFormOf code other → IsSameCode one other
 one_loaded code one other a b = let same = one-form code one other a b in record { code = same.0; inputs = same.1; labels = same.2; outputs = same.3 }
-
--- the form of loaded code has no fault
-pub no_form_and_fault : (code : List ℕ) (loaded : Loaded) (fault : CodeFault) → IsFormOf code loaded → IsCodeFault code fault → ⊥
-no_form_and_fault code loaded fault form f = no-fault-of-form code loaded fault form f
 
 -- two schemes of one program have the same inputs
 pub one_inputs : (face : Face) (runs : List Value → Answer) (one other : Scheme) → Shows one face runs → Shows other face runs → one.inputs ≡ other.inputs
