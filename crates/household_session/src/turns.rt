@@ -38,7 +38,8 @@ const REPLY_ROOM: usize = 65_536;
 /// Executes the lines of an input in order, each by `Replier::reply`, until the input ends, a read
 /// or a write fails, or `INPUT_BYTES` bytes were read. Of a line that is too long only its first
 /// bytes are held. The last line needs no line feed. A reply is written completely before the next
-/// line is executed, in pieces of 65,536 bytes. It takes no memory.
+/// line is executed, in pieces of 65,536 bytes. It takes the steps that the lines cost, and no
+/// memory.
 pub fn serve<R: Replier, S: Source, K: Sink, L: Ledger>(
     replier: &mut R,
     input: &mut S,
