@@ -1,10 +1,9 @@
 -- The invariant of the loop, from one line, piece and turn to the next.
-use Rattle.std.proofs.Common.{◌≡◌, ℕ, ◌+◌, ◌<◌, ◌≤◌, length, List, [], ◌∷◌, ◌++◌, Option, None, Some, refl, sym, ◌∙◌, ap, subst, append_assoc, append-nil, arith}
+use Rattle.std.proofs.Common.{◌≡◌, ℕ, ◌<◌, length, List, [], ◌∷◌, ◌++◌, Option, None, Some, refl, sym, ◌∙◌, ap, subst, append_assoc, append-nil, arith}
 use Rattle.std.specs.Io.KnownBytes.{append_known}
 use Rattle.m_places.specs.declared.limits.TheConstants.{SESSION_LINE_BYTES}
 use Rattle.m_text.specs.Bytes.{line_feed}
 use Rattle.m_ports.specs.Counts.{Rose}
-use Rattle.m_ports.specs.Sink.{AppendsPrefix}
 use Rattle.m_ports.proofs.SinkLemmas.{append_known-append, AppendsPrefix-after, AppendsPrefix-before}
 use Rattle.household_session.specs.Replies.{IsUnended}
 use Rattle.household_session.specs.Repliers.{AreLongAlike, Replied, Replying, none_replied, over_ended, over_whole, replied_then}
@@ -22,7 +21,7 @@ goes_none written faults old steps start before = record {
   replies = none_replied;
   whole = λ rest. none-then (over_whole start (before ++ rest));
   ended = λ rest. none-then (over_ended start (before ++ rest));
-  gave = record { appended = nothing_more (written old); faultless = refl; counted = refl };
+  gave = record { appended = nothing_more (written old); faultless = refl; counted = omega arith };
 }
 
 -- ---- two steps in sequence

@@ -13,7 +13,9 @@ pub none-then : (replies : Replied) → replies ≡ replied_then none_replied re
 none-then replies = λ i. record { text = replies.text; cost = sym (zero-add replies.cost) i }
 
 pub then-none : (replies : Replied) → replied_then replies none_replied ≡ replies
-then-none replies = λ i. record { text = append-nil replies.text i; cost = replies.cost }
+then-none replies =
+    let sum : replies.cost + 0 ≡ replies.cost = omega arith in
+    λ i. record { text = append-nil replies.text i; cost = sum i }
 
 pub then-assoc : (one two three : Replied) → replied_then (replied_then one two) three ≡ replied_then one (replied_then two three)
 then-assoc one two three =

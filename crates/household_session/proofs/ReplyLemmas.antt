@@ -1,14 +1,11 @@
 -- The lines of an input and their replies, line by line and by the bytes before the next line feed.
-use Rattle.std.proofs.Common.{◌≡◌, ◌≢◌, ℕ, ◌<◌, Bool, true, false, List, [], ◌∷◌, ◌++◌, length, length-append, append-nil, refl, sym, ap, ◌∙◌, arith}
+use Rattle.std.proofs.Common.{◌≡◌, ◌≢◌, ℕ, ◌<◌, Bool, true, false, List, [], ◌∷◌, ◌++◌, length, append-nil, refl, sym, ap, ◌∙◌, arith}
 use Rattle.std.specs.Prelude.{◌==◌, if◌then◌else◌}
-use Rattle.std.proofs.lemmas.Bool.{ne_eqb, lt-leb}
-use Rattle.m_places.specs.declared.limits.TheConstants.{SESSION_LINE_BYTES}
-use Rattle.m_fixed.specs.declared.amount.Value.{Value}
+use Rattle.std.proofs.lemmas.Bool.{ne_eqb}
 use Rattle.m_text.specs.Bytes.{line_feed}
 use Rattle.m_text.specs.Lines.{onto_first}
-use Rattle.household_session.specs.Sessions.{Showing, Sitting, showing_of}
-use Rattle.household_session.specs.Commands.{SessionCommand, too_long, session_command}
-use Rattle.household_session.specs.Replies.{command_reply, command_values, lines_replies, reply_of, after_line, input_lines, onto_ended, ended_lines}
+use Rattle.household_session.specs.Sessions.{Sitting}
+use Rattle.household_session.specs.Replies.{reply_of, after_line, input_lines, onto_ended, ended_lines}
 use Rattle.household_session.specs.Replies.{replies_to, replies_of, IsUnended}
 
 -- ---- a complete line

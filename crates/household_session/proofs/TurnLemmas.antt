@@ -1,6 +1,6 @@
 -- The turns of a session's loop.
 use Rattle.std.proofs.Common.{◌≡◌, ℕ, ◌+◌, ◌<◌, min, length, length-take, length-append, take, List, [], ◌++◌, Option, None, Some, refl, sym, ◌∙◌, ap, subst}
-use Rattle.std.proofs.Common.{append_assoc, append-nil, inl, inr, arith}
+use Rattle.std.proofs.Common.{append_assoc, inl, inr, arith}
 use Rattle.std.specs.Io.KnownBytes.{prepend_known, IsAtEnd}
 use Rattle.std.proofs.lemmas.Bool.{cases_lt}
 use Rattle.std.proofs.lemmas.List.{take_all}
@@ -8,7 +8,7 @@ use Rattle.m_places.specs.declared.limits.TheConstants.{INPUT_BYTES}
 use Rattle.household_session.specs.Replies.{IsUnended}
 use Rattle.household_session.specs.Repliers.{AreLongAlike, Replying, none_replied}
 use Rattle.household_session.specs.Serving.{Counts, Ends}
-use Rattle.household_session.specs.inner.Going.{BreaksOff, Finished, Goes, Stopped, Took}
+use Rattle.household_session.specs.inner.Going.{Finished, Goes, Stopped, Took}
 use Rattle.household_session.specs.declared.turns.ServeEnd.{ServeEnd}
 use Rattle.household_session.specs.declared.turns.ServeEnd.TheVariants.{Done, ReadFault, WriteFault, TooLong}
 use Rattle.household_session.proofs.ByteLemmas.{unended_take}

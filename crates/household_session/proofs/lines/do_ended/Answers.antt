@@ -16,7 +16,7 @@ returns-in_err-reply-clause-breaks g c =
     let p = err_from_is_err_and c.from_residual.result c.from_residual.ensures.1 in
     let runs = c.loop-end.invariant.runs in
     let reported = c.in_err-reply.ensures in
-    rw p.1 (breaks_line _ _ _ _ _ _ _ _ _ _ _ _ _ _ _ _ _ c.loop-end.invariant.goes
+    rw p.1 (breaks_line _ _ _ _ _ _ _ _ _ _ _ _ _ _ _ _ c.loop-end.invariant.goes
     (run_cut c.args.bytes.now c.loop-end.from c.loop-end.end runs c.loop-end-test.true) (run_unended c.args.bytes.now c.loop-end.from c.loop-end.end runs)
     reported.goes_on (record { rose = reported.gives.failed; within = (reported.gives.prefix, omega (arith, reported.counted)) }))
 
@@ -26,7 +26,7 @@ loop-end-preserved g c =
     let reported = c.in_ok-reply.ensures in
     record {
       runs = c.line_end-end-in-loop-end.ensures;
-      goes = goes_line _ _ _ _ _ _ _ _ _ _ _ _ _ _ _ _ _ c.loop-end.invariant.goes
+      goes = goes_line _ _ _ _ _ _ _ _ _ _ _ _ _ _ _ _ c.loop-end.invariant.goes
           (run_cut c.args.bytes.now c.loop-end.from c.loop-end.end runs c.loop-end-test.true)
           (run_unended c.args.bytes.now c.loop-end.from c.loop-end.end runs) reported.goes_on
           (record { appended = reported.gives.all; faultless = reported.gives.faultless; counted = reported.counted });
