@@ -38,19 +38,23 @@ stopped_at_end left source_faults written faults source_old source_now old now s
 stopped_at_end left source_faults written faults source_old source_now old now steps_old steps_now start held most WriteFault moved none calm broken =
     let same : left source_now ≡ left source_old = sym (moved ∙ prepend_none (left source_now)) in
     (calm, inr (same, subst (λ (known : Option (List ℕ)). IsAtEnd known) (sym same) none, broken))
-stopped_at_end left source_faults written faults source_old source_now old now steps_old steps_now start held most ReadFault moved none calm never = absurd never
+stopped_at_end left source_faults written faults source_old source_now old now steps_old steps_now start held most ReadFault moved none calm never =
+    absurd never
 stopped_at_end left source_faults written faults source_old source_now old now steps_old steps_now start held most TooLong moved none calm never = absurd never
 
 -- the bytes kept of those left are enough
-pub goes_kept : {K : Type 0} (written : K → Option (List ℕ)) (faults : K → ℕ) (old now : K) (steps_old steps_now : ℕ) (start current : Replying) (before left kept : List ℕ) (count : ℕ)
-    → AreLongAlike current → IsUnended left → count ≡ min (length left) 4097 → kept ≡ take count left → Goes written faults old now steps_old steps_now start current before left
+pub goes_kept : {K : Type 0} (written : K → Option (List ℕ)) (faults : K → ℕ) (old now : K) (steps_old steps_now : ℕ) (start current : Replying)
+    (before left kept : List ℕ) (count : ℕ)
+    → AreLongAlike current → IsUnended left → count ≡ min (length left) 4097 → kept ≡ take count left
+    → Goes written faults old now steps_old steps_now start current before left
     → Goes written faults old now steps_old steps_now start current before kept
 goes_kept written faults old now steps_old steps_now start current before left kept count alike free is same goes =
     elim (cases_lt (length left) 4098) [
-      | inl few ↦ subst (λ (l : List ℕ). Goes written faults old now steps_old steps_now start current before l) (sym (same ∙ take_all count left (omega arith))) goes
+      | inl few ↦ subst (λ (l : List ℕ). Goes written faults old now steps_old steps_now start current before l)
+          (sym (same ∙ take_all count left (omega arith))) goes
       | inr many ↦ subst (λ (l : List ℕ). Goes written faults old now steps_old steps_now start current before l) (sym same)
-          (goes_cut written faults old now steps_old steps_now start current before left (take count left) alike free (unended_take count left free) (omega arith)
-          (omega (arith, length-take count left)) goes)
+          (goes_cut written faults old now steps_old steps_now start current before left (take count left) alike free
+          (unended_take count left free) (omega arith) (omega (arith, length-take count left)) goes)
     ]
 
 -- ---- all turns
@@ -77,12 +81,13 @@ standing_none left source_faults written faults source out steps start = record 
 }
 
 pub standing_turn : {S K : Type 0} (left : S → Option (List ℕ)) (source_faults : S → ℕ) (written : K → Option (List ℕ)) (faults : K → ℕ)
-    (source_old source_now source_new : S) (old now new : K) (steps_old steps_now steps_new : ℕ) (start current later : Replying) (held kept : List ℕ) (count most n total : ℕ)
+    (source_old source_now source_new : S) (old now new : K) (steps_old steps_now steps_new : ℕ) (start current later : Replying)
+    (held kept : List ℕ) (count most n total : ℕ)
     → Standing left source_faults written faults source_old source_now old now steps_old steps_now start current held count
     → Took left source_faults written faults source_now source_new now new steps_now steps_new current later held kept most n → total ≡ count + n
     → Standing left source_faults written faults source_old source_new old new steps_old steps_new start later kept total
-standing_turn left source_faults written faults source_old source_now source_new old now new steps_old steps_now steps_new start current later held kept count most n total standing took
-    all = record {
+standing_turn left source_faults written faults source_old source_now source_new old now new steps_old steps_now steps_new start current later held kept count most n
+    total standing took all = record {
       bytes = standing.bytes ++ took.piece;
       counted = length-append standing.bytes took.piece ∙ ap (λ (k : ℕ). k + length took.piece) standing.counted ∙ ap (λ (k : ℕ). count + k) took.counted
           ∙ sym all;

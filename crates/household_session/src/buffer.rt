@@ -63,7 +63,8 @@ fn buffer_reply<'a, R: Replier, K: Sink, L: Ledger, O: Origin>(
     requires start { K.written out.old ≡ O.start }
     requires some { 0 < length room.old }
     ensures name { result.out.ghost_name ≡ out.entry.ghost_name }
-    ensures replies { RepliesTo K.written K.faults out.old result.out.now steps.old steps.new result.result (R.replies replier.old) (R.replies replier.new) line.now }
+    ensures replies { RepliesTo K.written K.faults out.old result.out.now steps.old steps.new result.result
+        (R.replies replier.old) (R.replies replier.new) line.now }
 {
     let mut buffered = BufferedSink::<'a, K, O>::new(out, room);
     let printed = replier.reply(line, &mut buffered, steps);

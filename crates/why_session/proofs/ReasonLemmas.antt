@@ -84,7 +84,8 @@ pub line_goes_on : (joined later : Joined) (bytes : List ℕ) → why_name bytes
     → later.declared ≡ joined.declared → later.reporting.ordered ≡ joined.reporting.ordered → (lines : List (List ℕ))
     → joined_replies joined (bytes ∷ lines) ≡ replied_then (seated_reply joined.seated bytes) (joined_replies later lines)
 line_goes_on joined later bytes none after declared ordered lines =
-    let texts = line_then (showing_of joined.seated.sitting) (explains_by joined.declared joined.reporting.ordered) joined.seated.sitting.values bytes lines none in
+    let texts = line_then (showing_of joined.seated.sitting) (explains_by joined.declared joined.reporting.ordered) joined.seated.sitting.values bytes lines none
+    in
     (λ i. record { text = texts i; cost = lines_cost joined.seated (bytes ∷ lines) })
     ∙ sym (λ i. replied_then (seated_reply joined.seated bytes) (record {
       text = explained_replies (showing_of (after i).sitting) (explains_by (declared i) (ordered i)) (after i).sitting.values lines;
@@ -95,8 +96,8 @@ pub why_goes_on : (joined later : Joined) (bytes name : List ℕ) → why_name b
     → (lines : List (List ℕ))
     → joined_replies joined (bytes ∷ lines) ≡ replied_then (record { text = explains_in joined name; cost = 0 }) (joined_replies later lines)
 why_goes_on joined later bytes name is same lines =
-    let texts = why_then (showing_of joined.seated.sitting) (explains_by joined.declared joined.reporting.ordered) joined.seated.sitting.values bytes name lines is
-    in
+    let texts = why_then (showing_of joined.seated.sitting) (explains_by joined.declared joined.reporting.ordered) joined.seated.sitting.values bytes name
+    lines is in
     let costs = why_costs joined.seated bytes name lines is in
     (λ i. record { text = texts i; cost = costs i })
     ∙ sym (ap (λ (current : Replying). replied_then (record { text = explains_in joined name; cost = 0 }) (current lines)) same)

@@ -69,7 +69,8 @@ Stopped left source_faults written faults source_old source_now old now steps_ol
 
 -- the effect of a turn, with this buffer after it
 abbrev pub Turned : {S K : Type 0} (left : S → Option (List ℕ)) (source_faults : S → ℕ) (written : K → Option (List ℕ)) (faults : K → ℕ)
-    (source_old source_now : S) (old now : K) (steps_old steps_now : ℕ) (start current : Replying) (held room : List ℕ) (most : ℕ) → Result (ℕ × ℕ) ServeEnd → Type 0
+    (source_old source_now : S) (old now : K) (steps_old steps_now : ℕ) (start current : Replying) (held room : List ℕ) (most : ℕ)
+    → Result (ℕ × ℕ) ServeEnd → Type 0
 Turned left source_faults written faults source_old source_now old now steps_old steps_now start current held room most (Ok r) =
     (r.0 ≤ MOST_HELD) × Took left source_faults written faults source_old source_now old now steps_old steps_now start current held (take r.0 room) most r.1
 Turned left source_faults written faults source_old source_now old now steps_old steps_now start current held room most (Err end) =

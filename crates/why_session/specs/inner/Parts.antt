@@ -46,7 +46,7 @@ replies_long showing explains values one other lines long longer =
 pub long_alike : (joined : Joined) (one other : List ℕ) (lines : List (List ℕ)) → SESSION_LINE_BYTES < length one → SESSION_LINE_BYTES < length other
     → joined_replies joined (one ∷ lines) ≡ joined_replies joined (other ∷ lines)
 long_alike joined one other lines long longer =
-    let texts = replies_long (showing_of joined.seated.sitting) (explains_by joined.declared joined.reporting.ordered) joined.seated.sitting.values one other lines
-    long longer in
+    let texts = replies_long (showing_of joined.seated.sitting) (explains_by joined.declared joined.reporting.ordered) joined.seated.sitting.values one other
+    lines long longer in
     let costs = ap (λ (replies : Replied). replies.cost) (alike.long_alike joined.seated one other lines long longer) in
     λ i. record { text = texts i; cost = costs i }

@@ -18,7 +18,8 @@ pub returns-in-Err : goal.returns-in-Err
 returns-in-Err g c =
     let both = standing_stopped g.S.Source.left g.S.Source.faults g.K.Sink.written g.K.Sink.faults c.args.input.now c.loop-taken.input c.turn.new.input
     c.args.out.now c.loop-taken.out
-    c.turn.new.out c.args.steps.now c.loop-taken.steps c.turn.new.steps (g.R.Replier.replies c.args.replier.now) (g.R.Replier.replies c.loop-taken.replier) _ c.loop-taken.taken _ c.in-Err.end
+    c.turn.new.out c.args.steps.now c.loop-taken.steps c.turn.new.steps (g.R.Replier.replies c.args.replier.now)
+    (g.R.Replier.replies c.loop-taken.replier) _ c.loop-taken.taken _ c.in-Err.end
     (g.met.R.Replier.nothing c.loop-taken.replier) c.loop-taken.invariant.standing c.in-Err.ensures c.loop-taken-test.true
     (omega (arith, c.loop-taken-test.true)) in
     record { end = both.0; counts = both.1 }
