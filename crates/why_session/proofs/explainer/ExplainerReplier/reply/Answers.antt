@@ -1,4 +1,4 @@
-use Rattle.std.proofs.Common.{refl, ap, sym, ◌∙◌}
+use Rattle.std.proofs.Common.{ap, sym, ◌∙◌, arith}
 use Rattle.std.specs.Prelude.{option_copied}
 use Rattle.household_session.specs.Seats.{seated_reply}
 use Rattle.why_session.specs.Joined.{explains_in}
@@ -12,7 +12,7 @@ pub returns-in-Some : goal.returns-in-Some
 returns-in-Some g c = record {
   reply = record { text = explains_in c.args.self.now c.in-Some.name.now; cost = 0 };
   gives = c.reply_to_why.ensures.gives;
-  counted = refl;
+  counted = omega arith;
   goes_on = why_goes_on c.args.self.now c.reply_to_why.new.self c.args.line.now c.in-Some.name.now (sym c.why_name.ensures ∙ ap option_copied c.in-Some.is)
       c.reply_to_why.ensures.stays;
 }
