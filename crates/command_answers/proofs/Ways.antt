@@ -172,7 +172,7 @@ joined_same : (scheme : Scheme) (program : Program) (declared : Declared) (order
     → IsRunnable program.face program.tidy
     → Shows scheme program.face (flat_run program.tidy) → (of : IsExplainerOf program declared ordered rows joined)
     → household_of scheme.inputs rows ≡ Ok of.session.pairs → (lines : List (List ℕ))
-    → joined_replies joined lines ≡ replies_by scheme (explains_by declared ordered) of.session.pairs lines
+    → (joined_replies joined lines).text ≡ replies_by scheme (explains_by declared ordered) of.session.pairs lines
 joined_same scheme program declared ordered rows joined runs shown of given lines =
     (λ i. explained_replies (showing_of joined.seated.sitting) (explains_by (of.declares i) (of.orders i)) joined.seated.sitting.values lines)
     ∙ same_replies scheme program rows joined.seated.sitting (explains_by declared ordered) runs shown of.session given lines

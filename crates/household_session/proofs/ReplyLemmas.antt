@@ -1,14 +1,11 @@
 -- The lines of an input and their replies, line by line and by the bytes before the next line feed.
-use Rattle.std.proofs.Common.{◌≡◌, ◌≢◌, ℕ, ◌<◌, Bool, true, false, List, [], ◌∷◌, ◌++◌, length, length-append, append-nil, refl, sym, ap, ◌∙◌, arith}
+use Rattle.std.proofs.Common.{◌≡◌, ◌≢◌, ℕ, ◌<◌, Bool, true, false, List, [], ◌∷◌, ◌++◌, length, append-nil, refl, sym, ap, ◌∙◌, arith}
 use Rattle.std.specs.Prelude.{◌==◌, if◌then◌else◌}
-use Rattle.std.proofs.lemmas.Bool.{ne_eqb, lt-leb}
-use Rattle.m_places.specs.declared.limits.TheConstants.{SESSION_LINE_BYTES}
-use Rattle.m_fixed.specs.declared.amount.Value.{Value}
+use Rattle.std.proofs.lemmas.Bool.{ne_eqb}
 use Rattle.m_text.specs.Bytes.{line_feed}
 use Rattle.m_text.specs.Lines.{onto_first}
-use Rattle.household_session.specs.Sessions.{Showing, Sitting, showing_of}
-use Rattle.household_session.specs.Commands.{SessionCommand, too_long, session_command}
-use Rattle.household_session.specs.Replies.{command_reply, command_values, lines_replies, reply_of, after_line, input_lines, onto_ended, ended_lines}
+use Rattle.household_session.specs.Sessions.{Sitting}
+use Rattle.household_session.specs.Replies.{reply_of, after_line, input_lines, onto_ended, ended_lines}
 use Rattle.household_session.specs.Replies.{replies_to, replies_of, IsUnended}
 
 -- ---- a complete line
@@ -88,57 +85,9 @@ pub replies-line : (sitting : Sitting) (first rest : List ℕ) → IsUnended fir
     → replies_of sitting (first ++ line_feed ∷ rest) ≡ reply_of sitting first ++ replies_of (after_line sitting first) rest
 replies-line sitting first rest free = ap (replies_to sitting) (input_lines-line first rest free)
 
-pub replies-ended : (sitting : Sitting) (first rest : List ℕ) → IsUnended first
-    → replies_to sitting (ended_lines (first ++ line_feed ∷ rest)) ≡ reply_of sitting first ++ replies_to (after_line sitting first) (ended_lines rest)
-replies-ended sitting first rest free = ap (replies_to sitting) (ended_lines-line first rest free)
-
 -- a last line without a line feed is replied to like any other
 pub replies-last : (sitting : Sitting) (bytes : List ℕ) → IsUnended bytes → 0 < length bytes → replies_of sitting bytes ≡ reply_of sitting bytes
 replies-last sitting bytes free some = ap (replies_to sitting) (input_lines-last bytes free some) ∙ append-nil (reply_of sitting bytes)
-
--- a line that is too long is an error
-too_long_is : (bytes : List ℕ) → SESSION_LINE_BYTES < length bytes → session_command bytes ≡ too_long
-too_long_is bytes long = rw (lt-leb (length bytes) SESSION_LINE_BYTES long) refl
-
-long_in_front : (front first : List ℕ) → SESSION_LINE_BYTES < length front → SESSION_LINE_BYTES < length (front ++ first)
-long_in_front front first long = omega (arith, long, length-append front first)
-
-same_stated : (showing : Showing) (values : List Value) (c d : SessionCommand) (lines : List (List ℕ)) → c ≡ d
-    → command_reply showing values c ++ lines_replies showing (command_values showing values c) lines ≡ command_reply showing values d
-    ++ lines_replies showing (command_values showing values d) lines
-same_stated showing values c d lines same = ap (λ e. command_reply showing values e ++ lines_replies showing (command_values showing values e) lines) same
-
--- The reply to a line that is too long doesn't depend on its bytes.
-long_alike : (sitting : Sitting) (one other : List ℕ) (lines : List (List ℕ)) → SESSION_LINE_BYTES < length one → SESSION_LINE_BYTES < length other
-    → replies_to sitting (one ∷ lines) ≡ replies_to sitting (other ∷ lines)
-long_alike sitting one other lines long longer =
-    same_stated (showing_of sitting) sitting.values (session_command one) (session_command other) lines (too_long_is one long ∙ sym (too_long_is other longer))
-
-fronts_alike : (sitting : Sitting) (one other : List ℕ) (lines : List (List ℕ)) → SESSION_LINE_BYTES < length one → SESSION_LINE_BYTES < length other
-    → replies_to sitting (in_front one lines) ≡ replies_to sitting (in_front other lines)
-fronts_alike sitting one other [] long longer = long_alike sitting one other [] long longer
-fronts_alike sitting one other (first ∷ lines) long longer =
-    long_alike sitting (one ++ first) (other ++ first) lines (long_in_front one first long) (long_in_front other first longer)
-
-ended_fronts_alike : (sitting : Sitting) (one other : List ℕ) (lines : List (List ℕ)) → SESSION_LINE_BYTES < length one → SESSION_LINE_BYTES < length other
-    → replies_to sitting (in_front_ended one lines) ≡ replies_to sitting (in_front_ended other lines)
-ended_fronts_alike sitting one other [] long longer = refl
-ended_fronts_alike sitting one other (first ∷ lines) long longer =
-    long_alike sitting (one ++ first) (other ++ first) lines (long_in_front one first long) (long_in_front other first longer)
-
-pub replies-long : (sitting : Sitting) (one other rest : List ℕ) → IsUnended one → IsUnended other → SESSION_LINE_BYTES < length one
-    → SESSION_LINE_BYTES < length other
-    → replies_of sitting (one ++ rest) ≡ replies_of sitting (other ++ rest)
-replies-long sitting one other rest free freed long longer =
-    ap (replies_to sitting) (input_lines-front one rest free (omega (arith, long))) ∙ fronts_alike sitting one other (input_lines rest) long longer
-    ∙ sym (ap (replies_to sitting) (input_lines-front other rest freed (omega (arith, longer))))
-
-pub replies_ended-long : (sitting : Sitting) (one other rest : List ℕ) → IsUnended one → IsUnended other → SESSION_LINE_BYTES < length one
-    → SESSION_LINE_BYTES < length other
-    → replies_to sitting (ended_lines (one ++ rest)) ≡ replies_to sitting (ended_lines (other ++ rest))
-replies_ended-long sitting one other rest free freed long longer =
-    ap (replies_to sitting) (ended_lines-front one rest free) ∙ ended_fronts_alike sitting one other (ended_lines rest) long longer
-    ∙ sym (ap (replies_to sitting) (ended_lines-front other rest freed))
 
 -- ---- a prefix of an input
 

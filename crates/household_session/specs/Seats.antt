@@ -1,6 +1,6 @@
 -- A session with its state at the last show, which determines the cost of the next show and no
 -- reply.
-use Rattle.std.specs.Prelude.{ℕ, ℤ, Bool, true, false, List, [], ◌∷◌, length, replicate, slice_set, Result, Ok, Err}
+use Rattle.std.specs.Prelude.{ℕ, ℤ, ◌+◌, Bool, true, false, List, [], ◌∷◌, length, replicate, slice_set, Result, Ok, Err}
 use Rattle.m_fixed.specs.declared.amount.Value.{Value}
 use Rattle.m_fixed.specs.declared.amount.Value.TheVariants.{Undef}
 use Rattle.observables.specs.declared.face.Face.{Face}
@@ -10,6 +10,8 @@ use Rattle.value_sheet.specs.Held.{Held}
 use Rattle.household_session.specs.declared.fault.EditFault.{EditFault}
 use Rattle.household_session.specs.Sessions.{Sitting, set_of, clear_of}
 use Rattle.household_session.specs.Commands.{SessionCommand, no_words, sets, clears, shows, too_long, bad, session_command}
+use Rattle.household_session.specs.Replies.{after_line, replies_to, reply_of}
+use Rattle.household_session.specs.Repliers.{Replied, Replying}
 
 -- The values of the inputs at the last show (undefined before the first one), and whether each
 -- input was set since then.
@@ -81,3 +83,23 @@ command_cost seated bad = 0
 -- the number of nodes that a line evaluates
 abbrev pub line_cost : Seated → List ℕ → ℕ
 line_cost seated bytes = command_cost seated (session_command bytes)
+
+-- ---- lines
+
+-- the reply to a line, and its cost
+abbrev pub seated_reply : Seated → List ℕ → Replied
+seated_reply seated bytes = record { text = reply_of seated.sitting bytes; cost = line_cost seated bytes }
+
+-- the session after a line
+abbrev pub seated_after : Seated → List ℕ → Seated
+seated_after seated bytes = record { sitting = after_line seated.sitting bytes; since = since_line seated bytes }
+
+-- The number of nodes that lines evaluate, in order, each from the session after the lines before
+-- it.
+abbrev pub lines_cost : Seated → List (List ℕ) → ℕ
+lines_cost seated [] = 0
+lines_cost seated (first ∷ lines) = line_cost seated first + lines_cost (seated_after seated first) lines
+
+-- the replies of a session to lines, and their cost
+abbrev pub seated_replies : Seated → Replying
+seated_replies seated lines = record { text = replies_to seated.sitting lines; cost = lines_cost seated lines }

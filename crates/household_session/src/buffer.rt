@@ -32,7 +32,7 @@ impl<'a, 'r, R: Replier> Replier for Buffering<'a, 'r, R> {
 
     ghost nothing = { λ s. R.nothing s.replier.now };
 
-    ghost long = { λ s one other lines a b. R.long s.replier.now one other lines a b };
+    ghost long = { λ s. R.long s.replier.now };
 }
 
 // Executes a line and writes its reply through a buffer.
@@ -44,7 +44,7 @@ fn reply_whole<R: Replier, K: Sink, L: Ledger>(
     steps: &mut Steps<L>,
 ) -> Result<(), Failed>
     requires { 0 < length room.old }
-    ensures replies { RepliesTo K.written K.faults out.old out.new result (R.replies replier.old) (R.replies replier.new) line.now }
+    ensures replies { RepliesTo K.written K.faults out.old out.new steps.old steps.new result (R.replies replier.old) (R.replies replier.new) line.now }
     ensures size { length room.new ≡ length room.old }
 {
     let printed = buffer_reply::<R, K, L, Brand>(replier, line, room, out, steps);
@@ -63,7 +63,8 @@ fn buffer_reply<'a, R: Replier, K: Sink, L: Ledger, O: Origin>(
     requires start { K.written out.old ≡ O.start }
     requires some { 0 < length room.old }
     ensures name { result.out.ghost_name ≡ out.entry.ghost_name }
-    ensures replies { RepliesTo K.written K.faults out.old result.out.now result.result (R.replies replier.old) (R.replies replier.new) line.now }
+    ensures replies { RepliesTo K.written K.faults out.old result.out.now steps.old steps.new result.result
+        (R.replies replier.old) (R.replies replier.new) line.now }
 {
     let mut buffered = BufferedSink::<'a, K, O>::new(out, room);
     let printed = replier.reply(line, &mut buffered, steps);

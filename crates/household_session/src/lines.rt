@@ -1,10 +1,8 @@
 //! Splits bytes into lines.
 ghost use Rattle.std.specs.Prelude.{◌≤◌, length, take, drop, IfOk, OnErr};
-ghost use Rattle.m_ports.specs.Counts.{Rose};
-ghost use Rattle.m_ports.specs.Sink.{AppendsPrefix};
 ghost use Rattle.household_session.specs.Replies.{IsUnended};
-ghost use Rattle.household_session.specs.Repliers.{ended_of};
-ghost use Rattle.household_session.specs.inner.Going.{Goes};
+ghost use Rattle.household_session.specs.Repliers.{over_ended};
+ghost use Rattle.household_session.specs.inner.Going.{BreaksOff, Goes};
 
 use crate::replier::Replier;
 use m_ports::{Failed, Sink};
@@ -23,11 +21,10 @@ pub(crate) fn do_ended<R: Replier, K: Sink, L: Ledger>(
 ) -> Result<usize, Failed>
     requires within { held ≤ length bytes.now }
     requires unended { IsUnended (take held bytes.now) }
-    ensures goes { IfOk result (λ from. Goes K.written K.faults out.old out.new
+    ensures goes { IfOk result (λ from. Goes K.written K.faults out.old out.new steps.old steps.new
         (R.replies replier.old) (R.replies replier.new) bytes.now (drop from bytes.now)) }
     ensures place { IfOk result (λ from. (from ≤ length bytes.now) × IsUnended (drop from bytes.now)) }
-    ensures failed { OnErr result (Rose (K.faults out.old) (K.faults out.new)) }
-    ensures prefix { OnErr result (AppendsPrefix (K.written out.old) (K.written out.new) (ended_of (R.replies replier.old) bytes.now)) }
+    ensures breaks { OnErr result (BreaksOff K.written K.faults out.old out.new steps.old steps.new (over_ended (R.replies replier.old) bytes.now)) }
 {
     let mut from = 0;
     let mut end = line_end(bytes, held);

@@ -38,14 +38,15 @@ const REPLY_ROOM: usize = 65_536;
 /// Executes the lines of an input in order, each by `Replier::reply`, until the input ends, a read
 /// or a write fails, or `INPUT_BYTES` bytes were read. Of a line that is too long only its first
 /// bytes are held. The last line needs no line feed. A reply is written completely before the next
-/// line is executed, in pieces of 65,536 bytes. It takes no memory.
+/// line is executed, in pieces of 65,536 bytes. It takes the steps that the lines cost, and no
+/// memory.
 pub fn serve<R: Replier, S: Source, K: Sink, L: Ledger>(
     replier: &mut R,
     input: &mut S,
     out: &mut K,
     steps: &mut Steps<L>,
 ) -> ServeEnd
-    ensures end { Ends (S.left input.old) (S.left input.new) (K.written out.old) (K.written out.new) (R.replies replier.old) result }
+    ensures end { Ends (S.left input.old) (S.left input.new) (K.written out.old) (K.written out.new) steps.old steps.new (R.replies replier.old) result }
     ensures counts { Counts (S.faults input.old) (S.faults input.new) (K.faults out.old) (K.faults out.new) result }
 {
     let mut room = [0; ROOM];
@@ -66,7 +67,7 @@ fn serve_in<R: Replier, S: Source, K: Sink, L: Ledger>(
     steps: &mut Steps<L>,
 ) -> ServeEnd
     requires { length room.old ≡ ROOM }
-    ensures end { Ends (S.left input.old) (S.left input.new) (K.written out.old) (K.written out.new) (R.replies replier.old) result }
+    ensures end { Ends (S.left input.old) (S.left input.new) (K.written out.old) (K.written out.new) steps.old steps.new (R.replies replier.old) result }
     ensures counts { Counts (S.faults input.old) (S.faults input.new) (K.faults out.old) (K.faults out.new) result }
 {
     let mut taken = 0;
@@ -98,7 +99,7 @@ fn turn<R: Replier, S: Source, K: Sink, L: Ledger>(
     requires some { 0 < most }
     requires few { held ≤ MOST_HELD }
     requires unended { IsUnended (take held room.old) }
-    ensures { Turned S.left S.faults K.written K.faults input.old input.new out.old out.new (R.replies replier.old) (R.replies replier.new)
+    ensures { Turned S.left S.faults K.written K.faults input.old input.new out.old out.new steps.old steps.new (R.replies replier.old) (R.replies replier.new)
         (take held room.old) room.new most result }
 {
     let count = match take_piece(input, room, held, most) {
@@ -120,7 +121,7 @@ fn finish<R: Replier, K: Sink, L: Ledger>(
     steps: &mut Steps<L>,
 ) -> ServeEnd
     requires { IsUnended held.now }
-    ensures { Finished K.written K.faults out.old out.new (R.replies replier.old) held.now result }
+    ensures { Finished K.written K.faults out.old out.new steps.old steps.new (R.replies replier.old) held.now result }
 {
     if held.is_empty() {
         return ServeEnd::Done;

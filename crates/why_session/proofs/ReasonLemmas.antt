@@ -1,5 +1,5 @@
 -- What a session joined to a reporter replies, and what it keeps.
-use Rattle.std.proofs.Common.{◌≡◌, ℕ, set, List, ◌∷◌, ◌++◌, None, Some, sym, ap, ◌∙◌, subst}
+use Rattle.std.proofs.Common.{◌≡◌, ℕ, set, List, ◌∷◌, None, Some, sym, ap, ◌∙◌, subst}
 use Rattle.std.specs.Option.{option_map_or}
 use Rattle.std.specs.Prelude.{codes}
 use Rattle.m_fixed.specs.declared.amount.Value.{Value}
@@ -9,8 +9,9 @@ use Rattle.m_symbols.specs.Declarations.{Declared}
 use Rattle.m_symbols.specs.Cells.{request_cell}
 use Rattle.micro_m.specs.Values.{environment}
 use Rattle.household_session.specs.Commands.{session_command}
-use Rattle.household_session.specs.Replies.{after_line, input_named, reply_of}
-use Rattle.household_session.specs.Seats.{Seated}
+use Rattle.household_session.specs.Repliers.{Replying, replied_then}
+use Rattle.household_session.specs.Replies.{after_line, input_named}
+use Rattle.household_session.specs.Seats.{Seated, lines_cost, seated_after, seated_reply}
 use Rattle.household_session.specs.Sessions.{Sitting, line, showing_of}
 use Rattle.household_session.proofs.TypeLemmas.{command_keeps}
 use Rattle.why_report.specs.Reasons.{why_lines}
@@ -19,7 +20,7 @@ use Rattle.why_report.specs.declared.line.ReportLine.{ReportLine}
 use Rattle.why_session.specs.Explains.{explained_replies, why_name, report_lines_of}
 use Rattle.why_session.specs.Joined.{Joined, explains_by, explains_in, joined_replies}
 use Rattle.why_session.specs.inner.Parts.{AreJoined}
-use Rattle.why_session.proofs.LineLemmas.{line_then, why_then}
+use Rattle.why_session.proofs.LineLemmas.{line_then, why_costs, why_then}
 use Rattle.why_session.proofs.EditLemmas.{named_edit}
 
 -- ---- the reply to why
@@ -79,17 +80,24 @@ line_put seated later reporting new declared bytes input parts after named put s
 }
 
 -- the replies after a line are those of the session that it leaves
-pub line_goes_on : (joined later : Joined) (bytes : List ℕ) → why_name bytes ≡ None → later.seated.sitting ≡ after_line joined.seated.sitting bytes
-    → later.declared ≡ joined.declared
-    → later.reporting.ordered ≡ joined.reporting.ordered → (lines : List (List ℕ))
-    → joined_replies joined (bytes ∷ lines) ≡ reply_of joined.seated.sitting bytes ++ joined_replies later lines
+pub line_goes_on : (joined later : Joined) (bytes : List ℕ) → why_name bytes ≡ None → later.seated ≡ seated_after joined.seated bytes
+    → later.declared ≡ joined.declared → later.reporting.ordered ≡ joined.reporting.ordered → (lines : List (List ℕ))
+    → joined_replies joined (bytes ∷ lines) ≡ replied_then (seated_reply joined.seated bytes) (joined_replies later lines)
 line_goes_on joined later bytes none after declared ordered lines =
-    line_then (showing_of joined.seated.sitting) (explains_by joined.declared joined.reporting.ordered) joined.seated.sitting.values bytes lines none
-    ∙ sym (λ i. reply_of joined.seated.sitting bytes ++ explained_replies (showing_of (after i)) (explains_by (declared i) (ordered i)) (after i).values lines)
+    let texts = line_then (showing_of joined.seated.sitting) (explains_by joined.declared joined.reporting.ordered) joined.seated.sitting.values bytes lines none
+    in
+    (λ i. record { text = texts i; cost = lines_cost joined.seated (bytes ∷ lines) })
+    ∙ sym (λ i. replied_then (seated_reply joined.seated bytes) (record {
+      text = explained_replies (showing_of (after i).sitting) (explains_by (declared i) (ordered i)) (after i).sitting.values lines;
+      cost = lines_cost (after i) lines;
+    }))
 
 pub why_goes_on : (joined later : Joined) (bytes name : List ℕ) → why_name bytes ≡ Some name → joined_replies later ≡ joined_replies joined
     → (lines : List (List ℕ))
-    → joined_replies joined (bytes ∷ lines) ≡ explains_in joined name ++ joined_replies later lines
+    → joined_replies joined (bytes ∷ lines) ≡ replied_then (record { text = explains_in joined name; cost = 0 }) (joined_replies later lines)
 why_goes_on joined later bytes name is same lines =
-    why_then (showing_of joined.seated.sitting) (explains_by joined.declared joined.reporting.ordered) joined.seated.sitting.values bytes name lines is
-    ∙ sym (ap (λ (tell : List (List ℕ) → List ℕ). explains_in joined name ++ tell lines) same)
+    let texts = why_then (showing_of joined.seated.sitting) (explains_by joined.declared joined.reporting.ordered) joined.seated.sitting.values bytes name
+    lines is in
+    let costs = why_costs joined.seated bytes name lines is in
+    (λ i. record { text = texts i; cost = costs i })
+    ∙ sym (ap (λ (current : Replying). replied_then (record { text = explains_in joined name; cost = 0 }) (current lines)) same)

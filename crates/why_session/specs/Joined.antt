@@ -1,6 +1,7 @@
 -- A session joined to a reporter, as contracts see it.
 use Rattle.std.specs.Prelude.{ℕ, List}
-use Rattle.household_session.specs.Seats.{Seated}
+use Rattle.household_session.specs.Repliers.{Replying}
+use Rattle.household_session.specs.Seats.{Seated, lines_cost}
 use Rattle.household_session.specs.Sessions.{showing_of}
 use Rattle.m_symbols.specs.Declarations.{Declared}
 use Rattle.micro_m.specs.Values.{environment}
@@ -23,7 +24,9 @@ explains_by declared ordered values name = explanation declared (λ c. why_lines
 abbrev pub explains_in : Joined → List ℕ → List ℕ
 explains_in joined name = explains_by joined.declared joined.reporting.ordered joined.seated.sitting.values name
 
--- The replies to lines.
-abbrev pub joined_replies : Joined → List (List ℕ) → List ℕ
-joined_replies joined lines = explained_replies (showing_of joined.seated.sitting) (explains_by joined.declared joined.reporting.ordered)
-    joined.seated.sitting.values lines
+-- The replies to lines, and their cost: a `why` line has none, as a line that the session alone rejects.
+abbrev pub joined_replies : Joined → Replying
+joined_replies joined lines = record {
+  text = explained_replies (showing_of joined.seated.sitting) (explains_by joined.declared joined.reporting.ordered) joined.seated.sitting.values lines;
+  cost = lines_cost joined.seated lines;
+}

@@ -1,12 +1,14 @@
 //! A session that answers `why`.
-ghost use Rattle.std.specs.Prelude.{◌≡◌, ◌∷◌, ◌++◌, ◌<◌, List, ℕ, All, None, IfOk, length};
+ghost use Rattle.std.specs.Prelude.{◌≡◌, ◌+◌, ◌∷◌, ◌<◌, List, ℕ, All, None, IfOk, length};
 ghost use Rattle.m_ports.specs.Giving.{Gives};
 ghost use Rattle.observables.specs.Inputs.{AreValuesOf};
 ghost use Rattle.m_symbols.specs.Declarations.{Declared, inputs_from, owners_from};
 ghost use Rattle.m_symbols.specs.Placed.{IsPlaced};
 ghost use Rattle.micro_m.specs.Bases.{IsValidBase};
 ghost use Rattle.rule_order.specs.Orders.{IsOrder};
+ghost use Rattle.household_session.specs.Repliers.{replied_then};
 ghost use Rattle.household_session.specs.Replies.{reply_of};
+ghost use Rattle.household_session.specs.Seats.{line_cost, seated_reply};
 ghost use Rattle.why_report.specs.Starts.{IsStart};
 ghost use Rattle.why_session.specs.Explains.{why_name, report_lines_of};
 ghost use Rattle.why_session.specs.Joined.{explains_in, joined_replies};
@@ -96,8 +98,9 @@ impl Explainer {
     ) -> Result<(), Failed>
         requires { why_name line.now ≡ None }
         ensures gives { Gives K.written K.faults out.old out.new result (reply_of self.old.seated.sitting line.now) }
+        ensures cost { steps.new ≡ steps.old + line_cost self.old.seated line.now }
         ensures goes_on { (lines : List (List ℕ)) → joined_replies self.old (line.now ∷ lines)
-            ≡ reply_of self.old.seated.sitting line.now ++ joined_replies self.new lines }
+            ≡ replied_then (seated_reply self.old.seated line.now) (joined_replies self.new lines) }
     {
         let named = self.session.input_named(line);
         let replied = self.session.command(line, out, steps);
@@ -129,7 +132,7 @@ impl Replier for Explainer {
 
     ghost nothing = { λ e. refl };
 
-    ghost long = { λ e one other lines a b. long_alike e one other lines a b };
+    ghost long = { long_alike };
 }
 
 // Copies the values of a session's inputs to a reporter that has as many inputs.

@@ -5,10 +5,13 @@ use Rattle.std.proofs.lemmas.Bool.{lt-leb}
 use Rattle.m_places.specs.declared.limits.TheConstants.{SESSION_LINE_BYTES}
 use Rattle.m_fixed.specs.declared.amount.Value.{Value}
 use Rattle.observables.specs.Inputs.{AreValuesOf}
-use Rattle.household_session.specs.Commands.{SessionCommand, too_long, session_command}
+use Rattle.household_session.specs.Commands.{SessionCommand, session_command}
 use Rattle.household_session.specs.Replies.{command_reply, command_values}
+use Rattle.household_session.specs.Repliers.{Replied}
 use Rattle.household_session.specs.Seats.{Seated}
 use Rattle.household_session.specs.Sessions.{Showing, showing_of}
+use Rattle.household_session.specs.inner.Alike as alike
+use Rattle.household_session.specs.inner.Alike.{too_long_is}
 use Rattle.m_symbols.specs.Declarations.{Declared, owners_from}
 use Rattle.why_report.specs.Starts.{IsStart, Reporting}
 use Rattle.why_session.specs.Explains.{Explaining, explained_replies, why_name}
@@ -22,10 +25,7 @@ pub record AreJoined (seated : Seated) (reporting : Reporting) (declared : Decla
   pub values : AreValuesOf seated.sitting.face.inputs seated.sitting.values
   pub cells : reporting.ordered.base.cells ≡ length (owners_from 0 declared.variables)
 
--- a line over the length limit is no valid command, and no `why`
-too_long_is : (bytes : List ℕ) → SESSION_LINE_BYTES < length bytes → session_command bytes ≡ too_long
-too_long_is bytes long = rw (lt-leb (length bytes) SESSION_LINE_BYTES long) refl
-
+-- a line over the length limit is no `why`
 too_long_names_none : (bytes : List ℕ) → SESSION_LINE_BYTES < length bytes → why_name bytes ≡ None
 too_long_names_none bytes long = rw (lt-leb (length bytes) SESSION_LINE_BYTES long) refl
 
@@ -46,5 +46,7 @@ replies_long showing explains values one other lines long longer =
 pub long_alike : (joined : Joined) (one other : List ℕ) (lines : List (List ℕ)) → SESSION_LINE_BYTES < length one → SESSION_LINE_BYTES < length other
     → joined_replies joined (one ∷ lines) ≡ joined_replies joined (other ∷ lines)
 long_alike joined one other lines long longer =
-    replies_long (showing_of joined.seated.sitting) (explains_by joined.declared joined.reporting.ordered) joined.seated.sitting.values one other lines long
-    longer
+    let texts = replies_long (showing_of joined.seated.sitting) (explains_by joined.declared joined.reporting.ordered) joined.seated.sitting.values one other
+    lines long longer in
+    let costs = ap (λ (replies : Replied). replies.cost) (alike.long_alike joined.seated one other lines long longer) in
+    λ i. record { text = texts i; cost = costs i }

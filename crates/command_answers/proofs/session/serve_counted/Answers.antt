@@ -25,8 +25,8 @@ pub returns-in-WriteFault : goal.returns-in-WriteFault
 returns-in-WriteFault g c =
     let end = c.in-WriteFault.ensures.end in
     elim end.3 [
-      | inl ended ↦ unwritten end.0 end.2 end.1 c.in-WriteFault.ensures.counts.0 (ended, c.in-WriteFault.ensures.counts.1) refl
-      | inr last ↦ unwritten_at_end end.0 end.2 last.0 last.1 c.in-WriteFault.ensures.counts.0 (last.2, c.in-WriteFault.ensures.counts.1) refl
+      | inl ended ↦ unwritten end.0 end.2 end.1 c.in-WriteFault.ensures.counts.0 (ended.0, c.in-WriteFault.ensures.counts.1) refl
+      | inr last ↦ unwritten_at_end end.0 end.2 last.0 last.1 c.in-WriteFault.ensures.counts.0 (last.2.0, c.in-WriteFault.ensures.counts.1) refl
     ]
 
 pub returns : goal.returns

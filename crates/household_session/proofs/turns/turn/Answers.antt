@@ -10,7 +10,7 @@ pub returns-in-Ok-eq0 : goal.returns-in-Ok-eq0
 returns-in-Ok-eq0 g c =
     let none = c.in-Ok-eq0.field-0-test in
     stopped_at_end g.S.Source.left g.S.Source.faults g.K.Sink.written g.K.Sink.faults c.args.input.now c.take_piece.new.input c.args.out.now c.finish.new.out
-    (g.R.Replier.replies c.args.replier.now)
+    c.args.steps.now c.finish.new.steps (g.R.Replier.replies c.args.replier.now)
     (take c.args.held c.args.room.now) c.args.most c.finish.result (rw none at c.in-Ok-eq0.ensures.moved) (c.in-Ok-eq0.ensures.end none)
     c.in-Ok-eq0.ensures.faultless
     (rw c.take_piece.ensures.kept at c.finish.ensures)
@@ -28,7 +28,7 @@ returns-in-Err-do_ended g c =
         piece,
         omega (arith, c.in-Ok.ensures.within.1, length-take c.in-Ok.count (drop c.args.held c.take_piece.new.room)),
         c.in-Ok.ensures.moved,
-        record { rose = c.in-Err-do_ended.ensures.failed; prefix = rw whole at c.in-Err-do_ended.ensures.prefix },
+        rw whole at c.in-Err-do_ended.ensures.breaks,
       ),
     )
 
@@ -56,10 +56,11 @@ returns-in-Ok-do_ended g c =
         few = c.in-Ok.ensures.within.1;
         moved = c.in-Ok.ensures.moved;
         calm = c.in-Ok.ensures.faultless;
-        goes = subst (λ (before : List ℕ). Goes g.K.Sink.written g.K.Sink.faults c.args.out.now c.do_ended.new.out (g.R.Replier.replies c.args.replier.now)
+        goes = subst (λ (before : List ℕ). Goes g.K.Sink.written g.K.Sink.faults c.args.out.now c.do_ended.new.out c.args.steps.now c.do_ended.new.steps
+            (g.R.Replier.replies c.args.replier.now)
             (g.R.Replier.replies c.do_ended.new.replier) before
             (take c.keep.result c.keep.new.room)) whole
-            (goes_kept _ _ _ _ _ _ _ _ _ c.keep.result (g.met.R.Replier.long c.do_ended.new.replier) free size c.keep.ensures.front
+            (goes_kept _ _ _ _ _ _ _ _ _ _ _ c.keep.result (g.met.R.Replier.long c.do_ended.new.replier) free size c.keep.ensures.front
             c.in-Ok-do_ended.ensures.goes);
         unended = subst (λ (bytes : List ℕ). IsUnended bytes) (sym c.keep.ensures.front) (unended_take c.keep.result _ free);
       },

@@ -1,7 +1,9 @@
-use Rattle.std.proofs.Common.{◌≡◌, ◌++◌, ◌∷◌, length, refl, ap, sym, ◌∙◌, subst, arith}
+use Rattle.std.proofs.Common.{◌≡◌, ◌∷◌, length, refl, ap, sym, ◌∙◌, subst, arith}
 use Rattle.m_ports.specs.Giving.{Gives}
 use Rattle.household_session.specs.Commands.{session_command}
+use Rattle.household_session.specs.Repliers.{replied_then}
 use Rattle.household_session.specs.Replies.{reply_of}
+use Rattle.household_session.specs.Seats.{seated_reply}
 use Rattle.m_fixed.specs.declared.amount.Value.{Value}
 use Rattle.why_report.specs.Starts.{Reporting, with_input}
 use Rattle.why_session.specs.Joined.{Joined, joined_replies}
@@ -31,8 +33,12 @@ returns-in-Some-clause-goes_on g c = λ lines.
     let inside = c.self.inside in
     let joined : Joined = record { seated = inside.session; reporting = inside.reporter; declared = inside.symbols } in
     let later : Joined = record { seated = c.command-replied.new.self; reporting = c.put.new.self; declared = inside.symbols } in
-    subst (λ (j : Joined). joined_replies j (c.args.line.now ∷ lines) ≡ reply_of j.seated.sitting c.args.line.now ++ joined_replies later lines) c.self.view_is
-    (line_goes_on joined later c.args.line.now c.requires c.command-replied.ensures.sitting refl (ap (λ (r : Reporting). r.ordered) c.put.ensures.put) lines)
+    subst (λ (j : Joined). joined_replies j (c.args.line.now ∷ lines) ≡ replied_then (seated_reply j.seated c.args.line.now)
+    (joined_replies later lines)) c.self.view_is
+    (line_goes_on joined later c.args.line.now c.requires (λ i. record {
+      sitting = c.command-replied.ensures.sitting i;
+      since = c.command-replied.ensures.since i;
+    }) refl (ap (λ (r : Reporting). r.ordered) c.put.ensures.put) lines)
 
 pub returns-in-None-clause-gives : goal.returns-in-None-clause-gives
 returns-in-None-clause-gives g c =
@@ -45,5 +51,9 @@ returns-in-None-clause-goes_on g c = λ lines.
     let inside = c.self.inside in
     let joined : Joined = record { seated = inside.session; reporting = inside.reporter; declared = inside.symbols } in
     let later : Joined = record { seated = c.command-replied.new.self; reporting = inside.reporter; declared = inside.symbols } in
-    subst (λ (j : Joined). joined_replies j (c.args.line.now ∷ lines) ≡ reply_of j.seated.sitting c.args.line.now ++ joined_replies later lines) c.self.view_is
-    (line_goes_on joined later c.args.line.now c.requires c.command-replied.ensures.sitting refl refl lines)
+    subst (λ (j : Joined). joined_replies j (c.args.line.now ∷ lines) ≡ replied_then (seated_reply j.seated c.args.line.now)
+    (joined_replies later lines)) c.self.view_is
+    (line_goes_on joined later c.args.line.now c.requires (λ i. record {
+      sitting = c.command-replied.ensures.sitting i;
+      since = c.command-replied.ensures.since i;
+    }) refl refl lines)
