@@ -1,10 +1,11 @@
 #!/usr/bin/env python3
-"""Tries mutants, which are wrong bodies: tests/tries.py [--stands | --page] [CRATE ..]
+"""Tries mutants, which are wrong bodies: tests/tries.py [--stands | --page] [--only=WORD ..] [CRATE ..]
 
 tests/tries/CRATE.txt has wrong bodies of a crate's functions. This script copies the repository, puts them into the copy, as many
 functions at a time as it can, checks these functions there, and prints for each whether the check rejected it. What can't be judged since
 another function is wrong too is tried again alone. Without a name it goes through all crates. `rt check` proves the crates below first, and
 takes what a check in this clone proved already: begin with `./build`, and it is an hour for all. It is no part of the gate.
+--only=WORD takes the entries whose function or description has this word.
 
 Of an entry the first line is `@ FUNCTION FILE`, the second `# ` and what is wrong; in brackets is what is right, or free, and
 may be proved. Then come the lines of the file, each after `-`, and the lines in their place, each after `+`. The
@@ -42,15 +43,17 @@ class Body(NamedTuple):
         return self.what.startswith("(")
 
 
-def bodies_of(crate):
-    """Returns the wrong bodies of a crate."""
+def bodies_of(crate, only=()):
+    """Returns the wrong bodies of a crate, of these words if there are any."""
     found = []
     for entry in (TOP / "tests/tries" / f"{crate}.txt").read_text(encoding="utf-8").split("\n\n@ "):
         lines = entry.removeprefix("@ ").rstrip("\n").split("\n")
         function, file = lines[0].split(" ")
         old = "\n".join(line[1:] for line in lines[2:] if line.startswith("-"))
         new = "\n".join(line[1:] for line in lines[2:] if line.startswith("+"))
-        found.append(Body(function, file, lines[1].removeprefix("# "), old, new))
+        body = Body(function, file, lines[1].removeprefix("# "), old, new)
+        if not only or any(word in body.function or word in body.what for word in only):
+            found.append(body)
     return found
 
 
@@ -169,10 +172,10 @@ def without_answers(crate_folder, crate, texts, body, told):
     return alone if alone in ("PROVED", "allowed") or (alone == "refused" and is_false) else told
 
 
-def tried(crate_folder, crate):
+def tried(crate_folder, crate, only):
     """Returns the wrong bodies of a crate, each with its verdict."""
     texts = texts_of(crate_folder)
-    standing = [body for body in bodies_of(crate) if put(dict(texts), body)]
+    standing = [body for body in bodies_of(crate, only) if put(dict(texts), body)]
     alone = []
     for bodies in rounds_of(standing, texts):
         lines, errors, changed = check(crate_folder, texts, bodies)
@@ -230,6 +233,8 @@ def page():
 
 def main():
     words = sys.argv[1:]
+    only = [word.removeprefix("--only=") for word in words if word.startswith("--only=")]
+    words = [word for word in words if not word.startswith("--only=")]
     if [word for word in words if word.startswith("-") and word not in ("--page", "--stands")]:
         sys.exit(__doc__)
     if "--page" in words:
@@ -242,7 +247,7 @@ def main():
     failed = stands = 0
     for crate in crates:
         texts = texts_of(TOP / "crates" / crate)
-        for body in bodies_of(crate):
+        for body in bodies_of(crate, only):
             if put(dict(texts), body):
                 stands += 1
             else:
@@ -256,7 +261,7 @@ def main():
             copy = Path(folder) / "copy"
             shutil.copytree(TOP, copy, ignore=shutil.ignore_patterns(".git", "unlanded"))
             for crate in crates:
-                for body, told in tried(copy / "crates" / crate, crate):
+                for body, told in tried(copy / "crates" / crate, crate, only):
                     kind = told.partition(":")[0]
                     counts[kind] = counts.get(kind, 0) + 1
                     failed += told == "PROVED"
