@@ -173,7 +173,8 @@ class Law:
         return [name, formulas[key][0], self.trees[name]]
 
     def variables(self):
-        """The variables of the form and of the cells: kind, description, file, line, code, type, a constant's number, attributes, comments; without empty ends."""
+        """The variables of the form and of the cells: kind, description, file, line, code, type, a constant's number, attributes, comments; without empty
+        ends."""
         needed = {cell.split("[")[0] for cell in [*self.places, *self.asked]}
         for file in self.base.files:
             for variable in file.variables:
@@ -181,7 +182,8 @@ class Law:
                     continue
                 description, word, number, comments = self.passages[file.name].declaration(variable.byte)
                 attributes = [*variable.words, *(f"{name} = {value}" for name, value in variable.numbers.items())]
-                said = [variable.kind, description, self.numbers[file.name], file.lines.number(variable.byte), variable.code, word, number, attributes, comments]
+                place = [self.numbers[file.name], file.lines.number(variable.byte)]
+                said = [variable.kind, description, *place, variable.code, word, number, attributes, comments]
                 while not said[-1]:
                     said.pop()
                 yield variable.name, said
