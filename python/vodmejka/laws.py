@@ -9,6 +9,7 @@ import tempfile
 
 from . import origins, passages, reasons, runs, source, trees
 from .endings import Wrong
+from .places import shown_name
 
 REQUESTS = 100_000
 
@@ -154,9 +155,9 @@ class Law:
             "variables": dict(self.variables()),
             "errors": dict(error for passages in self.passages.values() for error in passages.errors()),
             "pure": self.is_pure(),
-            "places": [[shown(self.files.names[path]), passages.heading()] for path, passages in self.passages.items()],
+            "places": [[shown_name(self.files.names[path]), passages.heading()] for path, passages in self.passages.items()],
             "origins": {name: self.origins.of(name) for name in self.asked} if self.origins else {},
-            "files": [[shown(name), digest] for name, digest in self.files.contents],
+            "files": [[shown_name(name), digest] for name, digest in self.files.contents],
             "digest": hashlib.sha256(self.code.encode("latin-1")).hexdigest(),
         }
 
@@ -187,8 +188,3 @@ class Law:
                 while not said[-1]:
                     said.pop()
                 yield variable.name, said
-
-
-def shown(name):
-    """A file's name as text."""
-    return os.fsencode(name).decode("utf-8", "replace")

@@ -1,12 +1,11 @@
 """Pages for people: the modules of web/ joined into one script, and with the style, the sentences and the rules into one file."""
-import base64
-import hashlib
 import html
 import json
 import os
 import re
 
 from . import source
+from .plain_pages import digest
 
 HERE = os.path.dirname(os.path.realpath(__file__))
 FOLDERS = (os.path.join(HERE, "web"), os.path.join(os.path.dirname(os.path.dirname(HERE)), "web"))
@@ -73,10 +72,6 @@ class Joined:
 def in_script(data):
     """JSON that is safe within an element `script`, whatever its contents."""
     return json.dumps(data, ensure_ascii=False, separators=(",", ":")).replace("<", "\\u003c").replace("\u2028", "\\u2028").replace("\u2029", "\\u2029")
-
-
-def digest(text):
-    return base64.b64encode(hashlib.sha256(text.encode("utf-8")).digest()).decode()
 
 
 def sentences_of(language):

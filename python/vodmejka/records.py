@@ -1,8 +1,6 @@
 """What the tools know of tables of households and of the answers to them: the records of a table, as the program reads them, and the lines of `batch`."""
 from __future__ import annotations
 
-import csv
-import io
 import mmap
 import os
 import re
@@ -51,16 +49,6 @@ def unquoted(field: bytes) -> bytes:
     """The content of a field of a record."""
     match = QUOTED.match(field)
     return match[1].replace(b'""', b'"') + field[match.end() :] if match else field
-
-
-def spelled(rows: Iterable[Iterable[object]]) -> str:
-    """Rows as csv. A carriage return in a field is quoted by every version of Python where lines end with one too."""
-    for end in ("\n", "\r\n"):
-        out = io.StringIO(newline="")
-        csv.writer(out, lineterminator=end).writerows(rows)
-        if "\r" not in out.getvalue():
-            break
-    return out.getvalue()
 
 
 def unlike_a_formula(text: bytes) -> bytes:
