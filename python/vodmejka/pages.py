@@ -16,6 +16,7 @@ POLICY = (
     "require-trusted-types-for 'script'"
 )
 MAIN = "main"
+STYLES = ("page.css", "result.css", "media.css")  # the form, the result, and narrow screens and paper, in the order of their rules
 
 
 class BadModule(Exception):
@@ -86,7 +87,7 @@ def page(data, title, language):
     """The page with some data."""
     sentences = sentences_of(language)
     data = {**data, "language": language, "sentences": sentences}
-    style, script = fetch("page.css"), Joined().script
+    style, script = "".join(map(fetch, STYLES)), Joined().script
     policy = POLICY.format(script=digest(script), style=digest(style))
     plain = {"language": language, "policy": policy, "title": title, "lead": sentences["lead"], "no-script": sentences["no-script"]}
     put_in = {**{key: html.escape(text) for key, text in plain.items()}, "style": style, "script": script, "data": in_script(data)}
