@@ -98,7 +98,8 @@ def metadata():
 
 def package_files():
     """The files of the package, by their paths within it. The sources of pages stand beside it in the repository, and in its folder `web` elsewhere."""
-    return sorted([*files_below(os.path.join(HERE, NAME), NAME, (".py", ".typed", ".words")), *files_below(web_folder(), WEB, (".js", ".json", ".css", ".html"))])
+    own = files_below(os.path.join(HERE, NAME), NAME, (".py", ".typed", ".words"))
+    return sorted([*own, *files_below(web_folder(), WEB, (".js", ".json", ".css", ".html"))])
 
 
 def files_below(top, place, kinds):

@@ -206,8 +206,8 @@ def head(found):
     """The paragraph of docs/PROVED.md: how many definitions there are, and how many lines one must read for one command."""
     shared, commands = by_command()
     return (
-        f"The clauses of `m_tax` lead to {len(found)} definitions and types with {sum(d.count for d in found)} lines, down to the operators; comments, and what "
-        "the kit states of lists, numbers\nand options, aren't counted. "
+        f"The clauses of `m_tax` lead to {len(found)} definitions and types with {sum(d.count for d in found)} lines, down to the operators; comments, and "
+        "what the kit states of lists, numbers\nand options, aren't counted. "
         f"{shared} of these lines are shared by all commands: arguments, files, limits, statuses, and what is written when something fails.\n"
         "For one command alone, with the shared lines:\n\n"
         "| " + " | ".join(f"`{command}`" for command, _ in commands) + " |\n"

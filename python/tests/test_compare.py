@@ -71,7 +71,8 @@ class Compared(Changed):
         self.assertEqual([group.name for group in made.groups if group.households], ["all", *(f"tenth {k} of TAX" for k in (1, 4, 5, 6)), "no TAX"])
 
     def test_frames(self):
-        """Cells without a number, parts and short floats are taken as `batch` takes them: 2000.5 pays 100.05 before and 0.05 after, 16777.1 1577.71 and 50 before."""
+        """Cells without a number, parts and short floats are taken as `batch` takes them: 2000.5 pays 100.05 before and 0.05 after, 16777.1 1577.71 and 50
+        before."""
         try:
             import pandas
         except ImportError:
@@ -118,11 +119,13 @@ class Compared(Changed):
         except ImportError:
             self.skipTest("no pandas")
         for columns, words, line in (
-            ({"1AJ": [1], "age": [3]}, {}, 'column "age" is no code of the rules: keep=\\["age"\\]'), ({"1AJ": [1]}, {"weight": "w"}, 'the frame has no column "w"'),
+            ({"1AJ": [1], "age": [3]}, {}, 'column "age" is no code of the rules: keep=\\["age"\\]'),
+            ({"1AJ": [1]}, {"weight": "w"}, 'the frame has no column "w"'),
             ({"1AJ": [1, 2], "w": [1.5, -1]}, {"weight": "w"}, "household 1: the weight w is below 0"),
             ({"1AJ": [1], "w": [0.1234567]}, {"weight": "w"}, "household 0: the weight w is below 0, or has more than six decimals: 0.1234567"),
             ({"1AJ": [1, 2], "w": [1, None]}, {"weight": "w"}, "household 1: the weight w is no number"),
-            ({"1AJ": [1], "w": ["x"]}, {"weight": "w"}, "household 0: the weight w is no number: 'x'"), ({"1AJ": ["x"]}, {}, "household 0, code 1AJ: x is no amount"),
+            ({"1AJ": [1], "w": ["x"]}, {"weight": "w"}, "household 0: the weight w is no number: 'x'"),
+            ({"1AJ": ["x"]}, {}, "household 0, code 1AJ: x is no amount"),
         ):
             with self.assertRaisesRegex(Refused, line):
                 compare(self.before, self.after, pandas.DataFrame(columns), of="TAX", **words)

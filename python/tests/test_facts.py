@@ -23,8 +23,10 @@ depends E
 class Lines(unittest.TestCase):
     def test_lines(self):
         for line, fact in (
-            ("IRN 0 to 9000.5 or undefined", Fact(Decimal(0), Decimal("9000.5"), True, False, ())), ("C -3", Fact(Decimal(-3), Decimal(-3), False, False, ())),
-            ("D undefined or over", Fact(None, None, True, True, ())), ("T[3] over", Fact(None, None, False, True, ())), ("E ", Fact(None, None, False, False, ())),
+            ("IRN 0 to 9000.5 or undefined", Fact(Decimal(0), Decimal("9000.5"), True, False, ())),
+            ("C -3", Fact(Decimal(-3), Decimal(-3), False, False, ())),
+            ("D undefined or over", Fact(None, None, True, True, ())), ("T[3] over", Fact(None, None, False, True, ())),
+            ("E ", Fact(None, None, False, False, ())),
             ("F 1 to 2 or undefined or over", Fact(Decimal(1), Decimal(2), True, True, ())),
         ):
             self.assertEqual(fact_of(line), (line.split(" ")[0], fact), line)

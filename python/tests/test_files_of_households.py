@@ -91,7 +91,9 @@ class Written(Room):
                 self.rules_by().batch_file(self.put("table.csv", "name\n"), self.room.name + "/out.csv")
 
     def test_a_program_that_loses_a_household(self):
-        for script, line in (("printf 'name,stop,notes,IRN,C\\na,,,1,1\\n'", "1 answers for 2 households"), ("printf 'name,IRN\\n'", "something else than the csv")):
+        for script, line in (
+                ("printf 'name,stop,notes,IRN,C\\na,,,1,1\\n'", "1 answers for 2 households"),
+                ("printf 'name,IRN\\n'", "something else than the csv")):
             path = self.put("survey", f"#!/bin/sh\n{script}\n")
             os.chmod(path, 0o755)
             with mock.patch.dict(os.environ, {"M_SURVEY": path}):
@@ -139,8 +141,9 @@ class Written(Room):
             import pyarrow  # noqa: F401
         except ImportError:
             self.skipTest("no pyarrow")
-        self.rules.batch_file(self.put("table.csv", TABLE), self.room.name + "/out.parquet", "parquet", numbers="micros", keep=["w"], stops="keep", rows_at_once=3)
-        read = pandas.read_parquet(self.room.name + "/out.parquet")
+        table, out = self.put("table.csv", TABLE), self.room.name + "/out.parquet"
+        self.rules.batch_file(table, out, "parquet", numbers="micros", keep=["w"], stops="keep", rows_at_once=3)
+        read = pandas.read_parquet(out)
         self.assertEqual((list(read["name"]), list(read["IRN"].fillna(-1))), (["NA", "a, b", 'x "y"', "~"], [1_001_500_000, 0, -1, 8_500_000_000]))
 
     def test_parquet_without_pyarrow(self):
@@ -178,7 +181,8 @@ class OfFiles(Changed):
             rules.write_code(self.room.name + "/a.code")
             codes.append(Rules.from_code(self.room.name + "/a.code"))
         made = compare_file(*codes, self.path, **words).comparison
-        self.assertEqual([(group.name, group.before, group.after) for group in made.groups], [(group.name, group.before, group.after) for group in found.groups])
+        sums = lambda groups: [(group.name, group.before, group.after) for group in groups]
+        self.assertEqual(sums(made.groups), sums(found.groups))
 
     def test_in_parts(self):
         """The same by parts of two households, which are computed in any order."""
@@ -191,12 +195,13 @@ class OfFiles(Changed):
         self.assertEqual((first.getvalue(), whole.gains), (lines.getvalue(), parts.gains))
 
     def test_lines_and_classes(self):
-        """Gains of 0, 100, 150 and 150, of the weights 2, 1, 0.5 and 3; the marginal rates of 1000 more: 100 and then 0 at 1000, 100 and 100 at 2000; at 5000 100
-        and 100, at 7000 too."""
+        """Gains of 0, 100, 150 and 150, of the weights 2, 1, 0.5 and 3; the marginal rates of 1000 more: 100 and then 0 at 1000, 100 and 100 at 2000; at 5000
+        100 and 100, at 7000 too."""
         lines = io.BytesIO()
         found = compare_file(self.before, self.after, self.path, of="TAX", weight="w", by=["region"], step=("1AJ", "1000"), inputs=True, lines=lines)
         self.assertEqual(lines.getvalue().decode().splitlines(), [
-            "name,weight,by,before,after,difference,marginal before,marginal after,region,1AJ", "h0,2,,0,0,0,0.1,0,nord,1000", "h1,1,,100,0,-100,0.1,0.1,sud,2000",
+            "name,weight,by,before,after,difference,marginal before,marginal after,region,1AJ",
+            "h0,2,,0,0,0,0.1,0,nord,1000", "h1,1,,100,0,-100,0.1,0.1,sud,2000",
             "h2,0.5,,450,300,-150,0.1,0.1,sud,5000", "h3,3,,650,500,-150,0.1,0.1,nord,7000", "h4,4,,,,,,,sud,-1",
         ])
         self.assertEqual([weight / 10**6 for weight in found.gains], [0] * 6 + [2, 0, 0, 4.5, 0, 0, 0])
@@ -220,9 +225,11 @@ class OfFiles(Changed):
 
     def test_what_is_refused(self):
         for text, words, line in (
-            ("name,1AJ\na,1\n", {"of": "NONE"}, "NONE is neither a requested value nor a code"), ("name,1AJ,x\n", {}, "these columns are no codes of the rules: x"),
+            ("name,1AJ\na,1\n", {"of": "NONE"}, "NONE is neither a requested value nor a code"),
+            ("name,1AJ,x\n", {}, "these columns are no codes of the rules: x"),
             ("name,1AJ,w\na,1,-1\n", {"weight": "w"}, "the weight of a is below 0"), ("name,1AJ,w\na,1,x\n", {"weight": "w"}, "the weight of a: no amount"),
-            ("name,1AJ\n", {"weight": "w"}, "has no column w"), ("name,1AJ\n", {"by": ["tenth:AGE"]}, "by: AGE is neither"), ("name,1AJ\n", {"by": ["dep"]}, "has no column dep"),
+            ("name,1AJ\n", {"weight": "w"}, "has no column w"), ("name,1AJ\n", {"by": ["tenth:AGE"]}, "by: AGE is neither"),
+            ("name,1AJ\n", {"by": ["dep"]}, "has no column dep"),
             ("name,1AJ,w\na,1,y\n", {"by": ["tenth:w"]}, "what orders of a: no amount"), ("name,1AJ\n", {"step": ("9ZZ", "1")}, "--step: 9ZZ is no code"),
             ("name,1AJ\n", {"step": ("1AJ", "0")}, "--step: an amount above 0"), ("name,1AJ\na,1\nb,x\n", {}, "refused household line 3: bad amount"),
             ("name,1AJ,g\n" + "".join(f"a,1,{k}\n" for k in range(12)), {"by": ["g"]}, "more than 10 groups"),

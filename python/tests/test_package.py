@@ -103,7 +103,8 @@ class Wheels(unittest.TestCase):
         folder = self.unpacked(backend(self.package).build_wheel(self.room))
         with open(f"{folder}/vodmejka-{vodmejka.__version__}.dist-info/METADATA", encoding="utf-8") as file:
             heads, _, text = file.read().partition("\n\n")
-        for line in ("Version: 1.0.0", "Requires-Python: >=3.10", "Keywords: income tax,microsimulation,M,France", "Classifier: Operating System :: POSIX :: Linux", "Description-Content-Type: text/markdown"):
+        for line in ("Version: 1.0.0", "Requires-Python: >=3.10", "Keywords: income tax,microsimulation,M,France",
+                     "Classifier: Operating System :: POSIX :: Linux", "Description-Content-Type: text/markdown"):
             self.assertIn(line, heads.split("\n"))
         self.assertTrue(text.startswith("# vodmejka\n"))
 

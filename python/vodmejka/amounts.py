@@ -1,7 +1,6 @@
 """Amounts as whole numbers of millionths."""
 from __future__ import annotations
 
-import math
 import re
 from fractions import Fraction
 
@@ -9,7 +8,6 @@ from . import limits
 from .errors import Failed
 
 UNIT = 1_000_000
-HALF = Fraction(1, 2)
 MOST = limits.AMOUNT * UNIT
 AMOUNT = re.compile(r"(-?)([0-9]+)(?:\.([0-9]{1,6}))?")
 
@@ -26,8 +24,14 @@ def amount(text: str) -> int:
     return -millionths if match[1] else millionths
 
 
+def rounded(number: int, parts: int) -> int:
+    """The whole number nearest to a number of parts, halves away from zero."""
+    size = (2 * abs(number) + parts) // (2 * parts)
+    return size if number >= 0 else -size
+
+
 def plain(value: int | Fraction) -> str:
     """An amount or a fraction of millionths in whole ones, halves away from zero."""
-    size = abs(value) if isinstance(value, int) else math.floor(abs(value) + HALF)
+    size = abs(rounded(value.numerator, value.denominator))
     sign = "-" if value < 0 and size else ""
     return sign + (f"{size // UNIT}.{size % UNIT:06}".rstrip("0").rstrip("."))

@@ -6,8 +6,9 @@ import io
 import re
 from typing import NamedTuple
 
-from . import records, source
+from . import source
 from .limits import FILE_BYTES
+from .program import csv_text
 
 EXPECTED = re.compile(r"-?[0-9]+(?:\.[0-9]+)?|undefined|over|stop|")
 MARK = "\u00ef\u00bb\u00bf"  # a byte order mark, in Latin-1
@@ -54,4 +55,4 @@ class CaseTable:
 
     def households(self, rows: list[Row]) -> bytes:
         """A table of households for `batch`."""
-        return records.spelled([["name", *self.codes], *([row.label, *row.fields] for row in rows)]).encode("latin-1")
+        return csv_text([["name", *self.codes], *([row.label, *row.fields] for row in rows)]).encode("latin-1")

@@ -112,9 +112,3 @@ def without(numbers: list[int], places: Mapping[int, str]) -> list[int]:
         for at in places:
             numbers[at] = 0
     return numbers
-
-
-def rounded(number: int, parts: int) -> int:
-    """The whole number nearest to a number of parts, halves away from zero."""
-    size = (2 * abs(number) + parts) // (2 * parts)
-    return size if number >= 0 else -size

@@ -10,9 +10,9 @@ from dataclasses import dataclass, field
 from typing import Iterable, Mapping, Sequence
 
 from . import records
-from .amounts import UNIT
+from .amounts import UNIT, rounded
 from .answers import LABEL
-from .columns import INPUTS, MICROS, PLAIN, Reasons, inputs, numbers, rounded, sums, values, without
+from .columns import INPUTS, MICROS, PLAIN, Reasons, inputs, numbers, sums, values, without
 from .errors import Failed, Refused
 from .expressions import Expression
 from .groups import Group, Rows, by_label, merged

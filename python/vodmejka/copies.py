@@ -6,6 +6,7 @@ import os
 import re
 import subprocess
 import tempfile
+from typing import IO, Iterable
 
 from . import runs, source
 from .endings import Wrong
@@ -21,16 +22,13 @@ class Stopped(Exception):
         self.line, self.text = line, text
 
 
-class Copies:
-    """The copies. `household` and `driver` are bytes; without a driver the rules are called once."""
+class RuleCopies:
+    """Copies of rule files in a folder, with a list of them; `names` has the name of each file by the path of its copy."""
 
-    def __init__(self, rules: Rules, household: bytes, room: str, driver: bytes | None = None):
-        self.room, self.names = room, {}
-        for number, (name, content) in enumerate(rules.contents, 1):
-            self.names[self.put(f"rules-{number:06}.m", content)] = name
-        self.list = self.put("rules.list", os.fsencode("\n".join([rules.application, *self.names, ""])))
-        self.household = self.put("household.csv", household)
-        self.driver = "-" if driver is None else self.put("driver.mpp", driver)
+    def __init__(self, application: str, contents: Iterable[tuple[str, bytes]], room: str):
+        self.room, self.application = room, application
+        self.names = {self.put(f"rules-{number:06}.m", content): name for number, (name, content) in enumerate(contents, 1)}
+        self.list = self.list_of(self.names)
 
     def put(self, name: str, content: bytes) -> str:
         """Writes a file of the folder."""
@@ -38,18 +36,29 @@ class Copies:
         source.put(path, content)
         return path
 
+    def list_of(self, paths: Iterable[str], name: str = "rules.list") -> str:
+        """Writes a list of rule files."""
+        return self.put(name, os.fsencode("\n".join([self.application, *paths, ""])))
+
     def told(self, line: str) -> str:
         """A line of the program, with the names of the files as they are."""
         return re.sub(re.escape(self.room) + r"/rules-[0-9]{6}\.m\b", lambda match: self.names.get(match[0], match[0]), line)
 
+
+class Copies(RuleCopies):
+    """Copies of rules, a household and a driver. `household` and `driver` are bytes; without a driver the rules are called once."""
+
+    def __init__(self, rules: Rules, household: bytes, room: str, driver: bytes | None = None):
+        super().__init__(rules.application, rules.contents, room)
+        self.household = self.put("household.csv", household)
+        self.driver = "-" if driver is None else self.put("driver.mpp", driver)
+
     def ask(self, *words: str, given: bytes | None = None) -> tuple[bytes, int]:
         """What the program prints to these words, and its status; `given` is its standard input."""
-        try:
-            with contextlib.ExitStack() as stack:
-                stdin = subprocess.DEVNULL if given is None else stack.enter_context(open(self.put("input", given), "rb"))
-                return runs.printed(*words, stdin=stdin)
-        except OSError as fault:
-            raise Wrong(f"{runs.program_path()}: {fault.strerror}", 3) from fault
+        if given is None:
+            return printed(*words)
+        with open(self.put("input", given), "rb") as stdin:
+            return printed(*words, stdin=stdin)
 
     def values(self, cells: list[str], driver: str | None = None, household: str | None = None) -> dict[str, str]:
         """The values of cells after a run, as the program prints them: `= 3`, `undefined` or `over`."""
@@ -61,10 +70,10 @@ class Copies:
         if status != 0:
             line = self.told(runs.fault_of(text, status))
             raise Wrong(said("why.no_name", line=line) if line.startswith("refused requests line") else line, 3 if status == 3 else 1)
-        printed = lines[:-1][-len(cells) :] if cells else []
-        if [line.split(" ")[0] for line in printed] != cells:
+        values = lines[:-1][-len(cells) :] if cells else []
+        if [line.split(" ")[0] for line in values] != cells:
             raise Wrong(said("why.no_lines"))
-        return dict(line.split(" ", 1) for line in printed)
+        return dict(line.split(" ", 1) for line in values)
 
     def reported(self, cell: str) -> dict[str, str]:
         """The report of a cell by a session, also if a verification stops the call; nothing if no cell has the name."""
@@ -77,6 +86,14 @@ class Copies:
     def value_unstopped(self, cell: str) -> str | None:
         """The value of a cell after one call of the rules, also if a verification stops that call; nothing if no cell has the name."""
         return self.reported(cell).get(cell)
+
+
+def printed(*words: str, stdin: int | IO[bytes] = subprocess.DEVNULL, folder: str | None = None) -> tuple[bytes, int]:
+    """What the program prints to these words, perhaps in a folder, and its status. Where it can't be started the command ends."""
+    try:
+        return runs.printed(*words, stdin=stdin, folder=folder)
+    except OSError as fault:
+        raise Wrong(f"{runs.program_path()}: {fault.strerror}", 3) from fault
 
 
 def text_of_error(lines: list[str]) -> str:

@@ -1,10 +1,9 @@
 """The page of `coverage`: how much is reached, what isn't, and the sources with marks."""
 from __future__ import annotations
 
-import os
-
 from . import marks, plain_pages
 from .coverage import Coverage, percent_of
+from .places import shown_name
 from .plain_pages import escaped
 from .texts import said
 
@@ -12,18 +11,13 @@ CLASSES = {marks.WHOLE: "whole", marks.PART: "part", marks.NONE: "none"}
 
 
 def page(followed: Coverage, excepted: set[str], words: list[str], households: int) -> str:
-    title = said("coverage.title", list=shown(words[0]))
+    title = said("coverage.title", list=shown_name(words[0]))
     paths = list(followed.contents)
     numbers = {path: k for k, path in enumerate(paths, 1)}
-    body = [summary(followed, excepted), f"<p>{escaped(said('coverage.by', tables=', '.join(map(shown, words[2:]))))}</p>",
+    body = [summary(followed, excepted), f"<p>{escaped(said('coverage.by', tables=', '.join(map(shown_name, words[2:]))))}</p>",
             f"<h2>{escaped(said('coverage.missing'))}</h2>", missing(followed, excepted, numbers), f"<p>{escaped(said('coverage.legend'))}</p>"]
     body += [sheet(followed, path, excepted, numbers[path]) for path in paths]
     return plain_pages.page(title, "\n".join(body))
-
-
-def shown(name: str) -> str:
-    """A file's name as text."""
-    return os.fsencode(name).decode("utf-8", "replace")
 
 
 def summary(followed: Coverage, excepted: set[str]) -> str:
@@ -53,7 +47,7 @@ def sheet(followed: Coverage, path: str, excepted: set[str], number: int) -> str
         mark = f"{state} " if state else "  "
         kind = f" {CLASSES[state]}" if state else ""
         lines.append(f'<span class="line{kind}" id="f{number}l{line}"><span class="no">{mark}{line}</span>{underlined(text, begin, missed)}</span>')
-    return f"<h2>{escaped(shown(followed.paths[path]))}</h2>\n<pre class=\"sheet\">{''.join(lines)}</pre>"
+    return f"<h2>{escaped(shown_name(followed.paths[path]))}</h2>\n<pre class=\"sheet\">{''.join(lines)}</pre>"
 
 
 def underlined(line: bytes, begin: int, missed: list[tuple[int, int]]) -> str:

@@ -100,7 +100,7 @@ class Trace:
             kind = command.said[0]
             if kind in ("set", "del", "call"):
                 for cell in command.said[1] if kind == "call" else [command.said[1]]:
-                    head = Event(spelled(cell), command, before, head, where)
+                    head = Event(drivers.cell_name(cell), command, before, head, where)
                 before = [*before, "  " + command.text]
             elif kind == "partition":
                 head = self.partition(command, before, head, where)
@@ -142,11 +142,6 @@ class Trace:
     def after(self, event: Event) -> list[str]:
         """The run as far as the end of an event's command."""
         return [*event.before, "  " + event.command.text]
-
-
-def spelled(cell: tuple) -> str:
-    name, index = cell
-    return name if index is None else f"{name}[{index}]"
 
 
 def cells_of(command: Command) -> list[str]:

@@ -36,6 +36,12 @@ class Line(NamedTuple):
     tokens: list
 
 
+def cell_name(cell):
+    """The name of a cell from its parse, a variable and an index or None: `T[3]` of ("T", 3)."""
+    name, index = cell
+    return name if index is None else f"{name}[{index}]"
+
+
 class LineReader(grammar.Reader):
     """The parse of one line: (`function`, name), (`if`,), (`else`,), (`partition`,), (`set`, cell), (`del`, cell) or (`call`, cells, name). `cells` and
     `kinds` are those anywhere in it."""

@@ -3,12 +3,13 @@
 All comes from copies of the files that were read once. What the program refuses is refused with its line.
 """
 import hashlib
-import os
 import re
 import tempfile
 
 from . import origins, passages, reasons, runs, source, trees
+from .copies import RuleCopies
 from .endings import Wrong
+from .places import shown_name
 
 REQUESTS = 100_000
 
@@ -17,17 +18,17 @@ class Refusal(Wrong):
     """What the program refuses, in its line, with the status that it has."""
 
 
-class Files:
-    """The files of a source, copied into a folder, and their names."""
+class Files(RuleCopies):
+    """The files of a source, copied into a folder. `contents` has the name and the digest of each."""
 
     def __init__(self, words, room, asked):
-        self.room, self.names, self.contents = room, {}, []
-        application, rules = source.read_list(words[0])
-        self.application = application
+        application, names = source.read_list(words[0])
+        self.contents = []
         self.note(words[0], source.fetch(words[0]))
-        for name, content in zip(rules, source.fetch_rules(rules)):
+        rules = list(zip(names, source.fetch_rules(names)))
+        for name, content in rules:
             self.note(name, content)
-            self.names[self.put(f"rules-{len(self.names) + 1:06}.m", content)] = name
+        super().__init__(application, rules, room)
         self.driver = None if words[1] == "-" else source.fetch(words[1])
         self.requests = None if words[2] == "-" else source.fetch(words[2])
         for name, content in zip(words[1:], (self.driver, self.requests)):
@@ -35,24 +36,11 @@ class Files:
                 self.note(name, content)
         if asked is not None:
             self.requests = "".join(name + "\n" for name in asked).encode()
-        self.list = self.list_of(self.names)
         more = (("driver", self.driver), ("requests", self.requests))
         self.words = [self.list, *("-" if content is None else self.put(name, content) for name, content in more)]
 
     def note(self, name, content):
         self.contents.append((name, hashlib.sha256(content).hexdigest()))
-
-    def put(self, name, content):
-        path = os.path.join(self.room, name)
-        source.put(path, content)
-        return path
-
-    def list_of(self, paths, name="rules.list"):
-        return self.put(name, os.fsencode("\n".join([self.application, *paths, ""])))
-
-    def told(self, line):
-        """A line of the program, with the names of the files as they are."""
-        return re.sub(re.escape(self.room) + r"/rules-[0-9]{6}\.m\b", lambda match: self.names.get(match[0], match[0]), line)
 
     def compiled(self, *words):
         """The code file of a source."""
@@ -154,9 +142,9 @@ class Law:
             "variables": dict(self.variables()),
             "errors": dict(error for passages in self.passages.values() for error in passages.errors()),
             "pure": self.is_pure(),
-            "places": [[shown(self.files.names[path]), passages.heading()] for path, passages in self.passages.items()],
+            "places": [[shown_name(self.files.names[path]), passages.heading()] for path, passages in self.passages.items()],
             "origins": {name: self.origins.of(name) for name in self.asked} if self.origins else {},
-            "files": [[shown(name), digest] for name, digest in self.files.contents],
+            "files": [[shown_name(name), digest] for name, digest in self.files.contents],
             "digest": hashlib.sha256(self.code.encode("latin-1")).hexdigest(),
         }
 
@@ -173,7 +161,8 @@ class Law:
         return [name, formulas[key][0], self.trees[name]]
 
     def variables(self):
-        """The variables of the form and of the cells: kind, description, file, line, code, type, a constant's number, attributes, comments; without empty ends."""
+        """The variables of the form and of the cells: kind, description, file, line, code, type, a constant's number, attributes, comments; without empty
+        ends."""
         needed = {cell.split("[")[0] for cell in [*self.places, *self.asked]}
         for file in self.base.files:
             for variable in file.variables:
@@ -181,12 +170,8 @@ class Law:
                     continue
                 description, word, number, comments = self.passages[file.name].declaration(variable.byte)
                 attributes = [*variable.words, *(f"{name} = {value}" for name, value in variable.numbers.items())]
-                said = [variable.kind, description, self.numbers[file.name], file.lines.number(variable.byte), variable.code, word, number, attributes, comments]
+                place = [self.numbers[file.name], file.lines.number(variable.byte)]
+                said = [variable.kind, description, *place, variable.code, word, number, attributes, comments]
                 while not said[-1]:
                     said.pop()
                 yield variable.name, said
-
-
-def shown(name):
-    """A file's name as text."""
-    return os.fsencode(name).decode("utf-8", "replace")

@@ -16,17 +16,12 @@ class Command:
     def cells(self):
         """The cells that the command sets."""
         if self.said[0] == "call":
-            return [written(cell) for cell in self.said[1]]
-        return [written(self.said[1])] if self.said[0] in ("set", "del") else []
+            return [drivers.cell_name(cell) for cell in self.said[1]]
+        return [drivers.cell_name(self.said[1])] if self.said[0] in ("set", "del") else []
 
     def is_sure(self):
         """Whether the command is done each time that its function is."""
         return not any(said[0] in ("if", "else") for _, said, _ in self.blocks)
-
-
-def written(cell):
-    name, index = cell
-    return name if index is None else f"{name}[{index}]"
 
 
 class Origins:
@@ -87,7 +82,7 @@ class Origins:
         """The cells that an assignment reads."""
         reader = drivers.LineReader(command.line.tokens)
         reader.line()
-        return [written(cell) for cell in reader.cells[1:]]
+        return [drivers.cell_name(cell) for cell in reader.cells[1:]]
 
     def is_variable(self, cell):
         return cell.split("[")[0] in self.variables

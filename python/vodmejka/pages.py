@@ -1,12 +1,11 @@
 """Pages for people: the modules of web/ joined into one script, and with the style, the sentences and the rules into one file."""
-import base64
-import hashlib
 import html
 import json
 import os
 import re
 
 from . import source
+from .plain_pages import digest
 
 HERE = os.path.dirname(os.path.realpath(__file__))
 FOLDERS = (os.path.join(HERE, "web"), os.path.join(os.path.dirname(os.path.dirname(HERE)), "web"))
@@ -17,6 +16,7 @@ POLICY = (
     "require-trusted-types-for 'script'"
 )
 MAIN = "main"
+STYLES = ("page.css", "result.css", "media.css")  # the form, the result, and narrow screens and paper, in the order of their rules
 
 
 class BadModule(Exception):
@@ -75,10 +75,6 @@ def in_script(data):
     return json.dumps(data, ensure_ascii=False, separators=(",", ":")).replace("<", "\\u003c").replace("\u2028", "\\u2028").replace("\u2029", "\\u2029")
 
 
-def digest(text):
-    return base64.b64encode(hashlib.sha256(text.encode("utf-8")).digest()).decode()
-
-
 def sentences_of(language):
     return json.loads(fetch("texts.json"))[language]
 
@@ -91,7 +87,7 @@ def page(data, title, language):
     """The page with some data."""
     sentences = sentences_of(language)
     data = {**data, "language": language, "sentences": sentences}
-    style, script = fetch("page.css"), Joined().script
+    style, script = "".join(map(fetch, STYLES)), Joined().script
     policy = POLICY.format(script=digest(script), style=digest(style))
     plain = {"language": language, "policy": policy, "title": title, "lead": sentences["lead"], "no-script": sentences["no-script"]}
     put_in = {**{key: html.escape(text) for key, text in plain.items()}, "style": style, "script": script, "data": in_script(data)}

@@ -1,6 +1,7 @@
 """Places in files: the line with a caret under the byte, and the records of a household."""
 from __future__ import annotations
 
+import os
 import re
 import unicodedata
 from typing import Iterable, Iterator, Sequence
@@ -26,6 +27,11 @@ def shown(text: str) -> Iterator[tuple[str, str]]:
             yield "\ufffd", " "
         else:
             yield letter, "  " if unicodedata.east_asian_width(letter) in "WF" else " "
+
+
+def shown_name(name: str) -> str:
+    """A file's name as a text, with a sign for each byte that is none."""
+    return os.fsencode(name).decode("utf-8", "replace")
 
 
 def decode(line: bytes) -> str:

@@ -17,6 +17,7 @@ HIDDEN = re.compile("[\x00-\x08\x0b-\x1f\x7f\u061c\u200b\u200e\u200f\u202a-\u202
 
 @functools.lru_cache(maxsize=16)
 def digest(text: str) -> str:
+    """The digest by which a policy names a script or a style."""
     return base64.b64encode(hashlib.sha256(text.encode("utf-8")).digest()).decode()
 
 

@@ -1,8 +1,6 @@
 """What the tools know of tables of households and of the answers to them: the records of a table, as the program reads them, and the lines of `batch`."""
 from __future__ import annotations
 
-import csv
-import io
 import mmap
 import os
 import re
@@ -51,16 +49,6 @@ def unquoted(field: bytes) -> bytes:
     """The content of a field of a record."""
     match = QUOTED.match(field)
     return match[1].replace(b'""', b'"') + field[match.end() :] if match else field
-
-
-def spelled(rows: Iterable[Iterable[object]]) -> str:
-    """Rows as csv. A carriage return in a field is quoted by every version of Python where lines end with one too."""
-    for end in ("\n", "\r\n"):
-        out = io.StringIO(newline="")
-        csv.writer(out, lineterminator=end).writerows(rows)
-        if "\r" not in out.getvalue():
-            break
-    return out.getvalue()
 
 
 def unlike_a_formula(text: bytes) -> bytes:
@@ -177,22 +165,27 @@ def strange(text: Text, at: int) -> Strange:
     return Strange(f"line {number} or one of the same household isn't what batch prints there: {line}")
 
 
+class Forms:
+    """The forms of a household's lines with values of some names: `whole` that of all lines, where the names are few, and `parts` those of the values."""
+
+    def __init__(self, names: list[bytes]):
+        self.names, self.parts = names, values_of(names)
+        self.whole = whole_form(names) if len(names) <= AT_ONCE else None
+
+
 def read_answer(path: str, names: list[bytes] | None = None) -> tuple[list[bytes], list[bytes] | None, int]:
     """The labels of an answer of `batch`, the names of its values, where they aren't given, and how many households stopped. Each household has its notes
     and then a line for each name, in one order, or a stop and nothing else."""
     labels: list[bytes] = []
     stops = 0
+    forms = None if names is None else Forms(names)
     with open(path, "rb") as file:
         if os.fstat(file.fileno()).st_size == 0:
             return labels, names, stops
         with mmap.mmap(file.fileno(), 0, access=mmap.ACCESS_READ) as text:
             at = 0
-            forms: list[re.Pattern[bytes]] | None = None
-            whole: re.Pattern[bytes] | None = None
             while at < len(text):
-                if whole is None and names is not None:
-                    forms, whole = values_of(names), whole_form(names if len(names) <= AT_ONCE else [])
-                found = whole.match(text, at) if whole is not None and names is not None and len(names) <= AT_ONCE else None
+                found = forms.whole.match(text, at) if forms is not None and forms.whole is not None else None
                 if found:
                     labels.append(found[1])
                     stops += found[2] is not None
@@ -202,23 +195,26 @@ def read_answer(path: str, names: list[bytes] | None = None) -> tuple[list[bytes
                 if head is None:
                     raise strange(text, at)
                 labels.append(head[1])
-                at = head.end()
-                stop = STOP.match(text, at)
+                stop = STOP.match(text, head.end())
                 if stop:
                     stops += 1
                     at = stop.end()
                     continue
-                notes = NOTES.match(text, at)
-                at = at if notes is None else notes.end()
-                if forms is None:
-                    names = names_at(text, at)
-                    forms, whole = values_of(names), whole_form(names if len(names) <= AT_ONCE else [])
-                for form in forms:
-                    found = form.match(text, at)
-                    if found is None:
-                        raise strange(text, at)
-                    at = found.end()
-    return labels, names, stops
+                at, forms = end_of_values(text, head.end(), forms)
+    return labels, names if forms is None else forms.names, stops
+
+
+def end_of_values(text: Text, at: int, forms: Forms | None) -> tuple[int, Forms]:
+    """Where the notes and values of a household that isn't stopped end, and the forms of the values; where none are given, those of the names here."""
+    notes = NOTES.match(text, at)
+    at = at if notes is None else notes.end()
+    forms = forms or Forms(names_at(text, at))
+    for form in forms.parts:
+        found = form.match(text, at)
+        if found is None:
+            raise strange(text, at)
+        at = found.end()
+    return at, forms
 
 
 def names_at(text: Text, at: int) -> list[bytes]:

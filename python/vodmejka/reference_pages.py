@@ -3,11 +3,11 @@ from __future__ import annotations
 
 import hashlib
 import json
-import os
 from typing import Iterator
 
 from . import pictures, plain_pages
 from .articles import Article, linked
+from .places import shown_name
 from .plain_pages import escaped, table
 from .reference import Check, Formula, Piece, Reference
 from .texts import said
@@ -31,10 +31,6 @@ def file_of(name: str) -> str:
     return f"v/{short}.html"
 
 
-def shown(name: str) -> str:
-    return os.fsencode(name).decode("utf-8", "replace")
-
-
 class Pages:
     """The pages of a reference by their files."""
 
@@ -52,9 +48,9 @@ class Pages:
         for name in self.reference.variables:
             yield file_of(name), self.variable(name)
         for path, file in self.sources.items():
-            yield file, self.source(shown(self.reference.names[path]), self.reference.files[path].bytes)
+            yield file, self.source(shown_name(self.reference.names[path]), self.reference.files[path].bytes)
         if self.reference.driver is not None and self.driver is not None:
-            yield "driver.html", self.source(shown(self.driver), self.reference.driver, "")
+            yield "driver.html", self.source(shown_name(self.driver), self.reference.driver, "")
 
     # ---- pieces of pages
 
@@ -78,7 +74,7 @@ class Pages:
         return "".join(self.link(piece.name, up, piece.text) if piece.name else escaped(piece.text) for piece in pieces)
 
     def place(self, path: str, line: int, up: str) -> str:
-        name = shown(self.reference.names[path])
+        name = shown_name(self.reference.names[path])
         return f'<a href="{up}{self.sources[path]}#l{line}">{escaped(said("doc.place", file=name, line=line))}</a>'
 
     def comment(self, comments: list[str]) -> str:
@@ -104,9 +100,9 @@ class Pages:
         reference = self.reference
         rows = [[f'<a href="{kind}.html">{escaped(said(f"doc.{kind}"))}</a>', str(len(self.kinds(kind)))] for kind in LISTS]
         rows.append([f'<a href="verifications.html">{escaped(said("doc.verifications"))}</a>', str(len(reference.checks))])
-        files = [f'<li><a href="{file}">{escaped(shown(reference.names[path]))}</a></li>' for path, file in self.sources.items()]
+        files = [f'<li><a href="{file}">{escaped(shown_name(reference.names[path]))}</a></li>' for path, file in self.sources.items()]
         if self.driver is not None:
-            files.append(f'<li><a href="driver.html">{escaped(shown(self.driver))}</a></li>')
+            files.append(f'<li><a href="driver.html">{escaped(shown_name(self.driver))}</a></li>')
         data = [[name, variable.code or "", reference.description(name), file_of(name)] for name, variable in reference.variables.items()]
         written = json.dumps(data, ensure_ascii=False, separators=(",", ":")).replace("<", "\\u003c")
         written = written.encode("utf-8", "replace").decode("utf-8")

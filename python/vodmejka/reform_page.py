@@ -48,7 +48,8 @@ def page(words, found, step, heads, lines):
     of, is_given = html.escape(words.of), words.more_is_gain or words.less_is_gain
     gain = said("reform.more_gain" if sign > 0 else "reform.less_gain" if is_given else "reform.less_taken")
     code = lambda text: f"<code>{html.escape(text)}</code>"
-    sums = {key: f"<b id={key}>{plain(sum_)}</b>" for key, sum_ in (("before", whole.before), ("after", whole.after), ("difference", whole.after - whole.before))}
+    amounts = {"before": whole.before, "after": whole.after, "difference": whole.after - whole.before}
+    sums = {key: f"<b id={key}>{plain(amount)}</b>" for key, amount in amounts.items()}
     parts = [
         f"<!doctype html><html lang={Language.name}><meta charset=utf-8><title>{said('reform.title')}</title>",
         "<style>body{font:15px/1.5 sans-serif;max-width:60em;margin:2em auto;padding:0 1em}table{border-collapse:collapse;font-size:13px}",

@@ -6,6 +6,7 @@ from decimal import Decimal
 from fractions import Fraction
 from typing import Iterable, Iterator, Mapping, NamedTuple, Sequence, Union
 
+from .amounts import rounded
 from .answers import Answer, Over, Stop, Value
 from .bar_pictures import Picture
 from .errors import Broken, Refused, Stopped
@@ -162,9 +163,7 @@ def with_amount(household: Mapping[str, Given], code: str, amount: Decimal) -> d
 
 def exact(amount: Fraction) -> Decimal:
     """A number of millionths as a decimal; a part of a millionth is rounded, halves away from zero."""
-    whole = abs(amount)
-    rounded = (2 * whole.numerator + whole.denominator) // (2 * whole.denominator)
-    made = Decimal(rounded if amount >= 0 else -rounded).scaleb(-6)
+    made = Decimal(rounded(amount.numerator, amount.denominator)).scaleb(-6)
     return made.quantize(Decimal(1)) if made == made.to_integral_value() else made.normalize()
 
 

@@ -41,7 +41,8 @@ PHRASES = {
     "a : is missing at the end": "un : manque à la fin",
     "a ) may be missing": "une ) manque peut-être",
     "a formula has one =": "une formule a un seul =",
-    "a formula stands in a rule: regle 10 : application : iliad ; before it": "une formule se trouve dans une règle : regle 10 : application : iliad ; devant elle",
+    "a formula stands in a rule: regle 10 : application : iliad ; before it":
+        "une formule se trouve dans une règle : regle 10 : application : iliad ; devant elle",
     "an error has four texts or five": "une erreur a quatre ou cinq textes",
     "a hard blank or another that isn't plain: write a plain one": "une espace insécable ou d'une autre sorte : écrivez une espace ordinaire",
     'texts stand in " ", and a comment begins with #': 'les textes se trouvent entre " ", et un commentaire commence par #',
@@ -125,7 +126,8 @@ TEXTS = {
         "non examiné, car des éléments ne peuvent pas être lus : les déclarations, les noms, et le pilote au-delà de ses lignes"),
     "help.others": (
         "not looked at, m_tax compile tells these: ranges and sizes of loops, cycles, numbers of cells and parts, costs, requests",
-        "non examiné, m_tax compile le dit : les intervalles et les tailles des boucles, les cycles, les nombres de cases et d'éléments, les coûts, les demandes"),
+        "non examiné, m_tax compile le dit : les intervalles et les tailles des boucles, les cycles, les nombres de cases et d'éléments, les coûts, "
+        "les demandes"),
     "help.no_option": ("{word} is no option; see --help", "{word} n'est pas une option ; voir --help"),
     "help.words": ("words: explain --all LIST [DRIVER]; see --help", "mots : explain --all LISTE [PILOTE] ; voir --help"),
 }

@@ -14,8 +14,8 @@ if TYPE_CHECKING:
 class Why:
     """The report of a value: the values that it needs, each after those that it was computed from; the last one is the requested value.
 
-    `values` has them by the names of the cells, `report` the lines as the program printed them, which its command `check` takes. `digests` are those of the source and of the
-    program.
+    `values` has them by the names of the cells, `report` the lines as the program printed them, which its command `check` takes. `digests` are those of the
+    source and of the program.
     """
 
     def __init__(self, lines: list[str], rules: Callable[[], reasons.Rules], digests: tuple[str, str]):

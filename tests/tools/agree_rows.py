@@ -1,5 +1,5 @@
-"""Compares the grammar of tools/ with what the program prints for the worked rows: of each rule file that the program accepts the library finds no fault of bytes, tokens
-or grammar, and of one that it rejects for such a fault the library finds one, there or farther on. agree_rows.py ROOT"""
+"""Compares the grammar of tools/ with what the program prints for the worked rows: of each rule file that the program accepts the library finds no fault of
+bytes, tokens or grammar, and of one that it rejects for such a fault the library finds one, there or farther on. agree_rows.py ROOT"""
 import os
 import re
 import sys

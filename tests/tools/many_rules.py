@@ -1,5 +1,5 @@
-"""A base of 20,000 rules, and the time of the tools on it: the seconds of the processor compared with those of a fixed piece of work on the same machine, since a
-clock depends on what else runs. On a machine on which nothing else runs the work takes about half a second, so six times as much is 3 s."""
+"""A base of 20,000 rules, and the time of the tools on it: the seconds of the processor compared with those of a fixed piece of work on the same machine, since
+a clock depends on what else runs. On a machine on which nothing else runs the work takes about half a second, so six times as much is 3 s."""
 import os
 import subprocess
 import sys

@@ -1,8 +1,8 @@
 """Runs the commands of a section of a page, and compares: page_lines.py PAGE HEADING [OTHER HEADING]
 
 Each command is in a block of its own. A block after it has all that it prints, and what the text cites between it and the next command, as
-`CHR 0 to 9` or `never stops 1 A01` or `depends CHR 1AJ`, is one of the lines that it prints. Prints a line for each command, and what isn't so. With OTHER, a page in another
-language, its section must have the same blocks and cite the same lines.
+`CHR 0 to 9` or `never stops 1 A01` or `depends CHR 1AJ`, is one of the lines that it prints. Prints a line for each command, and what isn't so. With OTHER,
+a page in another language, its section must have the same blocks and cite the same lines.
 """
 import os
 import re

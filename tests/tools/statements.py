@@ -11,8 +11,9 @@ sys.path.insert(0, os.path.join(ROOT, "python"))
 from vodmejka import items, loops, reserved, scanning, shapes, tokens  # noqa: E402
 
 COUNT, SEED = 400, 7
-PIECES = [b";", b":", b"=", b"(", b")", b"[", b"]", b",", b"..", b"si", b"alors", b"finsi", b"non", b"dans", b"et", b"regle", b"verif", b"pour", b"un", b"somme",
-          b"max", b"X", b"i", b"Abc", b"A01", b"12", b"1.5", b"1234567890", b"\xe9", b'"', b"#", b"-", b"/", b"<", b"<=", b"erreur", b"application", b"enchaineur"]
+PIECES = [b";", b":", b"=", b"(", b")", b"[", b"]", b",", b"..", b"si", b"alors", b"finsi", b"non", b"dans", b"et", b"regle", b"verif", b"pour", b"un",
+          b"somme", b"max", b"X", b"i", b"Abc", b"A01", b"12", b"1.5", b"1234567890", b"\xe9", b'"', b"#", b"-", b"/", b"<", b"<=", b"erreur", b"application",
+          b"enchaineur"]
 MORE = b"""
 pour i = V,C : NETi = somme(j=01..03: AB * j) + max(0, min(iV, CD)) ;  pour i=1..2;j=A,B : ZijZ = 1 ;
 pour un i dans (V,C) et un j dans 1..2 : iV = T1[j] + T1[IX+1] ;
@@ -25,8 +26,9 @@ KINDS = {"FORMULA": ["A = B + -C * 2 ;", "T[X] = X ;", "T[3] = max(A, (B)) ;", "
          "HEAD": ["regle 1 : application : iliad , batch ;", "verif primitive 12 : application : iliad ;"],
          "DECLARATION": ["K : const = -1.5 ;", 'A : saisie revenu classe = -1 alias A1 : "a" type REEL ;', 'T : tableau[3] calculee base : "t" ;',
                          'E : anomalie : "A" : "1" : "0" : "t" ;'],
-         "OTHER": ["A = B < C < D ;", "A = non non B ;", "A = - - B ;", "A = B(C) ;", "A = X[1] ;", "A = max(B) ;", "A = abs(B, C) ;", "A = B dans (C + 1) ;", "A = ;",
-                   "A[1.5] = 1 ;", "T[1234567890] = 1 ;", "a : const = 1 ;", "K : const = B ;", 'E : anomalie : "A" : "1" : "0" ;', "regle 1.5 : application : iliad ;",
+         "OTHER": ["A = B < C < D ;", "A = non non B ;", "A = - - B ;", "A = B(C) ;", "A = X[1] ;", "A = max(B) ;", "A = abs(B, C) ;", "A = B dans (C + 1) ;",
+                   "A = ;", "A[1.5] = 1 ;", "T[1234567890] = 1 ;", "a : const = 1 ;", "K : const = B ;", 'E : anomalie : "A" : "1" : "0" ;',
+                   "regle 1.5 : application : iliad ;",
                    "A = si B alors C sinon D ;", "si A alors erreur ;", "A = (B)) ;", "A = ((B) ;", "A = B C ;"]}
 
 
@@ -67,7 +69,8 @@ def main():
             print(f"differs: {content!r}")
         if any([*loops.reads_of(one.term, one.loops)] != [*one.reads()] for one in reader.formulas):
             print(f"other reads: {content!r}")
-    print(f"{differ} of {COUNT} differ; {'some' if faulty > COUNT / 4 else 'few'} have faults; {'most' if quick > COUNT / 2 else 'few'} have formulas that were recognized")
+    print(f"{differ} of {COUNT} differ; {'some' if faulty > COUNT / 4 else 'few'} have faults; "
+          f"{'most' if quick > COUNT / 2 else 'few'} have formulas that were recognized")
 
 
 main()

@@ -51,7 +51,8 @@ def help_of(name: str) -> str:
 def overview(names: list[str], day: str) -> str:
     """The page of `vodmejka` itself."""
     lines = [head("VODMEJKA", day), ".SH NAME", "vodmejka \\- tools for rules of the French income tax in M",
-             ".SH SYNOPSIS", ".B vodmejka", ".I COMMAND WORD ..", ".SH DESCRIPTION", "Each command tells its words by", ".BR \\-\\-help ,", "and has a page of its own.", ".SH COMMANDS"]
+             ".SH SYNOPSIS", ".B vodmejka", ".I COMMAND WORD ..", ".SH DESCRIPTION",
+             "Each command tells its words by", ".BR \\-\\-help ,", "and has a page of its own.", ".SH COMMANDS"]
     for name in names:
         lines += [".TP", f".BR {escaped('vodmejka-' + name)} (1)", line_of(help_of(name).splitlines()[0])]
     lines += [*environment(), ".SH SEE ALSO", ".BR m_tax (1)", ""]

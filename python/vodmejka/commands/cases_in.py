@@ -20,6 +20,7 @@ import sys
 
 sys.dont_write_bytecode = True
 from .. import records, sheets, source
+from ..program import csv_text
 from . import started
 from ..source import Refused
 
@@ -166,5 +167,5 @@ def main(words):
     except (Refused, csv.Error) as fault:
         print(f"cases-in: {fault}", file=sys.stderr)
         return 1
-    sys.stdout.write(records.spelled(rows))
+    sys.stdout.write(csv_text(rows))
     return 0

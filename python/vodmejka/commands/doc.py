@@ -23,6 +23,7 @@ from typing import Iterator
 
 from .. import articles, here, laws, reference, reference_pages, source, texts
 from ..endings import Wrong, ended
+from ..places import shown_name
 
 VALUED = ("--into", "--title", "--lang", "--articles")
 MARK = "reference.txt"
@@ -87,7 +88,7 @@ def make(words: list[str]) -> None:
         driver = None if said[1] == "-" else said[1]
         gc.disable()  # (nothing that is made here is dropped before the end, and looking for it again and again takes a third of the time)
         made = reference.Reference(files.list, files.driver, files.names)
-        pages = reference_pages.Pages(made, found.get("--title") or reference_pages.shown(said[0]), driver, patterns)
+        pages = reference_pages.Pages(made, found.get("--title") or shown_name(said[0]), driver, patterns)
         count = write(pages.all(), found["--into"])
     print(texts.said("doc.made", count=count, folder=found["--into"]))
 

@@ -25,7 +25,7 @@ import tempfile
 
 from .. import runs, source
 from ..claims import Claim, lines_of, of_line
-from ..copies import text_of_error
+from ..copies import printed, text_of_error
 from ..endings import Wrong, ended
 from ..program import TOP
 from ..reasons import Rules
@@ -52,17 +52,9 @@ def put(folder: str, name: str, content: bytes) -> None:
     source.put(os.path.join(folder, name), content)
 
 
-def said(folder: str, *words: str) -> tuple[bytes, int]:
-    """What the program prints in a folder, and its status."""
-    try:
-        return runs.printed(*words, folder=folder)
-    except OSError as fault:
-        raise Wrong(f"{runs.program_path()}: {fault.strerror}", 3) from fault
-
-
 def done(folder: str, *words: str) -> bytes:
     """What the program prints where it does what the words say."""
-    text, status = said(folder, *words)
+    text, status = printed(*words, folder=folder)
     if status == 6:
         lines = text.decode("latin-1").split("\n")
         raise Wrong(f"the run is stopped, and has no value: {lines[0]}{': ' * bool(text_of_error(lines))}{text_of_error(lines)}")
@@ -131,7 +123,7 @@ def runs_why(folder: str, name: str) -> tuple[bytes, int]:
     with tempfile.TemporaryFile() as told:
         told.write(f"why {name}\n".encode("utf-8", "surrogateescape"))
         told.seek(0)
-        return runs.printed("serve", "rules.list", "-", "-", "household.csv", stdin=told, folder=folder)
+        return printed("serve", "rules.list", "-", "-", "household.csv", stdin=told, folder=folder)
 
 
 def claims_of(folder: str, words: list[str], names: dict[str, str], name: str, driver: str) -> tuple[str, Claim]:
@@ -182,11 +174,11 @@ def looks(folder: str):
     claims = dict(line.split(": ", 1) for line in fetched("claims.txt").decode("utf-8", "surrogateescape").split("\n") if ": " in line)
     driver = "driver.mpp" if os.path.exists(os.path.join(folder, "driver.mpp")) else "-"
     yield "the files are those of SHA256SUMS, and no others", fetched("SHA256SUMS") == sums(folder)
-    yield "the code is that of the rules and the driver", said(folder, "compile", "rules.list", driver, "requests.txt") == (fetched("code"), 0)
-    yield "the code gives the answer", said(folder, "exec", "code", "household.csv") == (fetched("answer.txt"), 0)
+    yield "the code is that of the rules and the driver", printed("compile", "rules.list", driver, "requests.txt", folder=folder) == (fetched("code"), 0)
+    yield "the code gives the answer", printed("exec", "code", "household.csv", folder=folder) == (fetched("answer.txt"), 0)
     answer = of_line(last_line(fetched("answer.txt")))
     yield f"the answer ends in the claim, {claims.get('claim', 'which is missing')}", answer is not None and answer.said() == claims.get("claim")
-    yield "the report is sound", said(folder, "check", "rules.list", "household.csv", "report.txt") == (b"sound\n", 0)
+    yield "the report is sound", printed("check", "rules.list", "household.csv", "report.txt", folder=folder) == (b"sound\n", 0)
     last = of_line((lines_of(fetched("report.txt")) or [""])[-1])
     proved = claims.get("proved by the report", "").split(",")[0]
     yield f"the report ends in {proved or 'nothing that is claimed'}", last is not None and last.said() == proved

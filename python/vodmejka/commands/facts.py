@@ -23,6 +23,7 @@ from collections import Counter
 from decimal import Decimal
 
 from .. import source
+from ..endings import Wrong
 from ..errors import Broken
 from ..facts import HEAD, Fact, facts_of
 from ..limits import AMOUNT
@@ -31,14 +32,6 @@ from ..program import ENCODING, program_path
 MOST_PARTS = 10_000
 MILLIONTH = Decimal("0.000001")
 WORDS = "words: facts [--split CODE=N].. LIST DRIVER REQUESTS RANGES; see --help"
-
-
-class Wrong(Exception):
-    """What ends the run, with its status."""
-
-    def __init__(self, text, status=1):
-        super().__init__(text)
-        self.status = status
 
 
 class Ended(Exception):

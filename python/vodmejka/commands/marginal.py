@@ -174,7 +174,8 @@ def draw(words):
 
 def main(words):
     reader = argparse.ArgumentParser(prog="marginal", description=__doc__, formatter_class=argparse.RawDescriptionHelpFormatter)
-    for name, shown in (("list", "LIST"), ("driver", "DRIVER"), ("household_file", "HOUSEHOLD"), ("code", "CODE"), ("first", "FROM"), ("last", "TO"), ("step", "STEP")):
+    for name, shown in (
+            ("list", "LIST"), ("driver", "DRIVER"), ("household_file", "HOUSEHOLD"), ("code", "CODE"), ("first", "FROM"), ("last", "TO"), ("step", "STEP")):
         reader.add_argument(name, metavar=shown)
     what = reader.add_mutually_exclusive_group(required=True)
     what.add_argument("--of", metavar="NAME", nargs="+")

@@ -26,6 +26,7 @@ import sys
 
 from .. import laws, pages, source
 from ..endings import Wrong, ended
+from ..places import shown_name
 
 OPTIONS = {"--reform": 2, "--title": 1, "--lang": 1, "--groups": 1}
 WORDS = "words: page LIST DRIVER [REQUESTS] [--reform LIST2 DRIVER2] [--title T] [--lang fr|en] [--groups FILE]; see --help"
@@ -141,8 +142,8 @@ def written(words, found):
     else:
         layout.by_attribute()
     name = os.path.basename(os.path.dirname(os.path.abspath(words[0]))) or "rules"
-    title = laws.shown(found["--title"][0]) if "--title" in found else pages.sentence("title", language).replace("{name}", laws.shown(name))
-    shown = {"name": re.sub(r"[^A-Za-z0-9_-]", "-", name), "words": [laws.shown(word) for word in words]}
+    title = shown_name(found["--title"][0]) if "--title" in found else pages.sentence("title", language).replace("{name}", shown_name(name))
+    shown = {"name": re.sub(r"[^A-Za-z0-9_-]", "-", name), "words": [shown_name(word) for word in words]}
     return pages.page({**layout.data(), **shown, "laws": [each.data() for each in all_laws]}, title, language)
 
 

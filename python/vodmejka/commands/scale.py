@@ -15,8 +15,8 @@
 SOURCE is LIST DRIVER REQUESTS, computed by `m_tax batch`, or with --csv by `m_survey table`, which prints csv; or a code file, computed by
 `m_survey table`. A code file needs no other file, and no folder that names are relative to. --of DIGEST rejects a source with another digest.
 
-A batch computes its part on all processors, so `run` doesn't count these: it starts as many batches at once as the free memory (or MB megabytes) has room for at
-256 MB each, at most four, so that one computes while others are read, written and checked. N sets the number.
+A batch computes its part on all processors, so `run` doesn't count these: it starts as many batches at once as the free memory (or MB megabytes) has
+room for at 256 MB each, at most four, so that one computes while others are read, written and checked. N sets the number.
 
 List, rule files, driver and requests are read once, and every batch of a command runs on a copy of what was read, so edits of the rules meanwhile
 have no effect. A program that was rebuilt meanwhile is rejected.
@@ -35,17 +35,17 @@ check fails or a batch rejects its part, 2 for wrong words, 3 where a file can't
 ./m_tax and ./m_survey of this repository, or those that M_TAX and M_SURVEY name; without the latter, the m_survey next to the former.
 """
 import argparse
-import collections
 import concurrent.futures
 import contextlib
-import hashlib
 import os
 import re
 import sys
 import tempfile
 
-from .. import csv_answers, records, runs, source
+from .. import records, runs, source
+from ..cutting import cut, header_line, parts_of
 from ..errors import Failed
+from ..joining import print_columns, print_whole
 from ..limits import FILE_BYTES, ROWS
 from ..parts import READERS, Made, Plan, digest_there, look_at, missing, part_path, remove_dead, summary, unfinished, whole, write_whole
 from ..progress import Progress
@@ -56,67 +56,9 @@ BATCH_BYTES = 256 << 20  # a batch of the longest table takes half of it, and th
 MOST_AT_ONCE = 4
 
 
-# ---- cutting
-
-
-def looked_at(header):
-    """The header of a table, which begins with `name`."""
-    first = records.unquoted(header.split(b",")[0])
-    if first != b"name" or b"\n" in header or b"\r" in header:
-        shown = header[:60].decode("utf-8", "replace")
-        raise Failed(f"the first record is {shown}, and that of a table is name and codes with commas between; tools/table-in writes it", False)
-    return header + b"\n"
-
-
-def parts_of(header, rows, most):
-    """The rows of each part, so that a part is within the limits of a table, with their labels."""
-    part, labels, size = [], [], len(header)
-    for row, label in rows:
-        if part and (len(part) == most or size + len(row) + 1 > FILE_BYTES):
-            yield part, labels
-            part, labels, size = [], [], len(header)
-        part.append(row + b"\n")
-        labels.append(label + b"\n")
-        size += len(row) + 1
-    if part:
-        yield part, labels
-
-
-def new_folder(folder):
-    os.makedirs(folder, exist_ok=True)
-    there = os.listdir(folder)
-    if "table" not in there and any(name.startswith("part-") for name in there):
-        raise Failed(f"{folder} has parts of a table that wasn't cut to its end: remove it, and cut again", False)
-    if there:
-        raise Failed(f"{folder} isn't empty", False)
-
-
-def cut(arguments):
-    new_folder(arguments.folder)
-    total, made, labels = 0, [], hashlib.sha256()
-    with contextlib.ExitStack() as stack:
-        sorter = runs.Sorter(stack) if arguments.once else None
-        compiled = stack.enter_context(open(arguments.table, "rb"))
-        before, rows = records.state(compiled), records.records(compiled, FILE_BYTES)
-        header = looked_at(next(rows, (b"", b""))[0])
-        for part, names in parts_of(header, rows, arguments.rows):
-            joined = b"".join(names)
-            labels.update(joined)
-            if sorter:
-                sorter.add(joined)
-            content = header + b"".join(part)
-            write_whole(part_path(arguments.folder, len(made) + 1, "csv"), content)
-            made.append(hashlib.sha256(content).hexdigest())
-            total += len(part)
-        if records.state(compiled) != before:
-            raise Failed(f"{arguments.table} was changed meanwhile: remove {arguments.folder} and cut it again", False)
-        twice = sorter.first() if sorter else ""
-    if twice:
-        raise Failed(f"the label {twice} stands twice", False)
-    if total == 0:
-        raise Failed(f"{arguments.table} has no households", False)
-    write_whole(os.path.join(arguments.folder, "table"), "\n".join([f"{len(made)} {total} {labels.hexdigest()}", *made, ""]).encode())
-    print(f"{total} households in {len(made)} parts")
+def cut_table(arguments):
+    households, parts = cut(arguments.table, arguments.folder, arguments.rows, arguments.once)
+    print(f"{households} households in {parts} parts")
 
 
 @contextlib.contextmanager
@@ -174,7 +116,8 @@ def compute(folder, number, plan, compiled, elsewhere=here):
     done, table = part_path(folder, number, "out"), part_path(folder, number, "csv")
     if os.path.exists(done):
         if Made(part_path(folder, number, "of")).source != compiled.digest:
-            raise Failed(f"{done} was made of another source (program, list, rule files, driver, requests or code file): scale drop {folder} removes all answers", False)
+            others = "another source (program, list, rule files, driver, requests or code file)"
+            raise Failed(f"{done} was made of {others}: scale drop {folder} removes all answers", False)
         remove_dead(done)
         return 0
     look_at(table, plan.digests[number - 1], "isn't what cut wrote")
@@ -252,45 +195,16 @@ def drop(arguments):
 
 
 def join(arguments):
-    folder, plan, out = arguments.folder, Plan(arguments.folder), sys.stdout.buffer
-    notes, form = whole(folder, plan), "csv" if arguments.csv else "lines"
+    folder, plan, form = arguments.folder, Plan(arguments.folder), "csv" if arguments.csv else "lines"
+    notes = whole(folder, plan)
     if notes[0].form != form:
         raise Failed("the answers are the lines of batch: scale run --csv computes csv, once scale drop has removed them" if arguments.csv
                      else "the answers are csv: scale join --csv joins them", False)
-    paths = [part_path(folder, number, "out") for number in range(1, plan.parts + 1)]
-    if arguments.only is not None:
-        join_only(paths, notes, os.fsencode(arguments.only).split(b","), out)
-        return
-    for number, (path, note) in enumerate(zip(paths, notes), 1):
-        if file_digest(path, out, form == "csv" and number > 1) != note.answer:
-            raise changed(path)
-
-
-def changed(path):
-    return Failed(f"{path} was changed while it was printed: don't use what was printed", False)
-
-
-def join_only(paths, notes, only, out):
-    """Prints some columns of csv, which other processes take out of the parts, some parts ahead of what is printed."""
-    waiting = collections.deque()
-    with runs.workers() as pool:
-        for number, (path, note) in enumerate(zip(paths, notes)):
-            waiting.append(pool.submit(part_only, path, note.answer, only, number == 0))
-            if len(waiting) > 2 * os.cpu_count():
-                out.write(waiting.popleft().result())
-        for piece in waiting:
-            out.write(piece.result())
-
-
-def part_only(path, noted, only, with_head):
-    """The requested columns of a part."""
-    with open(path, "rb") as file:
-        text = file.read()
-    if hashlib.sha256(text).hexdigest() != noted:
-        raise changed(path)
-    head, _, households = text.partition(b"\n")
-    places = csv_answers.columns(head, only)
-    return csv_answers.chosen(text if with_head else households, places, len(head.split(b",")))
+    answers = [(part_path(folder, number, "out"), note.answer) for number, note in enumerate(notes, 1)]
+    if arguments.only is None:
+        print_whole(answers, form == "csv", sys.stdout.buffer)
+    else:
+        print_columns(answers, os.fsencode(arguments.only).split(b","), sys.stdout.buffer)
 
 
 def verify(arguments):
@@ -311,7 +225,7 @@ def verify(arguments):
 
 
 def pipe(arguments):
-    header = looked_at(arguments.header.encode("utf-8", "surrogateescape"))
+    header = header_line(arguments.header.encode("utf-8", "surrogateescape"))
     with source_of(arguments) as compiled:
         passed = 0
         for part, _ in parts_of(header, records.records(source.standard_input(), FILE_BYTES, False), ROWS):
@@ -389,7 +303,7 @@ def are_right(arguments):
     return arguments.command != "join" or arguments.only is None or arguments.csv
 
 
-COMMANDS = {"cut": cut, "list": list_parts, "one": one, "run": run, "join": join, "verify": verify, "drop": drop, "pipe": pipe, "source": tell_source}
+COMMANDS = {"cut": cut_table, "list": list_parts, "one": one, "run": run, "join": join, "verify": verify, "drop": drop, "pipe": pipe, "source": tell_source}
 
 
 def main(words):
