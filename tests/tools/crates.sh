@@ -1,7 +1,8 @@
 # Files and names that a page cites and the repository lacks are reported, and no others.
 cat >page.md <<'PAGE'
-There are `m_fixed/specs/Operators.antt` (`arity_of`, `result_of`), m_lint (`lint`), `tests/second/reading` (`tokens.py`), rows `drivers_*`, `crates/*/specs` and
-`crates/NAME/src`; and there aren't `m_fixed/src/nothing.rt`, `m_fixed/src/table.rt` (`apply`, `applies`), m_lint (`lynt`), `tests/second/reading` (`tokenz.py`).
+There are `m_fixed/specs/Operators.antt` (`arity_of`, `result_of`), m_lint (`lint`), `tests/second/reading` (`tokens.py`), rows `drivers_*`,
+`crates/*/specs` and `crates/NAME/src`; and there aren't `m_fixed/src/nothing.rt`, `m_fixed/src/table.rt` (`apply`, `applies`), m_lint (`lynt`),
+`tests/second/reading` (`tokenz.py`).
 
 ```
 tests/no_such_file.sh

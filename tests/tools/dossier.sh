@@ -27,7 +27,8 @@ wc -l <how
 # Each file that is changed, with and without a new list of digests; one more file; another program.
 for file in claims.txt answer.txt code report.txt household.csv rules/001-base.m driver.mpp HOW.txt; do
     rm -rf other && cp -r d other
-    sed -i 's/1000/1001/; s/1500.5/1500.6/; s/1501.5/1501.6/; s/2500.5/2500.6/; s/+ 1$/+ 2/; s/sha256sum m_tax/m_tax/; s/lit 1 1000000000/lit 1 2000000000/' other/$file
+    sed -i -e 's/1000/1001/; s/1500.5/1500.6/; s/1501.5/1501.6/; s/2500.5/2500.6/; s/+ 1$/+ 2/' \
+        -e 's/sha256sum m_tax/m_tax/; s/lit 1 1000000000/lit 1 2000000000/' other/$file
     cmp -s other/$file d/$file && echo "not changed: $file"
     echo "$file: $("$dossier" --verify other | grep -c NOT)"
 done

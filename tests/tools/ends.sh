@@ -16,7 +16,8 @@ echo "-- marginal: an answer that has other lines than were asked for, no progra
 twice='awk -F, '\''NR > 1 {print "household " $1 "\nIRN = " $2 * 2}'\'' "$5"'
 draw() { "$tools/marginal" a.list - "$1" 1AJ 0 10 10 --of IRN --csv; echo "status $?"; }
 stand_in "$answers$twice" && draw h.csv
-for said in 'echo IRN = 1' 'printf "household ~\nIRN = 1\nhousehold ~\nhousehold ~\nIRN = 3\n"' 'printf "household ~\nIRM = 1\nhousehold ~\nIRM = 1\nhousehold ~\nIRM = 1\n"' "$twice | head -n 4"; do
+for said in 'echo IRN = 1' 'printf "household ~\nIRN = 1\nhousehold ~\nhousehold ~\nIRN = 3\n"' \
+    'printf "household ~\nIRM = 1\nhousehold ~\nIRM = 1\nhousehold ~\nIRM = 1\n"' "$twice | head -n 4"; do
     stand_in "$answers$said" && draw h.csv
 done
 M_TAX=./nowhere draw h.csv 2>&1 | sed "s|$PWD|.|"

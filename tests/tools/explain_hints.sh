@@ -18,14 +18,16 @@ last() {
     "$ROOT/tools/explain" run base.list - - h.csv | tail -n 1
 }
 for text in 'pour i = V,C REVi = 1 ;' 'IRN = arrondi(REV) ;' 'IRN = Somme(i = V,C : REVi) ;' 'IRN = COEF(1) ;' 'COEF[11] : tableau[3] calculee : "n" ;' \
-    'IRN = si REV => 3 alors 1 finsi ;' 'IRN = si REV =< 3 alors 1 finsi ;' 'IRN = si REV <> 3 alors 1 finsi ;' 'IRN = si REV \0342\0211\0244 3 alors 1 finsi ;' \
+    'IRN = si REV => 3 alors 1 finsi ;' 'IRN = si REV =< 3 alors 1 finsi ;' 'IRN = si REV <> 3 alors 1 finsi ;' \
+    'IRN = si REV \0342\0211\0244 3 alors 1 finsi ;' \
     'IRN = si REV \0342\0211\0245 3 alors 1 finsi ;' 'IRN = si REV > 3 ET REV < 4 alors 1 finsi ;' 'IRN = SI REV > 3 alors 1 finsi ;' '// x\nIRN = 1 ;' \
     'IRN = REV * 10% ;' "IRN = REV * '3' ;" 'r\0303\0250gle 11 : application : iliad ;\nIRN = 1 ;' 'r\0350gle 11 : application : iliad ;\nIRN = 1 ;' \
     'IRN = REV\0302\0240+ 1 ;' 'IRN = REV\0240+ 1 ;' 'IRN = \0303\0251t\0303\0251 ;'; do
     last "$text"
 done
 # Names.
-for text in 'IRN = AUTRE ;' 'IRN = REX ;' 'IRN = ZZZZ ;' 'IRN = REVj ;' 'pour i = V,C : REVi = REVij + REVk ;' 'REVj = 1 ;' 'COEF[4] = 1 ;' 'REV = 1 ;' 'TAUX = 1 ;' \
+for text in 'IRN = AUTRE ;' 'IRN = REX ;' 'IRN = ZZZZ ;' 'IRN = REVj ;' 'pour i = V,C : REVi = REVij + REVk ;' 'REVj = 1 ;' 'COEF[4] = 1 ;' 'REV = 1 ;' \
+    'TAUX = 1 ;' \
     'REVV = 1 ;\nREVV = 2 ;' 'COEF[X] = 1 ;\nCOEF[1] = 2 ;' 'IRN = 1 ;\nverif 5 : application : iliad ;\nsi REV > 1 alors erreur A2 ;'; do
     last "$text"
 done

@@ -1,6 +1,8 @@
-# The layout: what it makes of blanks, breaks and comments, of Latin-1 and of carriage returns; files with faults; and that it keeps the tokens of every row and example.
+# The layout: what it makes of blanks, breaks and comments, of Latin-1 and of carriage returns; files with faults; and that it keeps the tokens of every row
+# and example.
 fmt=$ROOT/tools/fmt
-printf '# notes\r\nREV:saisie revenu classe=-2 alias 1AJ:"s ;  # x"type REEL;SEUIL:const=-1000; # seuil \351\r\nT : tableau [ 4 ]calculee:"deux\r\nlignes" ;\r\n' >crlf.m
+printf '# notes\r\nREV:saisie revenu classe=-2 alias 1AJ:"s ;  # x"type REEL;SEUIL:const=-1000; # seuil \351\r\n' >crlf.m
+printf 'T : tableau [ 4 ]calculee:"deux\r\nlignes" ;\r\n' >>crlf.m
 "$fmt" crlf.m; echo "status $?"
 iconv -f latin1 -t utf8 crlf.m | sed 's/\r/<CR>/'
 cat >a.m <<'END'

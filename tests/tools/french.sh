@@ -59,7 +59,8 @@ for line in '  IRN = 1,5' 'IRN = 1' '  if IRN = 3:' '  IRN < - call_m()' '    IR
 done
 echo "-- lists, requests, conditions of a driver, files that are gone"
 printf 'iliad\nb.m\nx\377\n' >c.list
-for line in 'refused list line 1' 'refused list line 3' 'refused requests line 2' 'over driver line 2' 'refused nowhere.m line 3 byte 9: syntax' 'refused b.m line 3 byte 9: syntax'; do
+for line in 'refused list line 1' 'refused list line 3' 'refused requests line 2' 'over driver line 2' 'refused nowhere.m line 3 byte 9: syntax' \
+    'refused b.m line 3 byte 9: syntax'; do
     echo "$line" | "$ROOT/tools/explain" --lang fr --list c.list --driver d.mpp | tail -n 2
 done
 "$ROOT/tools/explain" --lang fr --all --mode b.list; echo "statut $?"

@@ -1,6 +1,6 @@
 # needs the program
-# What facts prints of the real year for all households within the ranges of a form: the lines of its pages, each of which is reasoned there from the law; nothing is over; and no
-# household refutes a line. The lines of a program that prints false ones are refuted.
+# What facts prints of the real year for all households within the ranges of a form: the lines of its pages, each of which is reasoned there from the law;
+# nothing is over; and no household refutes a line. The lines of a program that prints false ones are refuted.
 [ -n "${M_SURVEY-}" ] || export M_SURVEY="$ROOT/out/m_survey"
 cd "$ROOT" || exit 1
 year=examples/impot2023

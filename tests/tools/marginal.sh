@@ -14,14 +14,17 @@ mkfifo list driver
 cat here.list >list &
 cat rules/driver.mpp >driver &
 "$ROOT/tools/marginal" list driver rules/households/single.csv 1AJ 20000 30000 10000 --of TOTAL --csv; echo "status $?"
-# Where what is kept falls, before and after a reform: a tax below 61 isn't collected, so that at 19,041 60 less is kept, and with 100 in its place 99 less where
-# the tax is 100. Two rule bases and two households by each other: a couple has two parts.
+# Where what is kept falls, before and after a reform: a tax below 61 isn't collected, so that at 19,041 60 less is kept, and with 100 in its place 99 less
+# where the tax is 100. Two rule bases and two households by each other: a couple has two parts.
 "$ROOT/tools/variant" here.list RECOUV=100 after > /dev/null
 couple=rules/households/couple.csv
 printf 'code,amount\n0AM,1\n1AJ,30000\n' > "$couple"
-"$ROOT/tools/marginal" here.list rules/driver.mpp rules/households/single.csv 1AJ 19000 19400 1 --drops '1AJ - TOTAL' --rules after/rules.list rules/driver.mpp; echo "status $?"
-"$ROOT/tools/marginal" here.list rules/driver.mpp rules/households/single.csv 1AJ 20000 40000 10000 --of TOTAL --rules after/rules.list rules/driver.mpp --household "$couple" --csv; echo "status $?"
-"$ROOT/tools/marginal" here.list rules/driver.mpp rules/households/single.csv 1AJ 20000 40000 1000 --of TOTAL IINET --rules after/rules.list rules/driver.mpp --household "$couple" > picture.svg; echo "status $?"
+"$ROOT/tools/marginal" here.list rules/driver.mpp rules/households/single.csv 1AJ 19000 19400 1 --drops '1AJ - TOTAL' \
+    --rules after/rules.list rules/driver.mpp; echo "status $?"
+"$ROOT/tools/marginal" here.list rules/driver.mpp rules/households/single.csv 1AJ 20000 40000 10000 --of TOTAL \
+    --rules after/rules.list rules/driver.mpp --household "$couple" --csv; echo "status $?"
+"$ROOT/tools/marginal" here.list rules/driver.mpp rules/households/single.csv 1AJ 20000 40000 1000 --of TOTAL IINET \
+    --rules after/rules.list rules/driver.mpp --household "$couple" > picture.svg; echo "status $?"
 # The picture has a line for each, and its legend is below, in lines that are as wide as the picture.
 python3 -c "
 import xml.dom.minidom as m

@@ -1,6 +1,7 @@
 # needs the program
-# The law of a small rule base as a page holds it: trees with letters filled in and sums written out, parts for inner terms, comments, places, where the driver's
-# values come from; then the words, and faults of the rules, the groups and a reform. The values of parts are those of one call: A = 3, so P_0 = 3 * 2.
+# The law of a small rule base as a page holds it: trees with letters filled in and sums written out, parts for inner terms, comments, places, where the
+# driver's values come from; then the words, and faults of the rules, the groups and a reform. The values of parts are those of one call: A = 3, so
+# P_0 = 3 * 2.
 printf 'iliad\na.m\n' > l.txt
 cat > a.m <<'M'
 # Un en-tête.

@@ -49,15 +49,16 @@ printf 'name;1AJ\na;1\n' > bad.csv
 printf '"\n' >open.m
 printf 'iliad\nopen.m\n' >open.list
 "$ROOT/tools/reform" before.list open.list - - table.csv --of IRN --into other; echo "status $?"
-# Groups by a column; a sum with half of a value; the inputs; texts that a spreadsheet would compute. With the threshold of 2,000 3,000 pay 1,000, 4,000 pay 2,000
-# and 2,500 pay 500, and by the driver after half of that. What is kept of 1AJ with half of it off: 2,500, 3,000 and 2,250, then 2,750, 3,500 and 2,375.
+# Groups by a column; a sum with half of a value; the inputs; texts that a spreadsheet would compute. With the threshold of 2,000 3,000 pay 1,000, 4,000 pay
+# 2,000 and 2,500 pay 500, and by the driver after half of that. What is kept of 1AJ with half of it off: 2,500, 3,000 and 2,250, then 2,750, 3,500 and 2,375.
 printf 'name,1AJ,dep\n=a,3000,+x\nb,4000,y\nc,2500,y\n' >groups.csv
 cat >half.mpp <<'D'
 main():
   IRN <- call_m()
   IRN = IRN * 0.5
 D
-"$ROOT/tools/reform" after/rules.list after/rules.list - - groups.csv --of '1AJ - 0.5 * IRN' --groups dep --inputs --driver-after half.mpp --more-is-gain --into groups
+"$ROOT/tools/reform" after/rules.list after/rules.list - - groups.csv --of '1AJ - 0.5 * IRN' --groups dep --inputs \
+    --driver-after half.mpp --more-is-gain --into groups
 echo "status $?"
 cat groups/households.csv
 cut -d, -f 1-15 groups/summary.csv

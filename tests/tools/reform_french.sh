@@ -12,7 +12,8 @@ for name in summary.csv households.csv; do cmp fr/$name en/$name && echo "$name:
 grep -o '<html lang=..' fr/report.html
 sed '/<svg/,/<\/svg>/d' fr/report.html | tr '\n' ' ' | sed -e 's/<style>.*<\/style>//' -e 's/[0-9a-f]\{64\}/DIGEST/g' -e 's/<[^>]*>/|/g' -e 's/|[| ]*/|/g'; echo
 LC_MESSAGES=fr_FR.UTF-8 "$ROOT/tools/reform" before.list after.list - - table.csv --of IRN --into fr; echo "statut $?"
-LC_MESSAGES=fr_FR.UTF-8 "$ROOT/tools/reform" before.list after.list - - table.csv --of IRN --more-is-gain --weight weight --groups region --into more >/dev/null && grep -o "<h2>Qui.*" more/report.html
+LC_MESSAGES=fr_FR.UTF-8 "$ROOT/tools/reform" before.list after.list - - table.csv --of IRN --more-is-gain --weight weight --groups region \
+    --into more >/dev/null && grep -o "<h2>Qui.*" more/report.html
 echo name,1AJ >none.csv
 "$ROOT/tools/reform" --lang fr before.list after.list - - none.csv --of IRN --into none; echo "statut $?"
 echo "-- marginal"
@@ -20,7 +21,8 @@ printf 'code,amount\n1AJ,5\n' >h.csv
 marginal() { "$ROOT/tools/marginal" before.list - "$@"; }
 marginal h.csv 1AJ 0 4000 1000 --of IRN --rules after.list - --lang fr >fr.svg; echo "statut $?"
 grep -o '>[^<]*</text>' fr.svg
-marginal h.csv 1AJ 0 4000 1000 --of IRN --rules after.list - --lang fr --csv >fr.csv; marginal h.csv 1AJ 0 4000 1000 --of IRN --rules after.list - --csv | cmp - fr.csv && echo "csv: the same"
+marginal h.csv 1AJ 0 4000 1000 --of IRN --rules after.list - --lang fr --csv >fr.csv
+marginal h.csv 1AJ 0 4000 1000 --of IRN --rules after.list - --csv | cmp - fr.csv && echo "csv: the same"
 marginal h.csv 1AJ 0 x 1000 --of IRN --lang fr; echo "statut $?"
 marginal h.csv 1AJ 5 5 1000 --of IRN --lang fr; echo "statut $?"
 marginal h.csv 9ZZ 0 5 1 --of IRN --lang fr; echo "statut $?"

@@ -41,7 +41,8 @@ echo 'cp "$5" "$here/seen"' >behind
 rm behind
 od -An -c seen
 printf 'name,1AJ,poids\na,0.00125,0.0002\nb,-0.00125,0.0002\n' >halves.csv
-"$reform" before.list after.list - - halves.csv --of IRN --weight poids --by IRN --into halves >/dev/null && grep 'tenth [16]' halves/summary.csv | cut -d, -f 1-15
+"$reform" before.list after.list - - halves.csv --of IRN --weight poids --by IRN --into halves >/dev/null && \
+    grep 'tenth [16]' halves/summary.csv | cut -d, -f 1-15
 echo "-- refused: a name that no column and no request has; weights that are none; a head that isn't closed"
 "$reform" before.list after.list - - short.csv --of IRN --by 0RD --into other
 echo "status $?"
@@ -65,7 +66,8 @@ echo "-- the line of a fault is the table's, also behind the first part"
 awk 'BEGIN {print "name,1AJ"; for (k = 2; k < 20010; k++) print "a" k "," (k == 20005 ? "x" : 1)}' >long.csv
 "$reform" before.list after.list - - long.csv --of IRN --into other
 echo "-- a program that loses a line or a household, answers nothing, isn't there, or can't be started"
-for said in 'sed -i 1d "$here/answer"' 'sed -i 3d "$here/answer"' 'sed -i s/~/b/ "$here/answer"' ': >"$here/answer"' 'kill -9 $$' 'head -n 2 "$here/answer"; kill -9 $$'; do
+for said in 'sed -i 1d "$here/answer"' 'sed -i 3d "$here/answer"' 'sed -i s/~/b/ "$here/answer"' ': >"$here/answer"' 'kill -9 $$' \
+    'head -n 2 "$here/answer"; kill -9 $$'; do
     echo "$said" >behind
     "$reform" before.list after.list - - short.csv --of IRN --into other
     echo "status $?"

@@ -2,7 +2,8 @@
 # A code file as either side, or as both: the same bytes, another code, a code that is none, and wrong words.
 same=$ROOT/tools/same
 for threshold in 1000 2000; do
-    printf 'REV : saisie revenu classe = 0 alias 1AJ : "s" ;\nIRN : calculee restituee : "n" ;\nregle 10 : application : iliad ;\nIRN = REV - %s ;\n' $threshold >$threshold.m
+    printf 'REV : saisie revenu classe = 0 alias 1AJ : "s" ;\nIRN : calculee restituee : "n" ;\n' >$threshold.m
+    printf 'regle 10 : application : iliad ;\nIRN = REV - %s ;\n' $threshold >>$threshold.m
     printf 'iliad\n%s.m\n' $threshold >$threshold.list
     "$M_TAX" compile $threshold.list - - >$threshold.code
 done

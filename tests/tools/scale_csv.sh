@@ -106,9 +106,11 @@ digest=$("$scale" source a.list - - --code rules.mcode)
 cat rules.mcode
 "$scale" source rules.mcode | grep -c "$digest"
 mkdir elsewhere && cp -r parts rules.mcode elsewhere
-(cd elsewhere && for part in $("$scale" list parts); do "$scale" one parts "$part" rules.mcode --of "$digest"; done && "$scale" join parts --csv | cmp - ../whole.csv && echo "the same")
+(cd elsewhere && for part in $("$scale" list parts); do "$scale" one parts "$part" rules.mcode --of "$digest"; done &&
+    "$scale" join parts --csv | cmp - ../whole.csv && echo "the same")
 echo "# others" >>elsewhere/rules.mcode
-(cd elsewhere && "$scale" one parts 1 rules.mcode --of "$digest"; echo "status $?"; "$scale" one parts 1 rules.mcode; echo "status $?"; "$scale" verify parts rules.mcode 2>&1 | sed 's/: [0-9a-f]*$//')
+(cd elsewhere && "$scale" one parts 1 rules.mcode --of "$digest"; echo "status $?"; "$scale" one parts 1 rules.mcode; echo "status $?"
+    "$scale" verify parts rules.mcode 2>&1 | sed 's/: [0-9a-f]*$//')
 "$scale" one parts 1 rules.mcode && "$scale" one parts 2 a.list - - --csv && "$scale" one parts 3 rules.mcode && "$scale" one parts 4 rules.mcode
 "$scale" join parts --csv; echo "status $?"
 echo fault >a.m
