@@ -97,7 +97,7 @@ def metadata():
 
 
 def package_files():
-    """The files of the package, by their paths within it. The sources of pages stand beside it in the repository, and in its folder `web` elsewhere."""
+    """The files of the package, by their paths within it. The sources of pages are next to it in the repository, and in its folder `web` elsewhere."""
     own = files_below(os.path.join(HERE, NAME), NAME, (".py", ".typed", ".words"))
     return sorted([*own, *files_below(web_folder(), WEB, (".js", ".json", ".css", ".html"))])
 

@@ -33,7 +33,7 @@ class Room(unittest.TestCase):
         return Rules(self.list, cache=self.room.name + "/cache", program=path, **words)
 
     def told_before(self, rows, size, error):
-        """The values that are told before a batch ends with an error, and the error."""
+        """The values that are given before a batch fails, and the error."""
         told = []
         with self.assertRaises(error) as caught:
             for answer in self.rules.batch(rows, rows_at_once=size):

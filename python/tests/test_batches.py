@@ -1,4 +1,4 @@
-"""Tests of batches: their parts, what is told before an end, and what is written and read otherwise than one by one. They need the program."""
+"""Tests of batches: their parts, the answers before an end, and what is written and read otherwise than one by one. They need the program."""
 import io
 import itertools
 import os
@@ -26,7 +26,7 @@ def written(made, rows):
 
 class Batches(Room):
     def test_a_bad_household_has_its_row_among_all(self):
-        """Line 1 is the header, so household k (from 0) has line k + 2; all before it are told."""
+        """Line 1 is the header, so household k (from 0) has line k + 2; all answers before it are given."""
         for size in (300, 1000, 2000):
             for at in (0, 1, 999, 1000, 1700):
                 rows = [{"1AJ": 1000 + k} for k in range(2500)]
@@ -162,7 +162,7 @@ class Batches(Room):
         self.assertEqual(pickle.loads(pickle.dumps(kept[5])), kept[5])
 
     def test_answers_that_are_held_while_others_are_handed_out(self):
-        """What an answer tells stays, whichever are held, for how long, and whatever was read of them before."""
+        """An answer keeps its values, whichever are held, for how long, and whatever was read of them before."""
         with mock.patch.object(batches, "SLICE", 2_000):
             for holds in (lambda k: k % 3, lambda k: k % 3 == 0, lambda k: k // 90 % 2, lambda k: k % 1000 < 3, lambda k: k > 2_000):
                 for reads in (lambda answer, k: None, lambda answer, k: answer["IRN"], lambda answer, k: answer.values if k % 5 else answer.notes):
@@ -214,7 +214,7 @@ class Batches(Room):
         self.assertEqual([tuple(answer["IRN"] for answer in some) for some in pairs], [(k, 2999 - k, k) for k in range(3000)])
 
     def test_a_program_that_is_killed(self):
-        """The answers of the part before it are told. Parts are begun ahead, so the script knows the second one by what its table has."""
+        """The answers of the part before it are given. Parts are begun ahead, so the script knows the second one by what its table has."""
         self.rules = self.rules_by('grep -q 2500 "$5" && kill -KILL $$;')
         told, error = self.told_before([{"1AJ": 1000 + k} for k in range(3000)], 1000, Interrupted)
         self.assertEqual((told, str(error)), (list(range(1000)), "the program ended with status -9"))

@@ -16,7 +16,7 @@ from vodmejka import Broken, Interrupted, Rules, Stopped
 PACKAGE = os.path.dirname(os.path.dirname(vodmejka.__file__))
 ENVIRONMENT = {**os.environ, "PYTHONPATH": PACKAGE}
 
-# Computes with the standard streams closed, as daemons do, and writes what it was told to the file that is named.
+# Computes with the standard streams closed, as daemons do, and writes its answers to the named file.
 CLOSED = """
 import os, sys
 for number in (0, 1, 2):
@@ -140,7 +140,7 @@ class Faults(Room):
         self.assertLess(len(told), 5000)
 
     def test_a_program_that_fails_without_a_line(self):
-        """It is no refusal, and what it wrote on its standard error is told."""
+        """It is no refusal, and the error has what it wrote on its standard error."""
         rules = self.rules_by("echo no room >&2; exit 1;")
         with self.assertRaisesRegex(Broken, "status 1 and printed no line of its own: no room"):
             list(rules.batch([{}]))

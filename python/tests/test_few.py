@@ -1,4 +1,4 @@
-"""Tests of batches of whose answers few values are read, so that the program isn't asked for the others. They need the program."""
+"""Tests of batches of whose answers few values are read, so that the others aren't requested from the program. They need the program."""
 import gc
 import os
 import pickle
@@ -28,7 +28,7 @@ class Few(Room):
         return self.rules.batch(self.rows if rows is None else rows, rows_at_once=PART)
 
     def asked(self):
-        """What the program was asked for since this was called last, run by run."""
+        """The requests to the program since the last call of this, run by run."""
         path = self.room.name + "/asked"
         with open(path, encoding="ascii") as file:
             lines = [line.strip() for line in file]
@@ -36,7 +36,7 @@ class Few(Room):
         return lines
 
     def assert_asked(self, name, runs=0):
-        """That it was asked for all in the first parts, which are two or three, and for these names alone in those after them; and so many times more for all.
+        """That all were requested in the first parts, which are two or three, and for these names alone in those after them; and so many times more for all.
 
         Two runs may be under way at once, so their order isn't looked at.
         """
@@ -51,7 +51,7 @@ class Few(Room):
             self.assert_asked(name)
 
     def test_nothing_is_read(self):
-        """Then the first name is asked for, since an answer without a value has no line of its own."""
+        """Then the first name is requested, since an answer without a value has no line of its own."""
         self.assertEqual(sum(1 for _ in self.batch()), ALL)
         self.assert_asked("IRN")
 
@@ -74,7 +74,7 @@ class Few(Room):
         self.assertEqual(self.asked(), ["all"] * PARTS)
 
     def test_something_else_is_read_later(self):
-        """What else is read is right, the part is computed a second time and the one after it may be, and all is asked for after them."""
+        """What else is read is right, the part is computed a second time and the one after it may be, and all values are requested after them."""
         reads = {
             "another value": lambda answer, run: (answer["C"], run["C"]),
             "values": lambda answer, run: (answer.values, run.values),
@@ -95,7 +95,7 @@ class Few(Room):
                     self.assert_asked("IRN", 2)  # the part that was computed for few, and the last one
 
     def test_undefined_and_overflowing_values_and_stops(self):
-        """They are told as ever, in parts where nothing of the kind was met before."""
+        """They are given unchanged, in parts where nothing of the kind was met before."""
         self.rows = [{"1AJ": 1000 + k % 500} for k in range(ALL)]
         self.rows[1600], self.rows[1601], self.rows[1700], self.rows[ALL - 1] = {}, {"1AJ": 10_000_000}, {"1AJ": -1}, {"1AJ": -5}
         told = []
@@ -125,7 +125,7 @@ class Few(Room):
         self.assertEqual((greatest["IRN"], greatest["C"], greatest), (found, (1000 + found) ** 3, self.rules.run({"1AJ": 1000 + found})))
 
     def test_the_last_answer_of_a_batch(self):
-        """It tells all when the batch is at its end, was left or closed, and its rules are gone; nothing stays open when it is gone too."""
+        """It has all values when the batch is at its end, was left or closed, and its rules are gone; nothing stays open when it is gone too."""
         before = len(os.listdir("/proc/self/fd"))
         for leave in (None, 1_950):
             rules, last = self.rules_by(NOTED), None
@@ -154,7 +154,7 @@ class Few(Room):
             self.assertIn("IRN", self.asked())
 
     def test_a_program_that_is_killed_where_all_are_wanted_later(self):
-        """What was asked for is told, and what else is wanted is an error, which may be tried again."""
+        """What was requested is given, and another name is an error, which may be tried again."""
         self.rules = self.rules_by('[ "$4" = - ] && [ -e later ] && kill -KILL $$;')
         for k, answer in enumerate(self.batch()):
             if k == 2_250:
@@ -167,7 +167,7 @@ class Few(Room):
             self.assertEqual(answer["IRN"], k)
 
     def test_a_program_that_says_too_little_where_all_are_wanted_later(self):
-        """A last line without its end may be a part of an amount, and is told to nobody."""
+        """A last line without its end may be a part of an amount, and isn't given."""
         whole = "household ~\\nIRN = 7\\nC = 77"
         cut = f"printf '{whole}\\n%.0s' $(seq {PART - 1}); printf '{whole}'"
         self.rules = self.rules_by('[ "$4" = - ] && [ -e later ] && { ' + cut + "; exit 0; };")

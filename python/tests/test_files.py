@@ -13,7 +13,7 @@ FILE_BYTES, RULE_BYTES, LIST_FILES = 16_777_216, 67_108_864, 1_024
 
 class Files(Room):
     def told(self, names):
-        """What is told of a list of these rule files."""
+        """The faults of a list of these rule files."""
         with self.assertRaises(Refused) as caught:
             Rules(self.put("l.txt", "\n".join(["iliad", *names, ""])), cache=self.room.name + "/cache")
         return caught.exception.line
@@ -74,7 +74,7 @@ class Cache(Room):
         self.assertEqual(self.kept(None), 1)
 
     def test_a_trial_of_the_sources(self):
-        """It replies when its input has ended, and takes no file that is only open here: both are told."""
+        """It replies when its input has ended, and takes no file that is only open here: both are reported."""
         script = self.put_program("repo/m_tax", '[ "$1" != batch ] || exit 70')
         self.put("repo/crates.txt", "")
         rules = Rules(self.list, cache=self.room.name + "/kept", program=script)

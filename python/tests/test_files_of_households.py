@@ -1,4 +1,4 @@
-"""Tests of tables of any length: what their households are told as files, and what a change does to them. By the rules of test_vodmejka and test_compare."""
+"""Tests of tables of any length: their answers as files, and what a change does to them. By the rules of test_vodmejka and test_compare."""
 import csv
 import io
 import os
@@ -152,7 +152,7 @@ class Written(Room):
 
 
 class OfFiles(Changed):
-    """What is told of a file is what `compare` tells of its households."""
+    """A file has the results that `compare` has for its households."""
 
     def setUp(self):
         super().setUp()
@@ -173,7 +173,7 @@ class OfFiles(Changed):
             self.assertEqual(found.program, self.before.survey_digest)
 
     def test_by_code_files(self):
-        """They give all values; more than the one that is asked for."""
+        """They give all values; more than the requested one."""
         words = {"of": "TAX", "weight": "w", "by": ["tenth:TAX", "region"]}
         found = compare_file(self.before, self.after, self.path, **words).comparison
         codes = []

@@ -16,7 +16,7 @@ from vodmejka.frames import fault_of
 
 
 class Short(float):
-    """A float of 32 bits, which shows as few digits as tell it from others."""
+    """A float of 32 bits, which shows as few digits as distinguish it from others."""
 
     def __str__(self):
         return next(text for text in (f"{self:.{k}g}" for k in range(1, 18)) if struct.pack("f", float(text)) == struct.pack("f", self))
@@ -206,7 +206,7 @@ class Frames(Room):
         self.assertEqual(self.rules.batch(frame)["IRN"].to_dict(), {1: 1.0, 0: 500.0})
 
     def test_frames_by_a_code_file(self):
-        """It computes one household after the other, and names them as ever."""
+        """It computes one household after the other, and names them as before."""
         self.rules.write_code(self.room.name + "/a.code")
         rules = Rules.from_code(self.room.name + "/a.code")
         self.assertEqual(list(rules.batch(self.frame({"1AJ": [1500, 2000]}))["IRN"]), [500.0, 1000.0])
@@ -218,7 +218,7 @@ class Frames(Room):
             next(told)
 
     def test_frames_without_values(self):
-        """The columns are those of what is asked for, whatever the households are told."""
+        """The columns are those of the requests, whatever the answers are."""
         for rows in ([], [-1], [-1, -2]):
             found = self.rules.batch(self.frame({"1AJ": rows}), stops="keep")
             self.assertEqual(list(found.columns), ["IRN", "C", "over", "notes", "stop"])

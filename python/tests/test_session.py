@@ -43,7 +43,7 @@ print("closed")
 
 class Sessions(Room):
     def test_a_household_that_is_rejected(self):
-        """It is told as that, also where the program had ended before it was asked for anything."""
+        """It is reported as that, also if the program had ended before the first request."""
         for is_awaited in (False, True):
             with self.assertRaisesRegex(Refused, "bad amount"):
                 with self.rules.session({"1AJ": "x"}) as session:
@@ -93,7 +93,7 @@ class Sessions(Room):
         session.close()
 
     def test_a_program_that_is_gone(self):
-        """It is told as that, and the household is dropped."""
+        """It is reported as that, and the household is dropped."""
         rules = self.rules_by("false;")
         before = os.listdir(rules._room.name)
         os.remove(rules.program)

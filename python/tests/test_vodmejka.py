@@ -136,7 +136,7 @@ class Package(unittest.TestCase):
         self.assertEqual([len(answer.notes) for answer in found], [1, 0, 1])
 
     def test_texts_of_several_lines(self):
-        """In rules a line feed of a text is told as a blank; a code file that nobody compiled may have one."""
+        """In rules a line feed of a text is given as a blank; a code file that nobody compiled may have one."""
         self.put("lines.m", RULES.replace('"household ~"', '"a\nIRN = 7"'))
         rules = Rules(self.put("lines.txt", f"iliad\n{self.room.name}/lines.m\n"), cache=self.room.name)
         self.assertEqual(rules.run({"1AJ": 9001}).notes[0].text, "A:30:00:a IRN = 7:N")

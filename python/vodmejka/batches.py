@@ -69,7 +69,7 @@ class Batch:
         return Answers(self._handed(rows))
 
     def started(self, table: int, printed: int, messages: int, requests: int | None = None) -> Child:
-        """The program on a table, which prints to a file, and its messages to another; it is asked for what these requests name, or for all. All are files in
+        """The program on a table, which prints to a file, and its messages to another; it computes what these requests name, or all. All are files in
         memory."""
         given = [table] if requests is None else [table, requests]
         words = [*self.words[:-1], self.words[-1] if requests is None else f"/proc/self/fd/{requests}", f"/proc/self/fd/{table}"]
@@ -94,7 +94,7 @@ class Batch:
             self.hands = Hands()  # an answer that is held may hold this batch, and is to go when nobody holds it
 
     def _few(self) -> Form | None:
-        """The form of answers that tell what is read and nothing else, of the first name where that is nothing; None where it is no less than half of all."""
+        """The form of answers with what is read and nothing else, of the first name where that is nothing; None where it is no less than half of all."""
         read, names = self.hands.read(), list(dict.fromkeys(self.form.names))
         wanted = names if read is None else [name for name in names if name in read] or names[:1]
         if 2 * len(wanted) > len(names):
@@ -156,7 +156,7 @@ class Part:
             self._start()
 
     def _start(self) -> None:
-        """Starts the program, which is asked for all values, or for those of some names."""
+        """Starts the program, with requests of all values or of some names."""
         requests = None
         self.files[1:] = [memory_file("answers"), memory_file("messages")]
         if self.few is not None:
@@ -220,7 +220,7 @@ class Part:
         yield from pieces
 
     def _some(self, few: Form) -> list[Piece] | None:
-        """The pieces where some values alone were asked for; None where it isn't clear which answer is whose."""
+        """The pieces where some values alone were requested; None where it isn't clear which answer is whose."""
         try:
             pieces = self._pieces_of(few)
         except Broken:
@@ -231,7 +231,7 @@ class Part:
         return [piece._replace(whole=whole, first=first) for piece, first in zip(pieces, firsts)]
 
     def _anew(self) -> int:
-        """Has the program compute the same table, asked for all; its status."""
+        """Has the program compute the same table with all values; its status."""
         self.few = None
         while len(self.files) > 1:
             os.close(self.files.pop())
@@ -254,7 +254,7 @@ class Part:
         return f"{match[1]}{int(match[2]) + self.first}{match[3]}" if match and match[2] != "1" else line
 
     def _pieces_of(self, form: Form) -> list[Piece]:
-        """The pieces of what the program printed, which tell the values of a form."""
+        """The pieces of what the program printed, with the values of a form."""
         return pieces_of(form, printed_in(self.files[1]), len(self.households), self.batch.hands.column())
 
     def end(self) -> None:
@@ -308,7 +308,7 @@ def printed_in(file: int) -> Printed:
 
 
 def pieces_of(form: Form, printed: Printed, due: int, asked: str | None = None) -> list[Piece]:
-    """What the program printed, in pieces with as many answers as are due, which tell the values of a form. `asked` is a name
+    """What the program printed, in pieces with as many answers as are due, with the values of a form. `asked` is a name
     that each may have an amount of."""
     if printed and not (printed[: len(LABEL_LINE)] == LABEL_LINE.encode() and printed[-1:] == b"\n"):
         raise Broken(f"the program's answer has a first line without a label, or a last line without its end: {printed[:200]!r}, {printed[-200:]!r}")

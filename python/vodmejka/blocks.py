@@ -18,7 +18,7 @@ class BlockAnswer(Answer):
 
 
 class Whole(Protocol):
-    """All lines of answers, of which some values alone were asked for."""
+    """All lines of answers, of which some values alone were requested."""
 
     form: Form
 
@@ -71,7 +71,7 @@ class Block:
         self.printed, self.begin, self.end = self.printed[self.begin : self.end], 0, self.end - self.begin
 
     def column(self, name: str) -> list[Decimal] | None:
-        """The values of a name, when they are asked for the first time."""
+        """The values of a name, at their first use."""
         if self._whole is not None and name not in self.form.begins:
             self._widen(self._whole)
         found = self.form.column(name, self.printed, self.begin, self.end)

@@ -1,4 +1,4 @@
-"""All faults that the tools can tell of the rule files of a list and of a driver, not the first alone: of tokens, grammar, declarations and names.
+"""All faults that the tools can find in the rule files of a list and in a driver, not the first alone: of tokens, grammar, declarations and names.
 
 Names are looked at where all items can be read. Loops, cycles, sizes and weights are the program's alone.
 """

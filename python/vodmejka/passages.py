@@ -37,7 +37,7 @@ class Comments:
 
 
 class Passages:
-    """A rule file, of which pieces are asked for by a byte within them."""
+    """A rule file, whose pieces are found by a byte within them."""
 
     def __init__(self, file):
         self.file, self.tokens, self.comments = file, list(file.tokens), Comments(file)

@@ -112,7 +112,7 @@ def named(places):
 
 
 def slips_of_idle(files, read, used_errors, driver_names):
-    """Constants, computed variables and errors that nothing uses, a line for each kind. Inputs without effect are `lint`'s to tell."""
+    """Constants, computed variables and errors that nothing uses, a line for each kind. Inputs without effect are reported by `lint`."""
     variables, read = {variable.name: variable for file in files for variable in file.variables}, read | driver_names
     constants = [(name, variable.place) for name, variable in variables.items() if variable.kind == "const" and name not in read]
     idle = [(name, variable.place) for name, variable in variables.items()

@@ -64,7 +64,7 @@ class Sweep:
         return [decimal_of(amount) for amount in self._kept(Expression(net), base)]
 
     def drops(self, net: str, base: int = -1) -> list[Drop]:
-        """The amounts at which what is kept falls though the amount rises, by a rule base (the last one, unless another is named). Amounts beside one at
+        """The amounts at which what is kept falls though the amount rises, by a rule base (the last one, unless another is named). Amounts next to one at
         which what is kept is no number are left out."""
         kept = self._kept(Expression(net), base)
         found = []
@@ -143,7 +143,7 @@ def answers_along(
 
 
 def answers_of(rules: Rules, household: Mapping[str, Given], code: str, amounts: Sequence[Decimal]) -> Iterator[Answer]:
-    """The answers with each amount. What is refused is told with the amount in the place of its line."""
+    """The answers with each amount. A refusal has the amount in place of its line."""
     try:
         yield from rules.batch(with_amount(household, code, amount) for amount in amounts)
     except Refused as refused:

@@ -128,7 +128,7 @@ OPERATORS: dict[str, Callable[..., Any]] = {
 
 
 def told(formula: Any, values: Mapping[str, str], sizes: Mapping[str, int], cell: str) -> list[str]:
-    """The cells and the branches that the formula of a cell took, in the order in which it is read; nothing where this comes to another value."""
+    """The cells and the branches that the formula of a cell took, in the order in which it is read; nothing if the result is another value."""
     taken = Taken(values, sizes, formula.letters, formula.number)
     try:
         found = taken.value(formula.formula.term)

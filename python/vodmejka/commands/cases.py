@@ -27,7 +27,7 @@ TOLERANCE = re.compile(r"(\*|(?:call_m:)?[A-Za-z0-9_]+(?:\[[0-9]+\])?)=([0-9]+(?
 
 
 class Words(NamedTuple):
-    """What the command was told."""
+    """The arguments of the command."""
 
     said: list[str]
     tolerances: dict[str, int]
@@ -72,7 +72,7 @@ class Cases:
         self.cases, self.mismatches = 0, 0
 
     def values(self, table: case_tables.CaseTable, names: list[str], driver: str) -> list[dict[str, str]]:
-        """What each household is told of these names; each is `stop` where the run stopped."""
+        """The answer of each household for these names; each is `stop` where the run stopped."""
         if not names or not table.rows:
             return [{} for _ in table.rows]
         requests = self.files.put("asked.txt", "".join(name + "\n" for name in names).encode("latin-1"))
