@@ -30,7 +30,7 @@ MOST_GENERATED = 100_000
 class Output(NamedTuple):
     """What is printed, and the number that the program ends with; `ring` where a cycle or a recursion is shown, `compiled`
     where a code file of a source is due, which has several, `findings` where those of a source are due, and `replies` where a session
-    is asked for reasons, whose lines may be in several orders."""
+    is requested to explain values, since the lines of reasons may be in several orders."""
 
     text: bytes
     status: int
