@@ -8,3 +8,4 @@ pub mod TableLemmas
 pub mod TakenLemmas
 pub mod TermLemmas
 pub mod JoinedLemmas
+pub mod WordLemmas
