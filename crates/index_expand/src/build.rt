@@ -10,7 +10,7 @@ ghost use Rattle.index_expand.specs.Terms as spec;
 ghost use Rattle.index_expand.specs.inner.Operands.{links_sum, chain_of};
 
 use crate::words::{Words, instance, named};
-use loop_values::{is_digits, number, replaced_within};
+use loop_values::{is_digits, is_free, number, replaced_within};
 use m_ast::{PLink, PMember, PNode, PTerm, PlainName, plain};
 use m_fixed::{Amount, Op, Value};
 use m_places::{Name, Place};
@@ -51,6 +51,9 @@ fn word_node(
     requires { length letters.now ≡ 256 }
     ensures { IfOk result (λ node. syntax_of node ≡ spec.word_term (replaced letters.now word.now) place) }
 {
+    if is_free(letters, word.bytes()) {
+        return short_node(words, letters, word, word.bytes(), place);
+    }
     let most = words.symbols.longest().max(DIGITS);
     match replaced_within(words.alloc, letters, word.bytes(), most)? {
         None => Ok(PNode::Named(instance(words.alloc, letters, word)?, place)),
@@ -107,6 +110,9 @@ pub(crate) fn word_with(
     requires { length letters.now ≡ 256 }
     ensures { IfOk result (λ name. name ≡ replaced letters.now word.now) }
 {
+    if is_free(letters, word.bytes()) {
+        return named(words, letters, word, word.bytes());
+    }
     let most = words.symbols.longest();
     match replaced_within(words.alloc, letters, word.bytes(), most)? {
         None => instance(words.alloc, letters, word),

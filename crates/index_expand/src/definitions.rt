@@ -15,7 +15,7 @@ use crate::parts::MOST;
 use crate::template::Template;
 use crate::terms::expanded;
 use crate::words::Words;
-use loop_values::replaced_within;
+use loop_values::{is_free, replaced_within};
 use m_ast::{Definition, PTerm, Role, Slot};
 use m_places::Name;
 use m_symbols::Symbols;
@@ -187,6 +187,9 @@ fn size_with(
     requires { length letters.now ≡ 256 }
     ensures { IfOk result (λ size. size ≡ table_size symbols.now (replaced letters.now word.now)) }
 {
+    if is_free(letters, word.bytes()) {
+        return Ok(size_of(symbols, word.bytes()));
+    }
     match replaced_within(alloc, letters, word.bytes(), symbols.longest())? {
         None => Ok(None),
         Some(name) => Ok(size_of(symbols, name.as_slice())),

@@ -62,5 +62,9 @@ fn declared<'a>(symbols: &'a Symbols, name: &[u8]) -> Option<&'a Name>
 {
     let number = symbols.find(name)?;
     let known = &symbols.variable(number).item.name;
-    if known.bytes() == name { Some(known) } else { None }
+    if known.bytes() == name {
+        Some(known)
+    } else {
+        None
+    }
 }

@@ -36,9 +36,19 @@ pub bound_spelled : (letters : Letters) (word : List ℕ) → spelled (bound_fro
 bound_spelled letters [] = refl
 bound_spelled letters (byte ∷ word) = λ i. byte_same letters byte i ++ bound_spelled letters word i
 
+-- the elements from i on are the one at i and those after it
+drop_next : {A : Type 0} (xs : List A) (i : ℕ) (x : A) → i < length xs → x ≡ get_or xs i x → drop i xs ≡ x ∷ drop (i + 1) xs
+drop_next xs i x h e = let one : suc i ≡ i + 1 = omega arith in drop-cons xs i x h ∙ (λ k. sym e k ∷ drop (one k) xs)
+
 -- one more binding
 pub bound_next : (letters : Letters) (n : ℕ) (x : Option (List ℕ)) → n < length letters → x ≡ get_or letters n x
     → bound_from n (drop n letters) ≡ bound n x ++ bound_from (n + 1) (drop (n + 1) letters)
-bound_next letters n x l e =
-    let one : suc n ≡ n + 1 = omega arith in
-    ap (bound_from n) (drop-cons letters n x l e) ∙ ap (λ m. bound n x ++ bound_from (n + 1) (drop m letters)) one
+bound_next letters n x l e = ap (bound_from n) (drop_next letters n x l e)
+
+-- one more byte that isn't bound
+pub free_next : (letters : Letters) (word : List ℕ) (i x : ℕ) → i < length word → x ≡ get_or word i x → get_or letters x None ≡ None
+    → replaced letters (drop (i + 1) word) ≡ drop (i + 1) word
+    → replaced letters (drop i word) ≡ drop i word
+free_next letters word i x l e free rest =
+    let split = drop_next word i x l e in
+    ap (replaced letters) split ∙ (λ k. unwrap_or (free k) (x ∷ []) ++ rest k) ∙ sym split

@@ -1,5 +1,6 @@
 //! Substitution of letters.
 ghost use Rattle.std.specs.Prelude.{◌≡◌, ◌<◌, ◌++◌, ℕ, List, IfOk, OnOk, MatchOption, length};
+ghost use Rattle.std.specs.Bool.{OnTrue};
 ghost use Rattle.m_ast.specs.PlainNames.{spelled};
 ghost use Rattle.loop_values.specs.Letters as spec;
 ghost use Rattle.loop_values.specs.inner.Bound.{bound};
@@ -16,6 +17,19 @@ pub fn no_letters(alloc: Global) -> Result<Vec<Option<Name>>, AllocError>
         letters.push(None)?;
     }
     Ok(letters)
+}
+
+/// Whether a word has no bound letter, so that it is the same in each instance. Takes no memory.
+pub fn is_free(letters: &[Option<Name>], word: &[u8]) -> bool
+    requires { length letters.now ≡ 256 }
+    ensures { OnTrue result (spec.replaced letters.now word.now ≡ word.now) }
+{
+    for byte in word {
+        if letters[*byte as usize].is_some() {
+            return false;
+        }
+    }
+    true
 }
 
 /// The word with each bound letter replaced by its value, or `None` if that has more than `most`
@@ -41,10 +55,7 @@ pub fn replaced_within(
 }
 
 /// The letters that are bound, with their values, in order. The only error is out of memory.
-pub fn bound_values(
-    alloc: Global,
-    letters: &[Option<Name>],
-) -> Result<Vec<(u8, Name)>, AllocError>
+pub fn bound_values(alloc: Global, letters: &[Option<Name>]) -> Result<Vec<(u8, Name)>, AllocError>
     requires { length letters.now ≡ 256 }
     ensures { IfOk result (λ values. (word : List ℕ) → spelled values.items word ≡ spec.replaced letters.now word) }
 {
