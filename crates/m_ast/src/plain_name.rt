@@ -1,5 +1,5 @@
 //! Names in rules without loops.
-ghost use Rattle.std.specs.Prelude.{◌≡◌, ◌++◌, IfOk, OnOk};
+ghost use Rattle.std.specs.Prelude.{◌≡◌, ◌++◌, IfOk, OnOk, option_copied};
 ghost use Rattle.m_ast.specs.PlainNames as spec;
 
 use m_places::Name;
@@ -87,19 +87,24 @@ fn spelled(alloc: Global, values: &[(u8, Name)], word: &[u8]) -> Result<Name, Al
 }
 
 // Appends the value of a byte, or the byte.
-fn push_spelled(
-    bytes: &mut Vec<u8>,
-    values: &[(u8, Name)],
-    byte: u8,
-) -> Result<(), AllocError>
+fn push_spelled(bytes: &mut Vec<u8>, values: &[(u8, Name)], byte: u8) -> Result<(), AllocError>
     ensures { OnOk result (bytes.new.items ≡ bytes.old.items ++ spec.byte_spelled values.now byte) }
+{
+    match value_of(values, byte) {
+        Some(value) => bytes.extend_from_slice(value.bytes())?,
+        None => bytes.push(byte)?,
+    }
+    Ok(())
+}
+
+// The value of a byte.
+fn value_of<'a>(values: &'a [(u8, Name)], byte: u8) -> Option<&'a Name>
+    ensures { option_copied result ≡ spec.paired values.now byte }
 {
     for (letter, value) in values {
         if *letter == byte {
-            bytes.extend_from_slice(value.bytes())?;
-            return Ok(());
+            return Some(value);
         }
     }
-    bytes.push(byte)?;
-    Ok(())
+    None
 }
