@@ -1,6 +1,7 @@
 -- The bound letters as pairs give each word its instance.
-use Rattle.std.proofs.Common.{◌≡◌, ℕ, zero, suc, ◌+◌, ◌<◌, List, [], ◌∷◌, ◌++◌, cond, drop, length, get_or, Option, None, Some, refl, sym, ap, ◌∙◌, arith}
+use Rattle.std.proofs.Common.{◌≡◌, ℕ, zero, suc, ◌+◌, ◌<◌, ◌≤◌, List, [], ◌∷◌, ◌++◌, cond, drop, length, get_or, Option, None, Some, refl, sym, ap, ◌∙◌, arith}
 use Rattle.std.proofs.Math.Seq.{drop-cons}
+use Rattle.std.proofs.lemmas.List.{append-nil, drop_all}
 use Rattle.std.specs.Prelude.{unwrap_or}
 use Rattle.std.proofs.lemmas.Bool.{eq-eqb, ne_eqb}
 use Rattle.m_ast.specs.PlainNames.{paired, byte_spelled, spelled}
@@ -52,3 +53,11 @@ pub free_next : (letters : Letters) (word : List ℕ) (i x : ℕ) → i < length
 free_next letters word i x l e free rest =
     let split = drop_next word i x l e in
     ap (replaced letters) split ∙ (λ k. unwrap_or (free k) (x ∷ []) ++ rest k) ∙ sym split
+
+-- all letters were looked at
+pub all_bound : (letters : Letters) (values : List (ℕ × List ℕ)) (n : ℕ) → length letters ≤ n → values ++ bound_from n (drop n letters) ≡ bound_from 0 letters
+    → (word : List ℕ) → spelled values word ≡ replaced letters word
+all_bound letters values n l e word =
+    let none : drop n letters ≡ [] = drop_all n letters l in
+    let whole : values ≡ bound_from 0 letters = sym (append-nil values) ∙ ap (λ ls. values ++ bound_from n ls) (sym none) ∙ e in
+    ap (λ v. spelled v word) whole ∙ bound_spelled letters word

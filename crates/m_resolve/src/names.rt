@@ -31,6 +31,13 @@ pub(crate) fn cell_of(
     ensures { Says Memory result (λ cell. cell) (resolved_cell symbols.now name.now place) }
 {
     let name = name.written(alloc)?;
+    cell_named(symbols, name, place)
+}
+
+// The same for a name as its bytes.
+fn cell_named(symbols: &Symbols, name: Name, place: Place) -> Result<u32, ResolveFault>
+    ensures { Says Memory result (λ cell. cell) (resolved_cell symbols.now name place) }
+{
     let Some(variable) = variable_named(symbols, &name) else {
         return Err(ResolveFault::UnknownName(name, place));
     };
@@ -52,6 +59,13 @@ pub(crate) fn table_of(
     ensures { Says Memory result (λ table. table) (resolved_table symbols.now name.now place) }
 {
     let name = name.written(alloc)?;
+    table_named(symbols, name, place)
+}
+
+// The same for a name as its bytes.
+fn table_named(symbols: &Symbols, name: Name, place: Place) -> Result<(u32, u32), ResolveFault>
+    ensures { Says Memory result (λ table. table) (resolved_table symbols.now name place) }
+{
     let Some(variable) = variable_named(symbols, &name) else {
         return Err(ResolveFault::UnknownName(name, place));
     };

@@ -26,6 +26,20 @@ pub(crate) fn target(
     ensures known { IfOk result (λ cell. cell < length (owners_from 0 symbols.now.variables)) }
 {
     let name = definition.target.written(alloc)?;
+    target_named(name, definition, symbols)
+}
+
+// The same, given the target's name as its bytes.
+fn target_named(
+    name: Name,
+    definition: &Definition,
+    symbols: &Symbols,
+) -> Result<u32, ResolveFault>
+    requires placed { IsPlaced symbols.now }
+    requires name { name ≡ definition.now.target }
+    ensures outcome { Says Memory result (λ cell. cell) (resolved_target symbols.now definition.now) }
+    ensures known { IfOk result (λ cell. cell < length (owners_from 0 symbols.now.variables)) }
+{
     let Some(variable) = variable_named(symbols, &name) else {
         return Err(ResolveFault::UnknownName(name, definition.place));
     };
