@@ -8,4 +8,3 @@ pub mod TableLemmas
 pub mod TakenLemmas
 pub mod TermLemmas
 pub mod JoinedLemmas
-pub mod WordLemmas

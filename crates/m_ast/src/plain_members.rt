@@ -15,9 +15,11 @@ pub fn is_plain_single(alloc: Global, low: &PTerm, high: &PTerm) -> Result<bool,
     ensures { IfOk result (λ single. single ≡ spec.is_single low.now high.now) }
 {
     let same_word = is_same_name(alloc, word_of(low), word_of(high))?;
-    Ok(is_same_amount(amount_of(low), amount_of(high))
-        || is_same_amount(opposite_of(low), opposite_of(high))
-        || same_word)
+    Ok(
+        is_same_amount(amount_of(low), amount_of(high))
+            || is_same_amount(opposite_of(low), opposite_of(high))
+            || same_word,
+    )
 }
 
 fn is_same_name(

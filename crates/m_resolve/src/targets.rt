@@ -30,11 +30,7 @@ pub(crate) fn target(
 }
 
 // The same, given the target's name as its bytes.
-fn target_named(
-    name: Name,
-    definition: &Definition,
-    symbols: &Symbols,
-) -> Result<u32, ResolveFault>
+fn target_named(name: Name, definition: &Definition, symbols: &Symbols) -> Result<u32, ResolveFault>
     requires placed { IsPlaced symbols.now }
     requires name { name ≡ definition.now.target }
     ensures outcome { Says Memory result (λ cell. cell) (resolved_target symbols.now definition.now) }
