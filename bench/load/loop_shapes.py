@@ -123,6 +123,87 @@ def _(n):
     )
 
 
+@shape("a name of 40 KB in 10,000 instances, unknown", 40_000)
+def _(n):
+    # An instance is its word and the value of its letter, and the name is written out once: 200 MB are enough.
+    return case(
+        [ONE, RULE, "A = somme(i=1..10000: ", *many("B", n), "i) ;"],
+        [f"refused a.m line 3 byte {len(ONE) + len(RULE) + 22}: unknown name ", *many("B", n), "1\n"],
+        1,
+    )
+
+
+@shape("a letter's value of 1 MB in loops of 1,000 in one another", 1_000_000)
+def _(n):
+    # No word has the letter k. A is set in the first instance and again in the second.
+    front = "pour i=1..1000: pour j=1..1000: "
+    return case(
+        [ONE, RULE, front, "A = somme(k=", *many("V", n), ": 1) ;"],
+        refused("defined twice A", line=3, byte=len(ONE) + len(RULE) + len(front)),
+        1,
+    )
+
+
+@shape("a letter's value of 1 MB in 400,000 instances of a sum", 1_000_000)
+def _(n):
+    # Each instance has three parts, and there is a sum between two: 1,599,999 parts.
+    body = ["somme(k=", *many("V", n), ": 1)"]
+    return case([ONE, RULE, "A = somme(i=1..400: somme(j=1..1000: 1 * ", *body, ")) ;"], "A = 400000\n")
+
+
+@shape("1,000 names of 16 KB that differ in their last bytes, ten times each", 16_000)
+def _(n):
+    name = "B" * n
+    return case(
+        None,
+        "A = 10000\n",
+        files={
+            "a0.m": [ONE, *(piece for k in range(1000) for piece in (name, f'{k:03}:const=1;\n'))],
+            "a1.m": [RULE, "A = somme(j=1..10: somme(i=000..999: ", name, "i)) ;"],
+        },
+    )
+
+
+@shape("an unknown name of 16 KB after 1,000 that differ in their last bytes", 16_000)
+def _(n):
+    name = "B" * n
+    front = "A = somme(j=1..10: somme(i=000..999,A: "
+    return case(
+        None,
+        [f"refused a1.m line 2 byte {len(RULE) + len(front)}: unknown name ", name, "A\n"],
+        1,
+        files={
+            "a0.m": [ONE, *(piece for k in range(1000) for piece in (name, f'{k:03}:const=1;\n'))],
+            "a1.m": [RULE, front, name, "i)) ;"],
+        },
+    )
+
+
+@shape("a target of 1,000,000 letters, each 1 MB, before too many parts", 1_000_000)
+def _(n):
+    # The name would have 10^12 bytes. It isn't declared, since it is longer than all names that are, and too many parts come first.
+    front = [ONE, RULE, "pour i=", *many("B", n), ": ", *many("i", n), "[X] = 1 ;\n"]
+    return case([*front, RULE.replace("1", "2"), "A = somme(i=1..10000: somme(j=1..10000: 1)) ;"], refused("too many parts", line=4, byte=sum(map(len, front))), 1)
+
+
+@shape("rules: 64 MB of headers in four files", FILE)
+def _(n):
+    one = lambda k: [f'A{k}1 : calculee restituee : "" ;\n', RULE, *many("pour i=1:", (n - 200) // 9), f"A{k}i = {k} ;"]
+    return case(None, [f"A{k}1 = {k}\n" for k in range(4)], files={f"a{k}.m": one(k) for k in range(4)})
+
+
+@shape("rules: 64 MB of one header in each of four files", FILE)
+def _(n):
+    one = lambda k: [ONE.replace("A", f"A{k}") + RULE, f"A{k} = somme(i=1", *many(";i=1", (n - 200) // 4), ": 1) ;"]
+    return case(None, refused("bad range", "a0.m", line=3, byte=len(ONE) + len(RULE) + 12), 1, files={f"a{k}.m": one(k) for k in range(4)})
+
+
+@shape("rules: 64 MB of values of one index in each of four files", FILE)
+def _(n):
+    one = lambda k: [ONE.replace("A", f"A{k}") + RULE, f"A{k} = somme(i=", *many("1,", (n - 200) // 2), "1: 1) ;"]
+    return case(None, refused("loop too large", "a0.m", line=3, byte=len(ONE) + len(RULE) + 12), 1, files={f"a{k}.m": one(k) for k in range(4)})
+
+
 @shape("a word of 10,000 letters, each 10,000 bytes", 10_000, grows=100)
 def _(n):
     return case(

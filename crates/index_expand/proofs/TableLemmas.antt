@@ -1,10 +1,12 @@
 -- The size of a table, by the number of its name.
-use Rattle.std.proofs.Common.{◌≡◌, ℕ, ◌+◌, List, [], ◌∷◌, Bool, true, false, cond, Option, Some, None, refl, sym, ap, ◌∙◌, add-one}
-use Rattle.std.specs.Prelude.{slice_get}
+use Rattle.std.proofs.Common.{◌≡◌, ℕ, ◌<◌, ◌≤◌, ◌+◌, length, arith, List, [], ◌∷◌, Bool, true, false, cond, Option, Some, None, refl, sym, ap, ◌∙◌, add-one}
+use Rattle.std.specs.Prelude.{All, slice_get}
+use Rattle.std.proofs.lemmas.List.Elements.{All-head, All-tail}
 use Rattle.std.specs.Option.{option_map}
 use Rattle.std.specs.Str.{bytes_eq}
 use Rattle.m_ast.specs.Items.{variable_size}
 use Rattle.m_names.specs.Names.{index_of}
+use Rattle.m_names.proofs.NameLemmas.{same, cases}
 use Rattle.m_symbols.specs.declared.variable.Variable.{Variable}
 use Rattle.m_symbols.specs.Declarations.{names_of, name_of}
 use Rattle.m_symbols.specs.TableSizes.{size_among}
@@ -20,6 +22,16 @@ pub size_none : (name : List ℕ) (variables : List Variable) → index_of name 
 size_none name [] e = refl
 size_none name (v ∷ vs) e = step_none (bytes_eq name (name_of v)) (index_of name (names_of vs)) (variable_size v.item) (size_among vs name) e
     (size_none name vs)
+
+-- a name that is longer than all names is not the name of a table
+pub size_long : (name : List ℕ) (variables : List Variable) (most : ℕ) → All (λ (v : Variable). length v.item.name ≤ most) variables → most < length name
+    → size_among variables name ≡ None
+size_long name [] most all l = refl
+size_long name (v ∷ vs) most all l =
+    cases (bytes_eq name v.item.name)
+    (λ t. absurd (omega (arith, ap length (same name v.item.name t), All-head (λ (w : Variable). length w.item.name ≤ most) v vs all, l)))
+    (λ f. ap (λ b. cond b (variable_size v.item) (size_among vs name)) f
+    ∙ size_long name vs most (All-tail (λ (w : Variable). length w.item.name ≤ most) v vs all) l)
 
 next : (v : Variable) (vs : List Variable) (j : ℕ) → slice_get (v ∷ vs) (j + 1) ≡ slice_get vs j
 next v vs j = rw add-one refl

@@ -9,11 +9,11 @@ ghost use Rattle.loop_values.specs.Letters.{replaced};
 ghost use Rattle.index_expand.specs.Terms as spec;
 ghost use Rattle.index_expand.specs.inner.Operands.{links_sum, chain_of};
 
-use crate::words::Words;
-use loop_values::{is_digits, number, replaced};
-use m_ast::{PLink, PMember, PNode, PTerm, plain};
+use crate::words::{Words, instance, named};
+use loop_values::{is_digits, is_free, number, replaced_within};
+use m_ast::{PLink, PMember, PNode, PTerm, PlainName, plain};
 use m_fixed::{Amount, Op, Value};
-use m_places::{Name, Place, SharedName};
+use m_places::{Name, Place};
 use std::alloc::{AllocError, Global};
 
 /// Drops a partial result and returns the error.
@@ -41,23 +41,54 @@ fn number_node(n: u64) -> PNode
     }
 }
 
-// The literal or the name that a word without letters denotes.
-fn word_node(words: &mut Words<'_>, word: &[u8], place: Place) -> Result<PNode, AllocError>
-    ensures { IfOk result (λ node. syntax_of node ≡ spec.word_term word.now place) }
+// The literal or the name that a word denotes after the substitution of its letters.
+fn word_node(
+    words: &Words<'_>,
+    letters: &[Option<Name>],
+    word: &Name,
+    place: Place,
+) -> Result<PNode, AllocError>
+    requires { length letters.now ≡ 256 }
+    ensures { IfOk result (λ node. syntax_of node ≡ spec.word_term (replaced letters.now word.now) place) }
 {
-    if is_number_word(word) {
-        Ok(number_node(number(word)))
-    } else {
-        Ok(PNode::Named(words.shared(word)?, place))
+    if is_free(letters, word.bytes()) {
+        return short_node(words, letters, word, word.bytes(), place);
+    }
+    let most = words.symbols.longest().max(DIGITS);
+    match replaced_within(words.alloc, letters, word.bytes(), most)? {
+        None => Ok(PNode::Named(instance(words.alloc, letters, word)?, place)),
+        Some(bytes) => short_node(words, letters, word, bytes.as_slice(), place),
     }
 }
+
+// The same for a word, given with its letters replaced.
+fn short_node(
+    words: &Words<'_>,
+    letters: &[Option<Name>],
+    word: &Name,
+    bytes: &[u8],
+    place: Place,
+) -> Result<PNode, AllocError>
+    requires letters { length letters.now ≡ 256 }
+    requires bytes { bytes.now ≡ replaced letters.now word.now }
+    ensures { IfOk result (λ node. syntax_of node ≡ spec.word_term bytes.now place) }
+{
+    if is_number_word(bytes) {
+        Ok(number_node(number(bytes)))
+    } else {
+        Ok(PNode::Named(named(words, letters, word, bytes)?, place))
+    }
+}
+
+/// The most digits of a word that is a number.
+const DIGITS: usize = 12;
 
 fn is_number_word(word: &[u8]) -> bool
     ensures test { result ≡ spec.is_number_word word.now }
     ensures short { OnTrue result (length word.now ≤ 12) }
     ensures digits { OnTrue result (IsTrue (only_digits word.now)) }
 {
-    is_digits(word) && word.len() <= 12
+    is_digits(word) && word.len() <= DIGITS
 }
 
 fn x_node(cell: Option<u32>, place: Place) -> PNode
@@ -72,21 +103,27 @@ fn x_node(cell: Option<u32>, place: Place) -> PNode
 /// A word after the substitution of its letters.
 #[inline(never)]
 pub(crate) fn word_with(
-    words: &mut Words<'_>,
+    words: &Words<'_>,
     letters: &[Option<Name>],
     word: &Name,
-) -> Result<SharedName, AllocError>
+) -> Result<PlainName, AllocError>
     requires { length letters.now ≡ 256 }
     ensures { IfOk result (λ name. name ≡ replaced letters.now word.now) }
 {
-    let word = replaced(words.alloc, letters, word.bytes())?;
-    words.shared(word.bytes())
+    if is_free(letters, word.bytes()) {
+        return named(words, letters, word, word.bytes());
+    }
+    let most = words.symbols.longest();
+    match replaced_within(words.alloc, letters, word.bytes(), most)? {
+        None => instance(words.alloc, letters, word),
+        Some(bytes) => named(words, letters, word, bytes.as_slice()),
+    }
 }
 
 /// The literal or the name that a word denotes after the substitution of its letters.
 #[inline(never)]
 pub(crate) fn boxed_word(
-    words: &mut Words<'_>,
+    words: &Words<'_>,
     letters: &[Option<Name>],
     word: &Name,
     place: Place,
@@ -94,8 +131,7 @@ pub(crate) fn boxed_word(
     requires { length letters.now ≡ 256 }
     ensures { IfOk result (λ t. t.value ≡ spec.word_term (replaced letters.now word.now) place) }
 {
-    let word = replaced(words.alloc, letters, word.bytes())?;
-    let node = word_node(words, word.bytes(), place)?;
+    let node = word_node(words, letters, word, place)?;
     boxed(words.alloc, node)
 }
 

@@ -4,6 +4,7 @@ ghost use Rattle.std.specs.List.{range_with_len};
 ghost use Rattle.m_places.specs.Refusals.{Outcome};
 ghost use Rattle.m_symbols.specs.TableSizes.{table_size};
 ghost use Rattle.index_expand.specs.Expansion.{defined, defined_cell, definitions_at};
+ghost use Rattle.loop_values.specs.Letters.{replaced};
 ghost use Rattle.index_expand.specs.Terms.{expanded};
 ghost use Rattle.index_expand.specs.inner.Meanings.{meaning};
 ghost use Rattle.index_expand.specs.inner.Taken.{IsTaken, IsTooMuch, weighed};
@@ -14,17 +15,17 @@ use crate::parts::MOST;
 use crate::template::Template;
 use crate::terms::expanded;
 use crate::words::Words;
-use loop_values::replaced;
+use loop_values::{is_free, replaced_within};
 use m_ast::{Definition, PTerm, Role, Slot};
 use m_places::Name;
 use m_symbols::Symbols;
-use std::alloc::AllocError;
+use std::alloc::{AllocError, Global};
 
 /// Appends the definitions of one instance of a formula. `total` is the number of parts so far;
 /// returns the number with these.
 #[inline(never)]
 pub(crate) fn take_instance(
-    words: &mut Words<'_>,
+    words: &Words<'_>,
     letters: &mut [Option<Name>],
     template: &Template<'_>,
     definitions: &mut Vec<Definition>,
@@ -64,7 +65,7 @@ pub(crate) fn take_instance(
 
 // A definition for each cell of the target, if it is a table.
 fn take_every(
-    words: &mut Words<'_>,
+    words: &Words<'_>,
     letters: &mut [Option<Name>],
     template: &Template<'_>,
     definitions: &mut Vec<Definition>,
@@ -79,8 +80,8 @@ fn take_every(
         (λ fault. IsTooMuch (weighed these template.now.weight) total template.now.rule fault) }
     ensures letters { OnOk result (letters.new ≡ letters.old) }
 {
-    let target = replaced(words.alloc, letters, template.formula.target.bytes())?;
-    match size_of(template.symbols, target.bytes()) {
+    let target = &template.formula.target;
+    match size_with(words.alloc, template.symbols, letters, target)? {
         None => take_definition(
             words,
             letters,
@@ -96,7 +97,7 @@ fn take_every(
 
 // A definition for each cell of a table with this many cells.
 fn take_cells(
-    words: &mut Words<'_>,
+    words: &Words<'_>,
     letters: &mut [Option<Name>],
     template: &Template<'_>,
     size: u32,
@@ -129,7 +130,7 @@ fn take_cells(
 
 // A definition of a formula, in which `X` is the number of a cell, if one is given.
 fn take_definition(
-    words: &mut Words<'_>,
+    words: &Words<'_>,
     letters: &mut [Option<Name>],
     template: &Template<'_>,
     slot: Slot,
@@ -163,7 +164,7 @@ fn take_definition(
 
 // The term of an instance.
 fn instance_term(
-    words: &mut Words<'_>,
+    words: &Words<'_>,
     letters: &mut [Option<Name>],
     template: &Template<'_>,
     cell: Option<u32>,
@@ -174,6 +175,25 @@ fn instance_term(
     ensures letters { OnOk result (letters.new ≡ letters.old) }
 {
     expanded(words, letters, cell, template.term)
+}
+
+// The size of the declared table that a word with letters names.
+fn size_with(
+    alloc: Global,
+    symbols: &Symbols,
+    letters: &[Option<Name>],
+    word: &Name,
+) -> Result<Option<u32>, AllocError>
+    requires { length letters.now ≡ 256 }
+    ensures { IfOk result (λ size. size ≡ table_size symbols.now (replaced letters.now word.now)) }
+{
+    if is_free(letters, word.bytes()) {
+        return Ok(size_of(symbols, word.bytes()));
+    }
+    match replaced_within(alloc, letters, word.bytes(), symbols.longest())? {
+        None => Ok(None),
+        Some(name) => Ok(size_of(symbols, name.as_slice())),
+    }
 }
 
 // The size of a declared table.

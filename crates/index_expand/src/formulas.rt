@@ -27,7 +27,7 @@ use std::mem::replace;
 /// with these. `rule` is the place of the formula's rule. The parts of a definition are counted
 /// before it is made.
 pub(crate) fn take_formula(
-    words: &mut Words<'_>,
+    words: &Words<'_>,
     letters: &mut [Option<Name>],
     symbols: &Symbols,
     rule: Place,
@@ -77,7 +77,7 @@ pub(crate) fn take_formula(
 // The same with a term of the same meaning in place of the formula's term, for a formula whose
 // instances don't exceed the maximal number of parts.
 fn take_from(
-    words: &mut Words<'_>,
+    words: &Words<'_>,
     letters: &mut [Option<Name>],
     symbols: &Symbols,
     rule: Place,
@@ -129,7 +129,7 @@ fn refusal(rule: Place, formula: &Formula) -> Option<ExpandFault>
 // Appends the definitions of the instances of indexes.
 #[cycle(take_instances)]
 fn take_instances(
-    words: &mut Words<'_>,
+    words: &Words<'_>,
     letters: &mut [Option<Name>],
     template: &Template<'_>,
     indexes: &[Index],
@@ -161,7 +161,7 @@ fn take_instances(
 // The same with an outer index of one value.
 #[cycle(take_instances)]
 fn take_single(
-    words: &mut Words<'_>,
+    words: &Words<'_>,
     letters: &mut [Option<Name>],
     template: &Template<'_>,
     index: &Index,
@@ -199,7 +199,7 @@ fn take_single(
 // The same with an outer index.
 #[cycle(take_instances)]
 fn take_index(
-    words: &mut Words<'_>,
+    words: &Words<'_>,
     letters: &mut [Option<Name>],
     template: &Template<'_>,
     index: &Index,
@@ -240,7 +240,7 @@ fn take_index(
 // The same with a letter bound to a value. The previous binding is restored.
 #[cycle(take_instances)]
 fn take_bound(
-    words: &mut Words<'_>,
+    words: &Words<'_>,
     letters: &mut [Option<Name>],
     template: &Template<'_>,
     binding: &Binding<'_>,

@@ -133,12 +133,12 @@ fn take_items(
         × (plain ≡ expansion items.now application.now symbols.now))
         (λ fault. too_many symbols.now 0 (filter (counts_in application.now) items.now) ≡ Some fault) }
 {
-    let mut words = Words::new(alloc, symbols)?;
+    let words = Words { alloc, symbols };
     let mut letters = no_letters(alloc)?;
     let mut definitions = Vec::new(alloc);
     let mut conditions = Vec::new(alloc);
     take_each(
-        &mut words,
+        &words,
         letters.as_mut_slice(),
         symbols,
         items,
@@ -153,7 +153,7 @@ fn take_items(
 }
 
 fn take_each(
-    words: &mut Words<'_>,
+    words: &Words<'_>,
     letters: &mut [Option<Name>],
     symbols: &Symbols,
     items: &[Item],
@@ -188,7 +188,7 @@ fn take_each(
 }
 
 fn take_item(
-    words: &mut Words<'_>,
+    words: &Words<'_>,
     letters: &mut [Option<Name>],
     symbols: &Symbols,
     item: &Item,
@@ -225,7 +225,7 @@ fn take_item(
 }
 
 fn take_formulas(
-    words: &mut Words<'_>,
+    words: &Words<'_>,
     letters: &mut [Option<Name>],
     symbols: &Symbols,
     rule: Place,
@@ -250,7 +250,7 @@ fn take_formulas(
 }
 
 fn take_checks(
-    words: &mut Words<'_>,
+    words: &Words<'_>,
     letters: &mut [Option<Name>],
     verif: &VerifItem,
     conditions: &mut Vec<Condition>,
@@ -273,7 +273,7 @@ fn take_checks(
 }
 
 fn take_check(
-    words: &mut Words<'_>,
+    words: &Words<'_>,
     letters: &mut [Option<Name>],
     verif: &VerifItem,
     number: &SharedName,
@@ -301,7 +301,7 @@ fn take_check(
 
 // The term of a condition with its loops expanded.
 fn expanded_check(
-    words: &mut Words<'_>,
+    words: &Words<'_>,
     letters: &mut [Option<Name>],
     condition: &Term,
 ) -> Result<PTerm, AllocError>
@@ -317,7 +317,7 @@ fn expanded_check(
 }
 
 fn expanded_joined(
-    words: &mut Words<'_>,
+    words: &Words<'_>,
     letters: &mut [Option<Name>],
     condition: &Term,
 ) -> Result<PTerm, AllocError>

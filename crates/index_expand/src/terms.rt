@@ -23,7 +23,7 @@ use std::mem::replace;
 /// A term after the substitution of its letters, with its loops expanded and `X` replaced by
 /// `cell`, if it is given. The only error is out of memory.
 pub(crate) fn expanded(
-    words: &mut Words<'_>,
+    words: &Words<'_>,
     letters: &mut [Option<Name>],
     cell: Option<u32>,
     term: &Term,
@@ -38,7 +38,7 @@ pub(crate) fn expanded(
 
 #[cycle(expanded)]
 fn expanded_box(
-    words: &mut Words<'_>,
+    words: &Words<'_>,
     letters: &mut [Option<Name>],
     cell: Option<u32>,
     term: &Term,
@@ -65,7 +65,7 @@ fn expanded_box(
 #[inline(never)]
 #[cycle(expanded)]
 fn expanded_cell(
-    words: &mut Words<'_>,
+    words: &Words<'_>,
     letters: &mut [Option<Name>],
     cell: Option<u32>,
     word: &Name,
@@ -87,7 +87,7 @@ fn expanded_cell(
 #[inline(never)]
 #[cycle(expanded)]
 fn expanded_apply(
-    words: &mut Words<'_>,
+    words: &Words<'_>,
     letters: &mut [Option<Name>],
     cell: Option<u32>,
     op: Op,
@@ -105,7 +105,7 @@ fn expanded_apply(
 #[inline(never)]
 #[cycle(expanded)]
 fn expanded_chain(
-    words: &mut Words<'_>,
+    words: &Words<'_>,
     letters: &mut [Option<Name>],
     cell: Option<u32>,
     first: &Term,
@@ -126,7 +126,7 @@ fn expanded_chain(
 #[inline(never)]
 #[cycle(expanded)]
 fn expanded_among(
-    words: &mut Words<'_>,
+    words: &Words<'_>,
     letters: &mut [Option<Name>],
     cell: Option<u32>,
     negated: bool,
@@ -148,7 +148,7 @@ fn expanded_among(
 #[inline(never)]
 #[cycle(expanded)]
 fn expanded_loop(
-    words: &mut Words<'_>,
+    words: &Words<'_>,
     letters: &mut [Option<Name>],
     cell: Option<u32>,
     header: &Header,
@@ -168,7 +168,7 @@ fn expanded_loop(
 
 #[cycle(expanded)]
 fn expanded_terms(
-    words: &mut Words<'_>,
+    words: &Words<'_>,
     letters: &mut [Option<Name>],
     cell: Option<u32>,
     terms: &[Term],
@@ -193,7 +193,7 @@ fn expanded_terms(
 
 #[cycle(expanded)]
 fn expanded_links(
-    words: &mut Words<'_>,
+    words: &Words<'_>,
     letters: &mut [Option<Name>],
     cell: Option<u32>,
     links: &[Link],
@@ -218,7 +218,7 @@ fn expanded_links(
 
 #[cycle(expanded)]
 fn expanded_members(
-    words: &mut Words<'_>,
+    words: &Words<'_>,
     letters: &mut [Option<Name>],
     cell: Option<u32>,
     members: &[Member],
@@ -248,7 +248,7 @@ fn expanded_members(
 // Appends the instances of a loop's body to the operands of a sum.
 #[cycle(expanded)]
 fn expand_instances(
-    words: &mut Words<'_>,
+    words: &Words<'_>,
     letters: &mut [Option<Name>],
     cell: Option<u32>,
     indexes: &[Index],
@@ -278,7 +278,7 @@ fn expand_instances(
 #[inline(never)]
 #[cycle(expanded)]
 fn expand_singles(
-    words: &mut Words<'_>,
+    words: &Words<'_>,
     letters: &mut [Option<Name>],
     cell: Option<u32>,
     singles: usize,
@@ -307,7 +307,7 @@ fn expand_singles(
 // The same with an outer index.
 #[cycle(expanded)]
 fn expand_index(
-    words: &mut Words<'_>,
+    words: &Words<'_>,
     letters: &mut [Option<Name>],
     cell: Option<u32>,
     index: &Index,
@@ -334,7 +334,7 @@ fn expand_index(
 // The same with a letter bound to a value. The previous binding is restored.
 #[cycle(expanded)]
 fn expand_bound(
-    words: &mut Words<'_>,
+    words: &Words<'_>,
     letters: &mut [Option<Name>],
     cell: Option<u32>,
     binding: &Binding<'_>,

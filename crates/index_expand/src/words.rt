@@ -1,85 +1,70 @@
-//! Words of terms, interned: one copy for all occurrences of a declared variable's name.
-ghost use Rattle.std.specs.Prelude.{◌≡◌, IfOk, IfSome};
+//! Words of terms in an instance of a loop.
+ghost use Rattle.std.specs.Prelude.{◌≡◌, IfOk, IfSome, length};
+ghost use Rattle.loop_values.specs.Letters as spec;
 
-use m_places::{Name, SharedName};
+use loop_values::bound_values;
+use m_ast::PlainName;
+use m_places::Name;
 use m_symbols::Symbols;
 use std::alloc::{AllocError, Global};
 
-/// The shared copies of the names of variables, each made at its first use. So the memory for names
-/// in a valid source is bounded by its declarations, however many instances its loops have. A name
-/// that isn't declared gets a copy per occurrence.
+/// The most bytes of a name that isn't declared and is kept as its bytes: it takes no more memory
+/// than as a word and the values of its letters.
+const FEW: usize = 256;
+
+/// The variables whose names words may be, and the allocator of the whole expansion.
 #[derive(Drop)]
 pub(crate) struct Words<'a> {
-    /// The allocator of the whole expansion.
     pub(crate) alloc: Global,
-    symbols: &'a Symbols,
-    /// For each variable its name, after its first use.
-    names: Vec<Option<SharedName>>,
+    pub(crate) symbols: &'a Symbols,
 }
 
-impl<'a> Words<'a> {
-    /// No name is in use yet. The only error is out of memory.
-    pub(crate) fn new(alloc: Global, symbols: &'a Symbols) -> Result<Words<'a>, AllocError> {
-        let count = symbols.count() as usize;
-        let mut names = Vec::with_capacity(alloc, count)?;
-        for _ in 0..count {
-            names.push(None)?;
-        }
-        Ok(Words {
-            alloc,
-            symbols,
-            names,
-        })
-    }
-
-    /// A word, shared with all equal words if it is the name of a variable. The only error is out
-    /// of memory.
-    pub(crate) fn shared(&mut self, word: &[u8]) -> Result<SharedName, AllocError>
-        ensures { IfOk result (λ name. name ≡ word.now) }
-    {
-        let alloc = self.alloc;
-        let Some(number) = self.symbols.find(word) else {
-            return own(alloc, word);
-        };
-        match self.names.get_mut(number as usize) {
-            None => own(alloc, word),
-            Some(name) => kept(alloc, name, word),
-        }
-    }
-}
-
-// A word in its own copy.
-fn own(alloc: Global, word: &[u8]) -> Result<SharedName, AllocError>
-    ensures { IfOk result (λ name. name ≡ word.now) }
+/// A word in an instance of a loop, given with its letters replaced.
+///
+/// The name of a variable shares the bytes of its declaration, and a longer name that isn't
+/// declared is a word and the values of its letters. So however long names are, an instance takes
+/// no more memory for them. The only error is out of memory.
+pub(crate) fn named(
+    words: &Words<'_>,
+    letters: &[Option<Name>],
+    word: &Name,
+    replaced: &[u8],
+) -> Result<PlainName, AllocError>
+    requires letters { length letters.now ≡ 256 }
+    requires replaced { replaced.now ≡ spec.replaced letters.now word.now }
+    ensures { IfOk result (λ name. name ≡ spec.replaced letters.now word.now) }
 {
-    SharedName::new(alloc, Name::new(alloc, word)?)
-}
-
-// The shared name, if it equals the word; otherwise the word, which becomes the shared name.
-fn kept(alloc: Global, name: &mut Option<SharedName>, word: &[u8]) -> Result<SharedName, AllocError>
-    ensures { IfOk result (λ name. name ≡ word.now) }
-{
-    if let Some(known) = known(name, word) {
-        return known.share(alloc);
+    if let Some(name) = declared(words.symbols, replaced) {
+        return Ok(PlainName::whole(name.copy(words.alloc)?));
     }
-    let made = own(alloc, word)?;
-    let given = made.share(alloc)?;
-    *name = Some(made);
-    Ok(given)
+    if replaced.len() <= FEW {
+        return Ok(PlainName::whole(Name::new(words.alloc, replaced)?));
+    }
+    instance(words.alloc, letters, word)
 }
 
-// The shared name, if it equals the word.
-fn known<'a>(name: &'a Option<SharedName>, word: &[u8]) -> Option<&'a SharedName>
-    ensures { IfSome result (λ known. known.now ≡ word.now) }
+/// A word and the values of its letters. The only error is out of memory.
+pub(crate) fn instance(
+    alloc: Global,
+    letters: &[Option<Name>],
+    word: &Name,
+) -> Result<PlainName, AllocError>
+    requires { length letters.now ≡ 256 }
+    ensures { IfOk result (λ name. name ≡ spec.replaced letters.now word.now) }
 {
-    match name {
-        None => None,
-        Some(known) => {
-            if known.bytes() == word {
-                Some(known)
-            } else {
-                None
-            }
-        }
+    let values = bound_values(alloc, letters)?;
+    PlainName::instance(alloc, word.copy(alloc)?, values)
+}
+
+// The name of the variable with this name.
+fn declared<'a>(symbols: &'a Symbols, name: &[u8]) -> Option<&'a Name>
+    ensures { IfSome result (λ known. known.now ≡ name.now) }
+{
+    let number = symbols.find(name)?;
+    let known = &symbols.variable(number).item.name;
+    if known.bytes() == name {
+        Some(known)
+    } else {
+        None
     }
 }

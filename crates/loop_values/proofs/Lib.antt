@@ -1,3 +1,4 @@
+pub mod BoundLemmas
 pub mod Numbers
 pub mod Counts
 pub mod Marks

@@ -10,6 +10,6 @@ mod single;
 mod values;
 
 pub use header::{headers_count, instance_count, joined_indexes, kept_indexes, repeated_letters};
-pub use letters::{no_letters, replaced};
+pub use letters::{bound_values, is_free, no_letters, replaced_within};
 pub use single::{bind_singles, only_value, put_back, single_count};
 pub use values::{MANY, has_bad_span, index_count, index_values, is_digits, number};

@@ -59,7 +59,7 @@ fn push_values(alloc: Global, values: &mut Vec<Name>, span: &Span) -> Result<(),
     let from = span.from.bytes();
     let to = span.to.bytes();
     if from == to {
-        values.push(Name::new(alloc, from)?)?;
+        values.push(span.from.copy(alloc)?)?;
         Ok(())
     } else if is_whole(from) && is_whole(to) {
         push_numbers(alloc, values, from, to)

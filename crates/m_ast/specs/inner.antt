@@ -2,3 +2,4 @@
 pub mod Coding
 pub mod Falls
 pub mod PlainFalls
+pub mod PlainForms

@@ -25,7 +25,7 @@ pub(crate) fn is_same_amount(a: Option<Amount>, b: Option<Amount>) -> bool
     }
 }
 
-pub(crate) fn is_same_word(a: Option<&[u8]>, b: Option<&[u8]>) -> bool
+fn is_same_word(a: Option<&[u8]>, b: Option<&[u8]>) -> bool
     ensures { result ≡ spec.is_same_word (option_copied a.entry) (option_copied b.entry) }
 {
     match a {

@@ -1,13 +1,13 @@
 //! Rules without loops.
 use crate::Slot;
+use crate::plain_name::PlainName;
 use crate::plain_term::PTerm;
 use m_places::{Name, Place, Seq, SharedName};
 
 /// An instance of a formula: its target and the term that it is set to.
 #[derive(Drop)]
 pub struct Definition {
-    /// The name of the variable, shared by all its definitions.
-    pub target: SharedName,
+    pub target: PlainName,
     pub slot: Slot,
     pub term: PTerm,
     /// The place of the formula's target.

@@ -2,12 +2,13 @@
 ghost use Rattle.std.specs.Prelude.{◌≡◌};
 ghost use Rattle.m_ast.specs.PlainView.{syntax_of};
 
+use crate::plain_name::PlainName;
 use m_fixed::{Op, Value};
-use m_places::{Place, SharedName};
+use m_places::Place;
 use std::marker::Model;
 
-/// A term without loops. Its words may be shared: `somme(i = 1..10000 : A)` has one copy of the
-/// name `A`. Contracts see it as a `Syntax`, like a `Term`.
+/// A term without loops. Its names may share their bytes: `somme(i = 1..10000 : A)` has one copy of
+/// a long name `A`. Contracts see it as a `Syntax`, like a `Term`.
 #[cycle(plain_term)]
 #[derive(Drop)]
 pub struct PTerm {
@@ -19,9 +20,9 @@ pub struct PTerm {
 #[derive(Drop)]
 pub enum PNode {
     Lit(Value),
-    Named(SharedName, Place),
+    Named(PlainName, Place),
     X(Place),
-    Cell(SharedName, Box<PTerm>, Place),
+    Cell(PlainName, Box<PTerm>, Place),
     Apply(Op, Vec<PTerm>),
     Chain(Box<PTerm>, Vec<PLink>),
     Among(bool, Box<PTerm>, Vec<PMember>),

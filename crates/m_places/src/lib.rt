@@ -2,7 +2,7 @@
 //! lists, labels of verifications, sources to compile, gates for workers, and the limits of the
 //! program.
 //!
-//! Uses `std` and `smallvec` alone. Knows nothing of files on a disk, tokens or amounts. The text
+//! Uses `std` and `arrayvec` alone. Knows nothing of files on a disk, tokens or amounts. The text
 //! of a rule file is a type here, so that what is fetched, what `large N` makes and what is
 //! compiled are the same.
 #![tactic(auto)]

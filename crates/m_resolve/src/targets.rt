@@ -11,7 +11,7 @@ ghost use Rattle.m_resolve.specs.declared.fault.ResolveFault.TheVariants.{Memory
 use crate::ResolveFault;
 use crate::names::variable_named;
 use m_ast::{Definition, Role, Slot};
-use m_places::{Name, Place, SharedName};
+use m_places::{Name, Place};
 use m_symbols::{Symbols, Variable};
 use std::alloc::Global;
 
@@ -25,18 +25,26 @@ pub(crate) fn target(
     ensures outcome { Says Memory result (λ cell. cell) (resolved_target symbols.now definition.now) }
     ensures known { IfOk result (λ cell. cell < length (owners_from 0 symbols.now.variables)) }
 {
-    let Some(variable) = variable_named(symbols, &definition.target) else {
-        return Err(ResolveFault::UnknownName(
-            Name::new(alloc, definition.target.bytes())?,
-            definition.place,
-        ));
-    };
-    target_in(alloc, definition, variable, symbols.cells())
+    let name = definition.target.written(alloc)?;
+    target_named(name, definition, symbols)
 }
 
-// The cell of a target in this variable. `all` is the count of cells.
+// The same, given the target's name as its bytes.
+fn target_named(name: Name, definition: &Definition, symbols: &Symbols) -> Result<u32, ResolveFault>
+    requires placed { IsPlaced symbols.now }
+    requires name { name ≡ definition.now.target }
+    ensures outcome { Says Memory result (λ cell. cell) (resolved_target symbols.now definition.now) }
+    ensures known { IfOk result (λ cell. cell < length (owners_from 0 symbols.now.variables)) }
+{
+    let Some(variable) = variable_named(symbols, &name) else {
+        return Err(ResolveFault::UnknownName(name, definition.place));
+    };
+    target_in(name, definition, variable, symbols.cells())
+}
+
+// The cell of a target in this variable, which has this name. `all` is the count of cells.
 fn target_in(
-    alloc: Global,
+    name: Name,
     definition: &Definition,
     variable: &Variable,
     all: u32,
@@ -44,57 +52,50 @@ fn target_in(
     requires fits { variable.now.first_cell + variable.now.cells ≤ all }
     requires size { IfSome (variable_size variable.now.item) (λ size. variable.now.cells ≡ size) }
     ensures { Says Memory result (λ cell. cell)
-        (target_in definition.now.target definition.now.place variable.now.first_cell definition.now.slot variable.now.item.role) }
+        (target_in name definition.now.place variable.now.first_cell definition.now.slot variable.now.item.role) }
 {
-    let name = &definition.target;
     let place = definition.place;
     match &variable.item.role {
         Role::Computed(Some(size)) => match definition.slot {
-            Slot::Whole => Err(ResolveFault::IsATable(Name::new(alloc, name.bytes())?, place)),
-            Slot::Cell(k) => table_target(alloc, name, place, variable.first_cell, *size, k),
-            Slot::Every => Err(ResolveFault::BadTarget(Name::new(alloc, name.bytes())?, place)),
+            Slot::Whole => Err(ResolveFault::IsATable(name, place)),
+            Slot::Cell(k) => table_target(name, place, variable.first_cell, *size, k),
+            Slot::Every => Err(ResolveFault::BadTarget(name, place)),
         },
         Role::Computed(None) => match definition.slot {
             Slot::Whole => Ok(variable.first_cell),
-            Slot::Cell(_) => Err(ResolveFault::NotATable(Name::new(alloc, name.bytes())?, place)),
-            Slot::Every => Err(ResolveFault::NotATable(Name::new(alloc, name.bytes())?, place)),
+            Slot::Cell(_) => Err(ResolveFault::NotATable(name, place)),
+            Slot::Every => Err(ResolveFault::NotATable(name, place)),
         },
-        Role::Input(_) => unsettable(alloc, name, place, definition.slot),
-        Role::Constant(_) => unsettable(alloc, name, place, definition.slot),
+        Role::Input(_) => unsettable(name, place, definition.slot),
+        Role::Constant(_) => unsettable(name, place, definition.slot),
     }
 }
 
 // The error of a target that is an input or a constant.
-fn unsettable(
-    alloc: Global,
-    name: &SharedName,
-    place: Place,
-    slot: Slot,
-) -> Result<u32, ResolveFault>
-    ensures { Outcome Memory result (λ cell. ⊥) (λ fault. fault ≡ unsettable_fault name.now place slot) }
+fn unsettable(name: Name, place: Place, slot: Slot) -> Result<u32, ResolveFault>
+    ensures { Outcome Memory result (λ cell. ⊥) (λ fault. fault ≡ unsettable_fault name place slot) }
 {
     match slot {
-        Slot::Whole => Err(ResolveFault::BadTarget(Name::new(alloc, name.bytes())?, place)),
-        Slot::Cell(_) => Err(ResolveFault::NotATable(Name::new(alloc, name.bytes())?, place)),
-        Slot::Every => Err(ResolveFault::NotATable(Name::new(alloc, name.bytes())?, place)),
+        Slot::Whole => Err(ResolveFault::BadTarget(name, place)),
+        Slot::Cell(_) => Err(ResolveFault::NotATable(name, place)),
+        Slot::Every => Err(ResolveFault::NotATable(name, place)),
     }
 }
 
 // The cell of a table at this index.
 fn table_target(
-    alloc: Global,
-    name: &SharedName,
+    name: Name,
     place: Place,
     first: u32,
     size: u32,
     k: u32,
 ) -> Result<u32, ResolveFault>
     requires { first + size < 2 ^ 32 }
-    ensures { Says Memory result (λ cell. cell) (table_target name.now place first size k) }
+    ensures { Says Memory result (λ cell. cell) (table_target name place first size k) }
 {
     if k < size {
         Ok(first + k)
     } else {
-        Err(ResolveFault::BadTarget(Name::new(alloc, name.bytes())?, place))
+        Err(ResolveFault::BadTarget(name, place))
     }
 }

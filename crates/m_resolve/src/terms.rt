@@ -12,9 +12,9 @@ ghost use Rattle.m_resolve.specs.declared.fault.ResolveFault.TheVariants.{Memory
 
 use crate::ResolveFault;
 use crate::names::{cell_of, table_of};
-use m_ast::{PLink, PMember, PNode, PTerm, is_plain_single};
+use m_ast::{PLink, PMember, PNode, PTerm, PlainName, is_plain_single};
 use m_fixed::{Op, Value};
-use m_places::{Name, Place, SharedName};
+use m_places::{Name, Place};
 use m_symbols::Symbols;
 use micro_m::{MNode, MTerm, Step};
 use std::alloc::{AllocError, Global};
@@ -52,7 +52,7 @@ fn boxed(alloc: Global, node: MNode) -> Result<Box<MTerm>, AllocError>
 // A name without an index.
 fn named(
     alloc: Global,
-    name: &SharedName,
+    name: &PlainName,
     place: Place,
     symbols: &Symbols,
 ) -> Result<Box<MTerm>, ResolveFault>
@@ -66,7 +66,7 @@ fn named(
 #[cycle(term)]
 fn table_read(
     alloc: Global,
-    name: &SharedName,
+    name: &PlainName,
     index: &PTerm,
     place: Place,
     symbols: &Symbols,
@@ -195,7 +195,7 @@ fn member(
     let first = term(alloc, x, symbols)?;
     let low = term(alloc, &member.low, symbols)?;
     let high = term(alloc, &member.high, symbols)?;
-    if is_plain_single(&member.low, &member.high) {
+    if is_plain_single(alloc, &member.low, &member.high)? {
         return Ok(two(alloc, Op::Eq, first, low)?);
     }
     let second = term(alloc, x, symbols)?;

@@ -2,6 +2,8 @@
 use Rattle.std.proofs.Common.{◌≡◌, ℕ, ◌+◌, ◌-◌, ◌<◌, ◌≤◌, Bool, true, false, not, cond, List, [], ◌∷◌, ◌++◌, map, take, length, get_or, replicate, refl, sym}
 use Rattle.std.proofs.Common.{ap, ◌∙◌, length-append, arith}
 use Rattle.std.proofs.lemmas.List.{get_or_default, take_all, length-replicate}
+use Rattle.std.proofs.lemmas.List.Elements.{All-push, All-weaker}
+use Rattle.std.specs.Prelude.{All}
 use Rattle.m_names.specs.Names.{has}
 use Rattle.m_symbols.specs.declared.symbols.Tables.{Tables}
 use Rattle.m_symbols.specs.declared.variable.Variable.{Variable}
@@ -37,6 +39,15 @@ pub name_added : {X : Type 0} (name : X → List ℕ) (known new : List (List �
 name_added name known new fresh xs x k h f e =
     let is_fresh : fresh ≡ true = f ∙ ap (λ l. not (has (name x) l)) k ∙ ap not h in
     e ∙ ap (λ b. cond b (known ++ name x ∷ []) known) is_fresh ∙ ap (λ l. l ++ name x ∷ []) k ∙ sym (map-push name xs x)
+
+-- the length of the longest name, with one more variable
+pub longest_added : (vs : List Variable) (v : Variable) (before after : ℕ) → All (λ (w : Variable). length w.item.name ≤ before) vs → before ≤ after
+    → length v.item.name ≤ after
+    → All (λ (w : Variable). length w.item.name ≤ after) (vs ++ v ∷ [])
+longest_added vs v before after all more fits =
+    All-push (λ (w : Variable). length w.item.name ≤ after) vs v
+    (All-weaker (λ (w : Variable). length w.item.name ≤ before) (λ (w : Variable). length w.item.name ≤ after) (λ w l. omega (arith, l, more)) vs all)
+    fits
 
 -- the cells of one more variable
 pub cells_added : (owners new : List ℕ) (vs : List Variable) (v : Variable) (number all : ℕ) → owners ≡ owners_from 0 vs → number ≡ length vs

@@ -1,5 +1,5 @@
 //! Declarations, processed in order.
-ghost use Rattle.std.specs.Prelude.{◌≡◌, ◌<◌, ◌^◌, length, false, if◌then◌else◌, ◌∷◌, ◌++◌, None, Some, [], map, IfOk, IfSome};
+ghost use Rattle.std.specs.Prelude.{◌≡◌, ◌<◌, ◌≤◌, ◌^◌, length, false, if◌then◌else◌, ◌∷◌, ◌++◌, None, Some, [], map, IfOk, IfSome};
 ghost use Rattle.std.specs.List.{filter_map, cons_option};
 ghost use Rattle.m_names.specs.Names.{has};
 ghost use Rattle.m_places.specs.Refusals.{Outcome};
@@ -61,6 +61,7 @@ fn no_tables(alloc: Global, key: Key) -> Tables
     Tables {
         variables: Vec::new(alloc),
         names: Names::under(alloc, key),
+        longest: 0,
         owners: Vec::new(alloc),
         inputs: Vec::new(alloc),
         codes: Names::under(alloc, key),
@@ -180,7 +181,9 @@ fn add_variable(
     let first_cell = tables.owners.len() as u32;
     let cells = cells_of(&variable.role);
     let item = variable.copy(alloc)?;
-    tables.names.add(alloc, item.name.bytes())?;
+    let name = item.name.bytes();
+    tables.names.add(alloc, name)?;
+    tables.longest = longer(tables.longest, name);
     let codes = &mut tables.codes;
     add_code(alloc, &item.role, number, codes, &mut tables.inputs)?;
     let all_cells = first_cell as usize + cells as usize;
@@ -191,6 +194,14 @@ fn add_variable(
         cells,
     })?;
     Ok(())
+}
+
+// A length that isn't less than this one, nor than that of a name.
+fn longer(longest: usize, name: &[u8]) -> usize
+    ensures as_long { longest ≤ result }
+    ensures name { length name.now ≤ result }
+{
+    longest.max(name.len())
 }
 
 // Adds the code of a variable, if it is an input.

@@ -1,5 +1,5 @@
 //! Look-ups. None takes memory.
-ghost use Rattle.std.specs.Prelude.{◌≡◌, ◌<◌, Some, length, slice_get, slice_index, IfSome};
+ghost use Rattle.std.specs.Prelude.{◌≡◌, ◌<◌, ◌≤◌, All, Some, length, slice_get, slice_index, IfSome};
 ghost use Rattle.m_names.specs.Names.{index_of};
 ghost use Rattle.m_symbols.specs.Declarations.{names_of, error_names_of, codes_of, owners_from, inputs_from};
 ghost use Rattle.m_symbols.specs.Kinds.{is_in_kind, last_value, has_amount};
@@ -31,6 +31,13 @@ impl Symbols {
         ensures within { IfSome result (λ v. v < length self.now.variables) }
     {
         self.tables.names.number(name)
+    }
+
+    /// No name of a variable has more bytes: the length of the longest one, or 0.
+    pub fn longest(&self) -> usize
+        ensures { All (λ v. length v.item.name ≤ result) self.now.variables }
+    {
+        self.tables.longest
     }
 
     /// The count of cells.

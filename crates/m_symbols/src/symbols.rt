@@ -15,6 +15,8 @@ pub struct Symbols {
 pub(crate) struct Tables {
     pub(crate) variables: Vec<Variable>,
     pub(crate) names: Names,
+    /// No name of a variable has more bytes.
+    pub(crate) longest: usize,
     /// For each cell the number of its variable.
     pub(crate) owners: Vec<u32>,
     /// For each input the number of its variable.

@@ -1,5 +1,5 @@
 -- The invariant of the tables.
-use Rattle.std.specs.Prelude.{◌≡◌, ◌<◌, ◌≤◌, ◌+◌, ◌^◌, [], ◌∷◌, ◌++◌, length}
+use Rattle.std.specs.Prelude.{◌≡◌, ◌<◌, ◌≤◌, ◌+◌, ◌^◌, [], ◌∷◌, ◌++◌, All, length}
 use Rattle.m_places.specs.declared.limits.TheConstants.{CELLS}
 use Rattle.m_ast.specs.declared.item.Item.{Item}
 use Rattle.m_ast.specs.declared.item.Item.TheVariants.{Variable, Rule, Verif, Error, Silent}
@@ -17,6 +17,7 @@ declared_in t = record { variables = t.variables.items; errors = t.errors.items 
 -- their types
 pub record AreIndexed (t : Tables) : Type 0 where
   pub names : t.names ≡ names_of t.variables.items
+  pub longest : All (λ v. length v.item.name ≤ t.longest) t.variables.items
   pub codes : t.codes ≡ codes_of t.variables.items
   pub owners : t.owners.items ≡ owners_from 0 t.variables.items
   pub inputs : t.inputs.items ≡ inputs_from 0 t.variables.items

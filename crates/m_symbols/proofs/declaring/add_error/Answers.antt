@@ -15,6 +15,7 @@ returns-clause-indexed c =
     ∙ ap (λ (y : ErrorItem). t.errors.items ++ y ∷ []) c.in_ok-copy.ensures in
     record {
       names = x.names;
+      longest = x.longest;
       codes = x.codes;
       owners = x.owners;
       inputs = x.inputs;
