@@ -86,8 +86,8 @@ pub standing_turn : {S K : Type 0} (left : S → Option (List ℕ)) (source_faul
     → Standing left source_faults written faults source_old source_now old now steps_old steps_now start current held count
     → Took left source_faults written faults source_now source_new now new steps_now steps_new current later held kept most n → total ≡ count + n
     → Standing left source_faults written faults source_old source_new old new steps_old steps_new start later kept total
-standing_turn left source_faults written faults source_old source_now source_new old now new steps_old steps_now steps_new start current later held kept count most n
-    total standing took all = record {
+standing_turn left source_faults written faults source_old source_now source_new old now new steps_old steps_now steps_new start current later held kept count
+    most n total standing took all = record {
       bytes = standing.bytes ++ took.piece;
       counted = length-append standing.bytes took.piece ∙ ap (λ (k : ℕ). k + length took.piece) standing.counted ∙ ap (λ (k : ℕ). count + k) took.counted
           ∙ sym all;

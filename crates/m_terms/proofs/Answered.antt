@@ -47,11 +47,11 @@ pub to_the_end : (tokens : List Token) (from : ℕ) → take (length tokens - fr
 to_the_end tokens from = take_all (length tokens - from) (drop from tokens) (let e : length (drop from tokens) ≡ length tokens - from = length-drop from
     tokens in omega arith)
 
-record IsWithinCount (tokens rest : List Token) (from : ℕ) : Type 0 where
+record IsWithinTokens (tokens rest : List Token) (from : ℕ) : Type 0 where
   onward : from < length tokens - length rest
   left : rest ≡ drop (length tokens - length rest) tokens
 
-stands : (tokens rest : List Token) (from : ℕ) → from ≤ length tokens → Behind rest (drop from tokens) → IsWithinCount tokens rest from
+stands : (tokens rest : List Token) (from : ℕ) → from ≤ length tokens → Behind rest (drop from tokens) → IsWithinTokens tokens rest from
 stands tokens rest from h b =
     let shorter : length rest < length (drop from tokens) = behind_shorter b in
     let size : length (drop from tokens) ≡ length tokens - from = length-drop _ _ in
@@ -106,7 +106,7 @@ pub term_is_marked : (tokens : List Token) (from : ℕ) {t : Syntax} {rest : Lis
     → begins_by follows rest ≡ true → TermAt tokens from t (length tokens - length rest)
 term_is_marked tokens from {t} {rest} h e b =
     let spelled : SpellsTerm t (drop from tokens) rest = term_found (drop from tokens) e in
-    let s : IsWithinCount tokens rest from = stands tokens rest from h (expr_passes (SpellsInner BRACKET_DEPTH) (inner_passes BRACKET_DEPTH) _ _ _ spelled) in
+    let s : IsWithinTokens tokens rest from = stands tokens rest from h (expr_passes (SpellsInner BRACKET_DEPTH) (inner_passes BRACKET_DEPTH) _ _ _ spelled) in
     let begins : BeginsBy follows rest × (0 < length rest) = begun follows rest b in
     record {
       onward = s.onward;
@@ -146,7 +146,7 @@ pub header_found : (tokens : List Token) (from : ℕ) {h : Header} {rest : List 
     → begins_by (is_sign Colon) rest ≡ true → HeaderAt tokens from h (length tokens - length rest)
 header_found tokens from {h} {rest} l e b =
     let spelled : SpellsHeader h (drop from tokens) rest = found (header_sound (drop from tokens)) e in
-    let s : IsWithinCount tokens rest from = stands tokens rest from l (header_passes _ _ _ spelled) in
+    let s : IsWithinTokens tokens rest from = stands tokens rest from l (header_passes _ _ _ spelled) in
     let begins : BeginsBy (is_sign Colon) rest × (0 < length rest) = begun (is_sign Colon) rest b in
     record {
       onward = s.onward;

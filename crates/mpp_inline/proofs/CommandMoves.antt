@@ -21,8 +21,8 @@ use Rattle.mpp_inline.specs.inner.Cells.{picked, written, received, blanked}
 use Rattle.mpp_inline.specs.inner.Labels.{labelling_by}
 use Rattle.mpp_inline.specs.inner.Growth.{IsUsable, at, so_far, denoted, outcome_of, run, entries, Sane, Known, Held, Placed, Ready, Longer, TermStep, Computed}
 use Rattle.mpp_inline.specs.inner.Growth.{Stage, Opened, Merged, SameBut, over_judged, calls}
-use Rattle.mpp_inline.specs.inner.Work.{under, Point, point, Whole, does, does_one, adds, adds_one, done, finish, ahead, block_ahead, IsBit, Guarding, Kept, Standing}
-use Rattle.mpp_inline.specs.inner.Work.{Moves, Step}
+use Rattle.mpp_inline.specs.inner.Work.{under, Point, point, Whole, does, does_one, adds, adds_one, done, finish}
+use Rattle.mpp_inline.specs.inner.Work.{ahead, block_ahead, IsBit, Guarding, Kept, Standing, Moves, Step}
 use Rattle.mpp_inline.proofs.ListLemmas.{all-more, all-append, all-picked, all-written, all-blanked, picked-map, written-map, blanked-map, restored, same-none}
 use Rattle.mpp_inline.proofs.ListLemmas.{same-back, same-blanked, with-received, without-blanked}
 use Rattle.mpp_inline.proofs.UsableLemmas.{usable-on}
