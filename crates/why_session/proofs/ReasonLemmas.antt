@@ -85,7 +85,7 @@ pub line_goes_on : (joined later : Joined) (bytes : List ℕ) → why_name bytes
     → joined_replies joined (bytes ∷ lines) ≡ replied_then (seated_reply joined.seated bytes) (joined_replies later lines)
 line_goes_on joined later bytes none after declared ordered lines =
     let texts = line_then (showing_of joined.seated.sitting) (explains_by joined.declared joined.reporting.ordered) joined.seated.sitting.values bytes lines
-        none
+    none
     in
     (λ i. record { text = texts i; cost = lines_cost joined.seated (bytes ∷ lines) })
     ∙ sym (λ i. replied_then (seated_reply joined.seated bytes) (record {

@@ -39,7 +39,7 @@ returns-clause-indexed c =
           (rw c.bytes-name.ensures at c.in_ok-add.ensures.fresh) (rw c.bytes-name.ensures at c.in_ok-add.ensures.added) ∙ ap names_of (sym pushed);
       longest = subst (All (λ w. length w.item.name ≤ c.longer-tables.result)) (sym pushed)
           (longest_added vs placed t.longest c.longer-tables.result x.longest c.longer-tables.ensures.as_long
-              (rw c.bytes-name.ensures at c.longer-tables.ensures.name));
+          (rw c.bytes-name.ensures at c.longer-tables.ensures.name));
       codes = c.in_ok-add_code.ensures.codes ∙ ap (λ l. l ++ cons_option (code_in v.role) []) x.codes ∙ sym (codes-push vs placed) ∙ ap codes_of (sym pushed);
       owners = cells.0 ∙ ap (owners_from 0) (sym pushed);
       inputs = c.in_ok-add_code.ensures.inputs ∙ ap (λ l. l ++ cond (is_input v.role) (c.len-number.result ∷ []) []) x.inputs
