@@ -84,10 +84,9 @@ pub line_goes_on : (joined later : Joined) (bytes : List ℕ) → why_name bytes
     → later.declared ≡ joined.declared → later.reporting.ordered ≡ joined.reporting.ordered → (lines : List (List ℕ))
     → joined_replies joined (bytes ∷ lines) ≡ replied_then (seated_reply joined.seated bytes) (joined_replies later lines)
 line_goes_on joined later bytes none after declared ordered lines =
-    let texts = line_then (showing_of joined.seated.sitting) (explains_by joined.declared joined.reporting.ordered) joined.seated.sitting.values bytes lines
-    none
+    let text = line_then (showing_of joined.seated.sitting) (explains_by joined.declared joined.reporting.ordered) joined.seated.sitting.values bytes lines none
     in
-    (λ i. record { text = texts i; cost = lines_cost joined.seated (bytes ∷ lines) })
+    (λ i. record { text = text i; cost = lines_cost joined.seated (bytes ∷ lines) })
     ∙ sym (λ i. replied_then (seated_reply joined.seated bytes) (record {
       text = explained_replies (showing_of (after i).sitting) (explains_by (declared i) (ordered i)) (after i).sitting.values lines;
       cost = lines_cost (after i) lines;
