@@ -4,8 +4,8 @@
     measure.py [RUNS]
 
 Prints milliseconds of the processor, user and system, of one start: the mean of RUNS starts, and the least of ROUNDS such means. Compared are a shell that
-starts `true` alone, a static list of the files with a test `-nt` for each in the shell itself, and, where gcc is installed, a program in C that asks the system for
-the time of each of the same files, started by a shell: no look by another process than the shell is cheaper.
+starts `true` alone, ./m_tax with the list of sources and out/start as ./build makes them, and ./m_tax without, which looks by `find`. A look's cost is what a
+start takes more than that of the shell and the program alone.
 """
 import os
 import shutil
@@ -18,18 +18,6 @@ from measured import figure, machine  # noqa: E402
 
 ROOT = os.path.dirname(os.path.dirname(os.path.dirname(os.path.abspath(__file__))))
 RUNS, ROUNDS = int(sys.argv[1]) if len(sys.argv) > 1 else 40, 5
-PLAIN = r"""
-#include <stdio.h>
-#include <string.h>
-#include <sys/stat.h>
-int main(void) {
-    static char names[1 << 20];
-    struct stat at;
-    size_t size = fread(names, 1, sizeof names - 1, stdin);
-    for (char *name = names, *end; name < names + size && (end = strchr(name, '\n')); name = end + 1) { *end = 0; stat(name, &at); }
-    return 0;
-}
-"""
 
 
 def milliseconds(command, folder):
@@ -52,38 +40,39 @@ def script(folder, name, text):
 
 
 def copied(folder):
-    """The sources, `true` as the program, and a stamp that is newer; the names of what is looked at."""
-    names = ["crates.txt", *(f"crates/{crate}/{part}" for crate in sorted(os.listdir(f"{ROOT}/crates")) for part in ("src", "specs"))]
-    for name in (name for name in names[1:] if os.path.isdir(f"{ROOT}/{name}")):
-        shutil.copytree(f"{ROOT}/{name}", f"{folder}/{name}")
-    for name in ("crates.txt", "m_tax"):
-        shutil.copy(f"{ROOT}/{name}", folder)
+    """The sources, `true` as the programs, and what ./build leaves beside them, by ./build itself and a toolchain that proves nothing; how many are looked at."""
+    for name in (f"crates/{crate}/{part}" for crate in sorted(os.listdir(f"{ROOT}/crates")) for part in ("src", "specs")):
+        if os.path.isdir(f"{ROOT}/{name}"):
+            shutil.copytree(f"{ROOT}/{name}", f"{folder}/{name}")
+    os.mkdir(f"{folder}/tools")
+    for name in ("crates.txt", "m_tax", "build", "tools/start.c"):
+        shutil.copy(f"{ROOT}/{name}", f"{folder}/{name}")
     os.symlink("m_tax", f"{folder}/m_survey")
-    os.mkdir(f"{folder}/out")
-    for name in ("m_tax", "m_survey"):
-        shutil.copy(shutil.which("true"), f"{folder}/out/{name}")
-    found = subprocess.run("find crates.txt crates/*/src crates/*/specs; touch out/built", shell=True, cwd=folder, stdout=subprocess.PIPE, check=True, text=True)
-    return found.stdout.splitlines()
+    os.mkdir(f"{folder}/bin")
+    true = shutil.which("true")
+    script(folder, "bin/rt", f'[ "$1" = run ] || exit 0\nname=${{PWD##*/}}\nmkdir -p out && cp {true} "out/$name" && echo "usage: $name " && exit')
+    path = f"{folder}/bin:{os.environ['PATH']}"
+    subprocess.run(["./build"], cwd=folder, check=True, stderr=subprocess.DEVNULL, env={**os.environ, "PATH": path})
+    with open(f"{folder}/out/sources", encoding="utf-8") as names:
+        return len(names.readlines())
 
 
 def main():
     with tempfile.TemporaryDirectory() as folder:
-        names = copied(folder)
-        tests = "".join(f" {name}" for name in names)
+        count = copied(folder)
         script(folder, "alone", "")
-        script(folder, "list", f"for name in{tests}; do [ $name -nt out/built ] && echo newer >&2; done")
-        with open(f"{folder}/names", "w", encoding="utf-8") as out:
-            out.write("\n".join([*names, ""]))
-        kinds = [("sh and the program alone", "./alone"), ("m_tax", "./m_tax"), ("m_survey, a link", "./m_survey"), ("a list and -nt", "./list")]
-        if shutil.which("gcc"):
-            subprocess.run(["gcc", "-O2", "-static", "-x", "c", "-", "-o", f"{folder}/stats"], input=PLAIN, text=True, check=True)
-            script(folder, "plain", "newer=$(./stats <names)")
-            kinds.append(("stat of each in C", "./plain"))
-        rounds = [[milliseconds([path], folder) for _, path in kinds] for _ in range(ROUNDS)]
-        print(f"{machine()}, {len(names)} files and folders\n\n| start | ms |\n|---|---:|")
-        for (name, _), spent in zip(kinds, map(min, zip(*rounds))):
+        kinds = [("sh and the program alone", "./alone"), ("m_tax, by out/start", "./m_tax"), ("m_survey, a link", "./m_survey")]
+        with tempfile.TemporaryDirectory() as other:
+            bare = f"{other}/bare"
+            shutil.copytree(folder, bare, symlinks=True)
+            os.remove(f"{bare}/out/start")
+            kinds.append(("m_tax, by find", f"{bare}/m_tax"))
+            rounds = [[milliseconds([path], folder) for _, path in kinds] for _ in range(ROUNDS)]
+        print(f"{machine()}, {count} files and folders\n\n| start | ms |\n|---|---:|")
+        least = list(map(min, zip(*rounds)))
+        for (name, _), spent in zip(kinds, least):
             print(f"| {name} | {spent:.2f} |")
-        figure("start.m_tax_ms", min(one[1] for one in rounds), "<=2")
+        figure("start.look_ms", least[1] - least[0], "<=2")
 
 
 main()
