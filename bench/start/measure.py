@@ -4,8 +4,8 @@
     measure.py [RUNS]
 
 Prints milliseconds of the processor, user and system, of one start: the mean of RUNS starts, and the least of ROUNDS such means. Compared are a shell that
-starts `true` alone, a static list of the files with a test `-nt` for each in the shell itself, and, where gcc is installed, a program in C that asks the system for
-the time of each of the same files, started by a shell: no look by another process than the shell is cheaper.
+starts `true` alone, a static list of the files with a test `-nt` for each in the shell itself, and, where gcc is installed, a program in C that asks the
+system for the time of each of the same files, started by a shell: no look by another process than the shell is cheaper.
 """
 import os
 import shutil
@@ -62,7 +62,8 @@ def copied(folder):
     os.mkdir(f"{folder}/out")
     for name in ("m_tax", "m_survey"):
         shutil.copy(shutil.which("true"), f"{folder}/out/{name}")
-    found = subprocess.run("find crates.txt crates/*/src crates/*/specs; touch out/built", shell=True, cwd=folder, stdout=subprocess.PIPE, check=True, text=True)
+    listing = "find crates.txt crates/*/src crates/*/specs; touch out/built"
+    found = subprocess.run(listing, shell=True, cwd=folder, stdout=subprocess.PIPE, check=True, text=True)
     return found.stdout.splitlines()
 
 
