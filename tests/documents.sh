@@ -1,7 +1,7 @@
 #!/bin/sh
 # Compares the documents with the repository, where a text can be compared: the crates with their first comments, the files and names that
 # pages cite, the limits with FORMATS, the usage line's copies, the reserved words with LANGUAGE, DRIVER and the files for editors, the
-# definitions that PROVED counts, links with files, words with ARCHITECTURE's table of English, and sizes of pages with their limits.
+# definitions that PROVED counts, links with files, words with ARCHITECTURE's table of English, and sizes of pages and of code with their limits.
 # Prints a line for each difference, and a count. The status is 0 where there is none.
 cd "$(dirname "$0")/.." || exit 1
 room=$(mktemp -d) || exit 1
@@ -123,6 +123,13 @@ for pair in README.md:LISEZMOI.md docs/FIRST_HOUR.md:docs/fr/PREMIERE_HEURE.md d
     blocks "${pair#*:}" >"$room/french"
     same "the commands and answers of ${pair%:*} and of ${pair#*:}" "$room/blocks" "$room/french"
 done
+
+# Code keeps its sizes.
+if command -v python3 >/dev/null 2>&1; then
+    python3 -B tests/sizes.py >"$room/large"
+    [ -s "$room/large" ] || echo none >"$room/large"
+    same "the sizes of files, functions and lines, and their limits" "$room/none" "$room/large"
+fi
 
 # Pages keep their sizes, in KB: who adds something shortens or removes something else.
 sizes="README.md 9 docs/ARCHITECTURE.md 20 docs/PROVED.md 15 docs/DECISIONS.md 18 docs/PROOFS.md 12 docs/STRENGTH.md 6"

@@ -122,7 +122,8 @@ if python3 -m venv "$room/venv" >/dev/null 2>&1; then
     says "a household by the wheel" "$answer" sh -c "cd '$files' && PATH='$room/venv/bin:/usr/bin:/bin' && $household"
     says "a household from Python" 2286 sh -c "cd '$files' && PATH=/nowhere '$room/venv/bin/python' -c \"$library\""
     mkdir -p "$room/away/python" && cp -r python/tests "$room/away/python/" && cp -r examples docs "$room/away/" || exit 1
-    says "the tests of the package, without the clone" "OK" sh -c "cd '$room/away/python/tests' && PATH='$room/venv/bin:/usr/bin:/bin' '$room/venv/bin/python' -B -W ignore -m unittest discover -s . 2>&1 | tail -n 1 | sed 's/ (.*//'"
+    says "the tests of the package, without the clone" "OK" sh -c "cd '$room/away/python/tests' && PATH='$room/venv/bin:/usr/bin:/bin' \
+        '$room/venv/bin/python' -B -W ignore -m unittest discover -s . 2>&1 | tail -n 1 | sed 's/ (.*//'"
     says "the wheel alone" "" "$room/venv/bin/pip" install -q --no-index --disable-pip-version-check --force-reinstall "$room/one"/*none-any.whl
     rejects "the wheel alone without a program" "there is no program m_tax" sh -c "cd '$files' && PATH=/nowhere '$room/venv/bin/python' -c \"$library\""
 else
@@ -143,7 +144,8 @@ services() {
 After=basic.target
 [Service]
 Type=oneshot
-ExecStart=/bin/sh -c 'for unit in m_tax@dupont m_tax@bad m_survey@2026 m_tax@none m_survey@none; do systemctl start $unit 2>/dev/null; echo "$unit $?"; done >/srv/started; systemctl poweroff --no-block'
+ExecStart=/bin/sh -c 'for unit in m_tax@dupont m_tax@bad m_survey@2026 m_tax@none m_survey@none; do \
+    systemctl start $unit 2>/dev/null; echo "$unit $?"; done >/srv/started; systemctl poweroff --no-block'
 end
     mkdir -p "$root/etc/systemd/system/basic.target.wants"
     ln -s ../services.service "$root/etc/systemd/system/basic.target.wants/"
@@ -174,7 +176,8 @@ else
         passed=$((passed + 1))
         says "README's household" "$answer" within "$household"
         says "man m_tax" "m_tax - computes the French income tax from rules written in M" within "man m_tax | sed -n '/^NAME/{n; s/^ *//p}'"
-        says "man m_survey" "m_survey - computes tables of households from tax rules written in M, and says what holds for all of them" within "MANWIDTH=200 man m_survey | sed -n '/^NAME/{n; s/^ *//p}' | tr -s ' '"
+        says "man m_survey" "m_survey - computes tables of households from tax rules written in M, and says what holds for all of them" within "
+            MANWIDTH=200 man m_survey | sed -n '/^NAME/{n; s/^ *//p}' | tr -s ' '"
         says "man in French" "m_tax - calcule l'impôt sur le revenu à partir de règles écrites en M" within "
             man -L fr m_tax | sed -n '/^NOM/{n; s/^ *//p}'"
         says "a page of rules" "<!doctype html>" within "

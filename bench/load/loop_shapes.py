@@ -183,7 +183,8 @@ def _(n):
 def _(n):
     # The name would have 10^12 bytes. It isn't declared, since it is longer than all names that are, and too many parts come first.
     front = [ONE, RULE, "pour i=", *many("B", n), ": ", *many("i", n), "[X] = 1 ;\n"]
-    return case([*front, RULE.replace("1", "2"), "A = somme(i=1..10000: somme(j=1..10000: 1)) ;"], refused("too many parts", line=4, byte=sum(map(len, front))), 1)
+    expected = refused("too many parts", line=4, byte=sum(map(len, front)))
+    return case([*front, RULE.replace("1", "2"), "A = somme(i=1..10000: somme(j=1..10000: 1)) ;"], expected, 1)
 
 
 @shape("rules: 64 MB of headers in four files", FILE)

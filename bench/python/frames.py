@@ -2,8 +2,8 @@
 """Times a million households as frames and as files, and what a reform does to them: frames.py PROGRAM FOLDER [ROWS]
 
 At the top of the repository, by a Python that has pandas. The rules are those of examples/impot2023 with their driver: nine codes, eight values; PROGRAM is
-m_tax, with m_survey in the same folder. Each line is a process of its own. Seconds are by the clock, and of the processor, of Python and of the programs that it
-starts; the peak is that of the process, in MiB. A frame is made before the clock runs, and is part of the peak, which is also printed less
+m_tax, with m_survey in the same folder. Each line is a process of its own. Seconds are by the clock, and of the processor, of Python and of the programs that
+it starts; the peak is that of the process, in MiB. A frame is made before the clock runs, and is part of the peak, which is also printed less
 what the process had before. The same households are computed by columns of numpy, which give one value; how many of these differ is printed.
 """
 import json
@@ -101,10 +101,11 @@ def main():
     if len(sys.argv) > 4:
         return timed(sys.argv[4], folder, rows)
     written(os.path.join(folder, "table.csv"), rows)
-    print(f"{machine()}\n\n| {rows:,} households | by the clock | Python's | the programs' | peak of Python | above what it was |\n|---|---:|---:|---:|---:|---:|")
+    print(f"{machine()}\n\n| {rows:,} households | by the clock | Python's | the programs' | peak of Python | above what it was |")
+    print("|---|---:|---:|---:|---:|---:|")
     found = {}
-    for what, name in (("float64", "`batch` of a frame"), ("micros", "the same in millionths"), ("numpy", "one value by numpy"), ("file", "`batch_file`, csv, two columns kept"),
-                       ("compare", "`compare` of a frame, tenths and groups")):
+    for what, name in (("float64", "`batch` of a frame"), ("micros", "the same in millionths"), ("numpy", "one value by numpy"),
+                       ("file", "`batch_file`, csv, two columns kept"), ("compare", "`compare` of a frame, tenths and groups")):
         words = [sys.executable, "-B", __file__, sys.argv[1], folder, str(rows), what]
         *measured, differ = json.loads(subprocess.run(words, cwd=ROOT, check=True, capture_output=True, text=True).stdout)
         found[what] = measured

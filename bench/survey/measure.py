@@ -1,5 +1,8 @@
 #!/usr/bin/env python3
-"""Times two programs by turns over one table: measure.py M_TAX M_SURVEY TABLE, in the repository. On one processor seconds of the processor count, on all the clock's."""
+"""Times two programs by turns over one table: measure.py M_TAX M_SURVEY TABLE, in the repository.
+
+On one processor seconds of the processor count, on all the clock's.
+"""
 import os
 import resource
 import statistics

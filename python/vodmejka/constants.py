@@ -6,6 +6,7 @@ import re
 from typing import Iterable
 
 from . import items, source
+from .endings import Wrong
 from .limits import AMOUNT
 
 Piece = tuple[int, int, str]
@@ -13,10 +14,6 @@ Piece = tuple[int, int, str]
 Places = dict[str, list[tuple[source.RuleFile, "Piece | None", int, bool]]]
 LITERAL = re.compile("-?[01];")
 NUMBER = re.compile(r"-?([0-9]+)(?:\.[0-9]+)?")
-
-
-class Wrong(Exception):
-    """A change that can't be made."""
 
 
 def spelled(value: str) -> bool:

@@ -37,13 +37,17 @@ class RuleReader(Terms):
 
     def read_all(self) -> RuleReader:
         while self.at < len(self.tokens) or self.due:
-            self.wanted, self.hint = [], ""
-            try:
-                self.piece()
-            except Stuck:
-                self.note()
-                self.recover()
+            self.piece_or_fault()
         return self
+
+    def piece_or_fault(self) -> None:
+        """Reads a piece. One that can't be read is noted as a fault, and what follows it is looked for."""
+        self.wanted, self.hint = [], ""
+        try:
+            self.piece()
+        except Stuck:
+            self.note()
+            self.recover()
 
     def note(self) -> None:
         token = self.peek()

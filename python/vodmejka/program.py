@@ -14,6 +14,7 @@ import weakref
 from decimal import Decimal
 from typing import Any, BinaryIO, Iterable, Iterator, Mapping, Union
 
+from . import source
 from .errors import Broken, Interrupted, NotFound, Refused
 from .guard import GUARD, Child
 
@@ -201,6 +202,19 @@ def whole_file(path: str, mode: int = 0o600) -> Iterator[BinaryIO]:
         except BaseException:
             os.unlink(out.name)
             raise
+
+
+@contextlib.contextmanager
+def whole_folder(path: str) -> Iterator[str]:
+    """A new folder, which gets its name when all is in it, or goes where something fails."""
+    room = tempfile.mkdtemp(prefix=f".{source.Command.name}-", dir=os.path.dirname(os.path.abspath(path)))
+    try:
+        yield room
+        os.chmod(room, 0o777 & ~source.MASK)
+        os.rename(room, path)
+    except BaseException:
+        shutil.rmtree(room, ignore_errors=True)
+        raise
 
 
 def spelled(code: str, amount: Any) -> str:

@@ -6,6 +6,7 @@ from decimal import Decimal
 from typing import Iterable, Mapping, Union
 
 from . import constants, source
+from .endings import Wrong
 from .errors import Refused
 from .program import spelled
 from .sources import Sources
@@ -61,6 +62,6 @@ def with_values(files: dict[str, bytes], values: Mapping[str, Number], applicati
                 raise Refused(f"{name}: {text} is no number of rules")
             file, (begin, end, _) = constants.change_of(places, name, text, application)
             pieces[file.name].append((begin, end, text))
-    except (constants.Wrong, source.Refused) as fault:
+    except (Wrong, source.Refused) as fault:
         raise Refused(str(fault)) from None
     return {name: constants.changed(content, pieces[name]) for name, content in files.items()}

@@ -109,7 +109,8 @@ class Script:
         print(what)
         for uri, told in sorted(self.client.told.items()):
             for one in told:
-                print(f"  {name_of(uri)} {short(one['range'])} {one['severity']} {one['message']}".replace(HERE + "/", "").replace(HERE, "HERE").replace("\n", "\n    "))
+                line = f"  {name_of(uri)} {short(one['range'])} {one['severity']} {one['message']}"
+                print(line.replace(HERE + "/", "").replace(HERE, "HERE").replace("\n", "\n    "))
 
     def mended(self, uri, text, what):
         """The quick fixes of a text, and the text as the first one leaves it."""

@@ -20,12 +20,13 @@ import sys
 
 sys.dont_write_bytecode = True
 from .. import records, sheets, source
+from ..endings import Wrong, ended
 from ..program import csv_text
 from . import started
 from ..source import Refused
 
 EXPECTED = re.compile(r"-?[0-9]+(?:\.[0-9]+)?|undefined|over|stop|")
-WORDS = "cases-in: words: cases-in [--only NAME].. TABLE ANSWERS, or cases-in [--only NAME].. --book FILE --households SHEET --expected SHEET; see --help"
+WORDS = "words: cases-in [--only NAME].. TABLE ANSWERS, or cases-in [--only NAME].. --book FILE --households SHEET --expected SHEET; see --help"
 MOST, MOST_OF_BOOK = 1 << 30, 1 << 28
 
 
@@ -142,20 +143,13 @@ def read_words(words):
     return (options, files) if all(chosen) and not files or not any(chosen) and len(files) == 2 else None
 
 
-def main(words):
-    if "--help" in words:
-        print(__doc__, end="")
-        return 0
+def work(words):
+    """Does what the words say."""
     said = read_words(words)
     if said is None:
-        print(WORDS, file=sys.stderr)
-        return 2
+        raise Wrong(WORDS, 2)
     options, files = said
-    try:
-        contents = [source.fetch(name, MOST) for name in files] or [source.fetch(options["--book"], MOST_OF_BOOK)]
-    except Refused as fault:
-        print(f"cases-in: {fault}", file=sys.stderr)
-        return 3
+    contents = [source.fetch(name, MOST) for name in files] or [source.fetch(options["--book"], MOST_OF_BOOK)]
     try:
         if files:
             table = table_of(text_of(contents[0].removeprefix(source.MARK)), files[0])
@@ -165,7 +159,11 @@ def main(words):
             names, expected = expected_of_sheet(contents[0], options["--book"], options["--expected"])
         rows = joined(table, names, expected, options["--only"])
     except (Refused, csv.Error) as fault:
-        print(f"cases-in: {fault}", file=sys.stderr)
-        return 1
+        raise Wrong(str(fault)) from fault
     sys.stdout.write(csv_text(rows))
     return 0
+
+
+def main(words):
+    """The command: see above."""
+    return ended(words, __doc__, work)

@@ -19,15 +19,14 @@ isn't as the folder claims, or FOLDER is there already; 2 for wrong words; and 3
 from __future__ import annotations
 
 import os
-import shutil
 import subprocess
 import tempfile
 
 from .. import runs, source
 from ..claims import Claim, lines_of, of_line
 from ..copies import printed, text_of_error
-from ..endings import Wrong, ended
-from ..program import TOP
+from ..endings import Wrong, ended, files_named
+from ..program import TOP, whole_folder
 from ..reasons import Rules
 
 WORDS = "words: dossier LIST DRIVER HOUSEHOLD --of NAME --into FOLDER, or dossier --verify FOLDER; see --help"
@@ -143,12 +142,10 @@ def claims_of(folder: str, words: list[str], names: dict[str, str], name: str, d
 
 def make(words: list[str], name: str, into: str) -> None:
     """Makes the folder, whole or not at all."""
-    parent = os.path.dirname(os.path.abspath(into))
     if os.path.lexists(into):
         raise Wrong(f"{into} is there already")
     rules = Rules(words[0])
-    room = tempfile.mkdtemp(prefix=".dossier-", dir=parent)
-    try:
+    with whole_folder(into) as room:
         driver = "-" if words[1] == "-" else "driver.mpp"
         names = copy_sources(room, rules, words[1], words[2], name)
         put(room, "code", done(room, "compile", "rules.list", driver, "requests.txt"))
@@ -160,11 +157,6 @@ def make(words: list[str], name: str, into: str) -> None:
         put(room, "claims.txt", text.encode("utf-8", "surrogateescape"))
         put(room, "HOW.txt", HOW.format(driver=driver, claim=claim.said()).encode("utf-8"))
         put(room, "SHA256SUMS", sums(room))
-        os.chmod(room, 0o777 & ~source.MASK)
-        os.rename(room, into)
-    except BaseException:
-        shutil.rmtree(room, ignore_errors=True)
-        raise
     print(f"{claim.said()}; see {into}/HOW.txt")
 
 
@@ -216,14 +208,10 @@ def read_words(words: list[str]) -> tuple[list[str], dict[str, str]]:
 def work(words: list[str]) -> int:
     """Does what the words say."""
     files, options = read_words(words)
-    try:
+    with files_named():
         if "--verify" in options:
             return verify(options["--verify"])
         make(files, options["--of"], options["--into"])
-    except OSError as fault:
-        if fault.filename is None:
-            raise
-        raise Wrong(f"{fault.filename}: {fault.strerror}", 3) from fault
     return 0
 
 

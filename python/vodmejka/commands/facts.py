@@ -23,7 +23,7 @@ from collections import Counter
 from decimal import Decimal
 
 from .. import source
-from ..endings import Wrong
+from ..endings import Wrong, ended
 from ..errors import Broken
 from ..facts import HEAD, Fact, facts_of
 from ..limits import AMOUNT
@@ -151,10 +151,7 @@ def join(whole, texts, splits, order):
 
 
 def tell(words):
-    """Does what the words say."""
-    if "--help" in words:
-        print(__doc__, end="")
-        return 0
+    """Prints what holds of the values."""
     splits, words = words_of(words)
     whole = said(words)
     if splits:
@@ -167,18 +164,20 @@ def tell(words):
                 texts.append(said([*words[:3], path]))
         whole = join(whole, texts, set(splits), order)
     sys.stdout.write(whole)
+
+
+def work(words):
+    """Does what the words say."""
+    try:
+        tell(words)
+    except Ended as refused:
+        sys.stdout.write(str(refused))
+        return refused.status
+    except Broken as fault:
+        raise Wrong(str(fault), 3) from fault
     return 0
 
 
 def main(words):
-    try:
-        return tell(words)
-    except Ended as ended:
-        sys.stdout.write(str(ended))
-        return ended.status
-    except Wrong as wrong:
-        print(f"facts: {wrong}", file=sys.stderr)
-        return wrong.status
-    except (Broken, source.Refused) as fault:
-        print(f"facts: {fault}", file=sys.stderr)
-        return 3
+    """The command: see above."""
+    return ended(words, __doc__, work)

@@ -12,10 +12,10 @@ file can't be read, and 4 where it can't be written.
 """
 import os
 import sys
-import tempfile
 
 from .. import source
 from ..lsp.layout import laid_out
+from ..program import whole_file
 
 
 def main(words):
@@ -56,16 +56,9 @@ def lay_out(name, is_check, is_driver):
 
 def write(path, content):
     """Writes a file whole, or not at all, with the rights that it had."""
-    made = None
     try:
-        with tempfile.NamedTemporaryFile(dir=os.path.dirname(path), prefix=".fmt-", delete=False) as out:
-            made = out.name
-            os.fchmod(out.fileno(), os.stat(path).st_mode & 0o7777)
+        with whole_file(path, os.stat(path).st_mode & 0o7777) as out:
             out.write(content)
-        os.replace(made, path)
-    except BaseException as fault:
-        if made is not None and os.path.exists(made):
-            os.unlink(made)
-        if isinstance(fault, OSError):
-            fault.filename = path
+    except OSError as fault:
+        fault.filename = path
         raise

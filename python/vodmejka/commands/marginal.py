@@ -28,8 +28,7 @@ from decimal import Decimal, InvalidOperation
 from typing import NamedTuple
 
 from .. import source
-from ..endings import Wrong
-from ..errors import NotFound, Refused, VodmejkaError
+from ..endings import Wrong, ended, files_named
 from ..expressions import UNIT, Expression
 from ..limits import AMOUNT
 from ..rate_pictures import Curve, picture, plain
@@ -172,8 +171,9 @@ def draw(words):
     return drawn(words, amounts, sweeps, labels)
 
 
-def main(words):
-    reader = argparse.ArgumentParser(prog="marginal", description=__doc__, formatter_class=argparse.RawDescriptionHelpFormatter)
+def work(words):
+    """Does what the words say."""
+    reader = argparse.ArgumentParser(prog="marginal")
     for name, shown in (
             ("list", "LIST"), ("driver", "DRIVER"), ("household_file", "HOUSEHOLD"), ("code", "CODE"), ("first", "FROM"), ("last", "TO"), ("step", "STEP")):
         reader.add_argument(name, metavar=shown)
@@ -183,22 +183,10 @@ def main(words):
     reader.add_argument("--rules", metavar=("LIST", "DRIVER"), nargs=2, action="append", default=[])
     reader.add_argument("--household", metavar="HOUSEHOLD", action="append", default=[])
     reader.add_argument("--csv", action="store_true")
-    try:
+    with files_named():
         return draw(reader.parse_args(language_of(words)))
-    except Wrong as wrong:
-        print(f"marginal: {wrong}", file=sys.stderr)
-        return wrong.status
-    except NotFound as fault:
-        print(f"marginal: {fault}", file=sys.stderr)
-        return 3
-    except VodmejkaError as fault:
-        print(f"marginal: {fault.line if isinstance(fault, Refused) else fault}", file=sys.stderr)
-        return 1
-    except source.Refused as fault:
-        print(f"marginal: {fault}", file=sys.stderr)
-        return 3
-    except OSError as fault:
-        if fault.filename is None:
-            raise
-        print(f"marginal: {fault.filename}: {fault.strerror}", file=sys.stderr)
-        return 3
+
+
+def main(words):
+    """The command: see above."""
+    return ended(words, __doc__, work)

@@ -17,10 +17,10 @@ The status is 0, 1 where FOLDER isn't free, 2 for wrong words, and 4 where a fil
 from __future__ import annotations
 
 import os
-import shutil
-import tempfile
 
 from .. import beginnings, source, texts
+from ..endings import Wrong, ended
+from ..program import whole_folder
 
 FILES = {"rules.list": beginnings.LIST, "rules.m": beginnings.RULES, "driver.mpp": beginnings.DRIVER, "household.csv": beginnings.HOUSEHOLD,
          "cases.csv": beginnings.CASES, "check.sh": beginnings.CHECK, ".gitlab-ci.yml": beginnings.GITLAB, "README.md": beginnings.README}
@@ -33,35 +33,28 @@ def is_free(folder: str) -> bool:
 
 
 def make(folder: str) -> None:
-    """Writes the files into a temporary folder, which is then renamed: a folder of the name is complete."""
-    parent = os.path.dirname(os.path.abspath(folder))
-    room = tempfile.mkdtemp(prefix=".new-", dir=parent)
-    try:
-        said = {word: texts.said(f"new.{word}") for word in WORDS}
+    """Writes the files. A folder of the name is complete."""
+    said = {word: texts.said(f"new.{word}") for word in WORDS}
+    with whole_folder(folder) as room:
         for name, text in FILES.items():
             path = os.path.join(room, name)
             source.put(path, (text.format(**said) if name not in ("cases.csv", "household.csv", "rules.list") else text).encode("utf-8"))
             if name == "check.sh":
                 os.chmod(path, 0o777 & ~source.MASK)
-        os.chmod(room, 0o777 & ~source.MASK)
-        os.rename(room, folder)
-    except BaseException:
-        shutil.rmtree(room, ignore_errors=True)
-        raise
+
+
+def work(words: list[str]) -> int:
+    """Does what the words say."""
+    words = texts.language_of(words)
+    if len(words) != 1 or words[0].startswith("--"):
+        raise Wrong(texts.said("new.words"), 2)
+    if not is_free(words[0]):
+        raise Wrong(texts.said("new.exists", folder=words[0]))
+    make(words[0])
+    print(texts.said("new.made", folder=words[0]))
+    return 0
 
 
 def main(words: list[str]) -> int:
     """The command: see above."""
-    if "--help" in words:
-        print(__doc__, end="")
-        return 0
-    words = texts.language_of(words)
-    if len(words) != 1 or words[0].startswith("--"):
-        source.say(texts.said("new.words"))
-        return 2
-    if not is_free(words[0]):
-        source.say(texts.said("new.exists", folder=words[0]))
-        return 1
-    make(words[0])
-    print(texts.said("new.made", folder=words[0]))
-    return 0
+    return ended(words, __doc__, work)

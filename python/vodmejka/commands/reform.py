@@ -26,17 +26,16 @@ m_survey of this repository, or the one that M_SURVEY names.
 import argparse
 import csv
 import os
-import shutil
-import sys
-import tempfile
 from fractions import Fraction
 
 from .. import source
 from ..amounts import UNIT, plain
 from ..comparisons import TENTH
-from ..errors import NotFound, Refused, VodmejkaError
+from ..endings import ended, files_named
+from ..errors import Refused
 from ..file_comparisons import compare_file
 from ..long_tables import column_named
+from ..program import whole_folder
 from ..reform_page import page
 from ..rules import Rules
 from ..texts import language_of, said
@@ -91,26 +90,20 @@ def written(words, room):
     return found.comparison
 
 
-def work(words):
+def made(words):
     """Writes the folder, which gets its name when all is written, and returns the sums of all."""
     parent = os.path.dirname(os.path.abspath(words.into))
     if os.path.lexists(words.into):
         raise Refused(said("reform.there", folder=words.into))
     if not os.access(parent, os.W_OK):
         raise source.Refused(said("reform.unwritable", folder=parent))
-    room = tempfile.mkdtemp(prefix=".reform-", dir=parent)
-    try:
-        made = written(words, room)
-        os.chmod(room, 0o777 & ~source.MASK)
-        os.rename(room, words.into)
-    except BaseException:
-        shutil.rmtree(room, ignore_errors=True)
-        raise
-    return made.all
+    with whole_folder(words.into) as room:
+        return written(words, room).all
 
 
-def main(words):
-    reader = argparse.ArgumentParser(prog="reform", description=__doc__, formatter_class=argparse.RawDescriptionHelpFormatter)
+def work(words):
+    """Does what the words say."""
+    reader = argparse.ArgumentParser(prog="reform")
     for name in ("before", "after", "driver", "requests", "table"):
         reader.add_argument(name, metavar=name.upper())
     reader.add_argument("--of", required=True, metavar="NAME")
@@ -125,22 +118,15 @@ def main(words):
     signs.add_argument("--less-is-gain", action="store_true")
     signs.add_argument("--more-is-gain", action="store_true")
     words = reader.parse_args(language_of(words))
-    try:
-        whole = work(words)
-    except NotFound as fault:
-        print(f"reform: {fault}", file=sys.stderr)
-        return 3
-    except VodmejkaError as fault:
-        print(f"reform: {fault.line if isinstance(fault, Refused) else fault}", file=sys.stderr)
-        return 1
-    except source.Refused as fault:
-        print(f"reform: {fault}", file=sys.stderr)
-        return 3
-    except OSError as fault:
-        print(f"reform: {fault.filename or words.into}: {fault.strerror}", file=sys.stderr)
-        return 3
+    with files_named(words.into):
+        whole = made(words)
     print(said("reform.households", count=whole.households, stopped=whole.apart, name=words.of, before=plain(whole.before), after=plain(whole.after)))
     print(said("reform.winners", winners=plain(whole.winners), losers=plain(whole.losers), unchanged=plain(whole.unchanged), folder=words.into))
     if not words.more_is_gain and not words.less_is_gain:
         print(said("reform.taken", name=words.of))
     return 0
+
+
+def main(words):
+    """The command: see above."""
+    return ended(words, __doc__, work)

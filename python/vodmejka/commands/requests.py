@@ -18,6 +18,7 @@ import re
 import sys
 
 from .. import source
+from ..endings import Wrong, ended
 from ..limits import REQUESTS
 from ..places import decode
 
@@ -49,31 +50,26 @@ def print_codes(base, patterns):
     return bool(rows)
 
 
-def main(words):
-    if "--help" in words:
-        print(__doc__, end="")
-        return 0
+def work(words):
+    """Does what the words say."""
     is_codes, words = "--codes" in words, [word for word in words if word != "--codes"]
     kinds = {KINDS[word] for word in words if word in KINDS}
     words = [word for word in words if word not in KINDS]
     if not words or any(word.startswith("--") for word in words) or is_codes and kinds:
-        print("requests: words: requests LIST [PATTERN..]; see --help", file=sys.stderr)
-        return 2
-    try:
-        base = source.RuleBase(words[0])
-    except source.Refused as fault:
-        print(f"requests: {fault}", file=sys.stderr)
-        return 3
-    patterns = [form(word) for word in words[1:]]
+        raise Wrong("words: requests LIST [PATTERN..]; see --help", 2)
+    base, patterns = source.RuleBase(words[0]), [form(word) for word in words[1:]]
     if is_codes:
         if not print_codes(base, patterns):
-            source.say("no code matches")
-            return 1
+            raise Wrong("no code matches")
         return 0
     variables = [variable for variable in base.variables if not kinds or variable.kind in kinds]
     names = [name for variable in variables for name in names_of(variable, patterns)]
     if not names or len(names) > REQUESTS:
-        print(f"requests: {len(names)} values match, and 1 to {REQUESTS:,} can be asked for", file=sys.stderr)
-        return 1
+        raise Wrong(f"{len(names)} values match, and 1 to {REQUESTS:,} can be asked for")
     print("\n".join(names))
     return 0
+
+
+def main(words):
+    """The command: see above."""
+    return ended(words, __doc__, work)

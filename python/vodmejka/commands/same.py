@@ -25,6 +25,7 @@ import tempfile
 
 sys.dont_write_bytecode = True
 from .. import runs, source
+from ..endings import Wrong, ended, files_named
 from ..errors import Failed
 from ..limits import AMOUNT
 
@@ -32,14 +33,6 @@ AT_ONCE = 2_000
 TRIES, TRIES_OF_CODE = 20_000, 500
 BYTES = 8_000_000
 LINE = re.compile(rb"household r([0-9]+)\n")
-
-
-class Wrong(Exception):
-    """What ends the tool, with its status."""
-
-    def __init__(self, text, status=6):
-        super().__init__(text)
-        self.status = status
 
 
 class Compiled:
@@ -82,7 +75,7 @@ def compiled(origin, name):
         return origin.code
     code = said(origin, name, "compile")
     if not code.endswith(b"\nend\n"):
-        raise Wrong(f"{name}: the program prints no whole code file")
+        raise Wrong(f"{name}: the program prints no whole code file", 6)
     return code
 
 
@@ -226,28 +219,20 @@ def compare(words, tries, seed, room):
     return 5
 
 
-def main(words):
-    if "--help" in words:
-        print(__doc__, end="")
-        return 0
+def work(words):
+    """Does what the words say."""
     words = words_of(words)
     if words is None:
-        source.say("words: same LIST1 DRIVER1 LIST2 DRIVER2 REQUESTS [--tries COUNT] [--seed SEED]; --code FILE for a list and a driver; see --help")
-        return 2
+        raise Wrong("words: same LIST1 DRIVER1 LIST2 DRIVER2 REQUESTS [--tries COUNT] [--seed SEED]; --code FILE for a list and a driver; see --help", 2)
     try:
-        with tempfile.TemporaryDirectory() as room:
+        with files_named(), tempfile.TemporaryDirectory() as room:
             return compare(*words, room)
-    except Wrong as wrong:
-        print(f"same: {wrong}", file=sys.stderr)
-        return wrong.status
     except Failed as fault:
-        print(f"same: {fault}", file=sys.stderr)
-        return 6
+        raise Wrong(str(fault), 6) from fault
     except source.Refused as fault:
-        print(f"same: {fault}", file=sys.stderr)
-        return 3 if str(fault).startswith("unreadable ") else 6
-    except OSError as fault:
-        if fault.filename is None:
-            raise
-        print(f"same: {fault.filename}: {fault.strerror}", file=sys.stderr)
-        return 3
+        raise Wrong(str(fault), 3 if str(fault).startswith("unreadable ") else 6) from fault
+
+
+def main(words):
+    """The command: see above."""
+    return ended(words, __doc__, work)

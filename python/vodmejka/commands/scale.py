@@ -44,6 +44,7 @@ import tempfile
 
 from .. import records, runs, source
 from ..cutting import cut, header_line, parts_of
+from ..endings import Wrong, ended, files_named
 from ..errors import Failed
 from ..joining import print_columns, print_whole
 from ..limits import FILE_BYTES, ROWS
@@ -306,30 +307,23 @@ def are_right(arguments):
 COMMANDS = {"cut": cut_table, "list": list_parts, "one": one, "run": run, "join": join, "verify": verify, "drop": drop, "pipe": pipe, "source": tell_source}
 
 
-def main(words):
-    if "--help" in words:
-        print(__doc__, end="")
-        return 0
+def work(words):
+    """Does what the words say."""
     arguments = reading().parse_args(words)
     if not are_right(arguments):
-        print(f"scale: these words don't go together after {arguments.command}; see --help", file=sys.stderr)
-        return 2
+        raise Wrong(f"these words don't go together after {arguments.command}; see --help", 2)
     try:
-        COMMANDS[arguments.command](arguments)
+        with files_named():
+            COMMANDS[arguments.command](arguments)
     except (Failed, records.Strange) as fault:
-        print(f"scale: {fault}", file=sys.stderr)
-        return 1
-    except concurrent.futures.BrokenExecutor:
-        print("scale: a process that looks at answers was ended, as where memory ends: the same words go on", file=sys.stderr)
-        return 1
-    except source.Refused as fault:
-        print(f"scale: {fault}", file=sys.stderr)
-        return 3
-    except OSError as fault:
-        if fault.filename is None:
-            raise
-        print(f"scale: {fault.filename}: {fault.strerror}", file=sys.stderr)
-        return 3
+        raise Wrong(str(fault)) from fault
+    except concurrent.futures.BrokenExecutor as fault:
+        raise Wrong("a process that looks at answers was ended, as where memory ends: the same words go on") from fault
     finally:
         runs.CHILDREN.end()
     return 0
+
+
+def main(words):
+    """The command: see above."""
+    return ended(words, __doc__, work)

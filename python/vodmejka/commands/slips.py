@@ -34,10 +34,10 @@ import decimal
 import itertools
 import os
 import re
-import sys
 from fractions import Fraction
 
 from .. import drivers, items, slips_of_use, source
+from ..endings import Wrong, ended
 from ..limits import AMOUNT
 from ..loops import instances, replaced, whole
 from ..source import Refused
@@ -258,11 +258,9 @@ def slips_of_files(bases):
         yield f"{places[0][0].place(places[0][1])}: {said('slips.application', application=application, count=len(places))}"
 
 
-def main(words):
+def work(words):
+    """Does what the words say."""
     words, lists, named_drivers = language_of(words), [], []
-    if "--help" in words:
-        print(__doc__, end="")
-        return 0
     while words:
         word = words.pop(0)
         if word == "--driver" and words:
@@ -273,13 +271,13 @@ def main(words):
         else:
             lists.append(word)
     if not lists:
-        print(f"slips: {said('slips.words')}", file=sys.stderr)
-        return 2
-    try:
-        found = list(dict.fromkeys(slips(lists, named_drivers)))
-    except Refused as fault:
-        print(f"slips: {fault}", file=sys.stderr)
-        return 3
+        raise Wrong(said("slips.words"), 2)
+    found = list(dict.fromkeys(slips(lists, named_drivers)))
     for slip in found:
         print(f"slip {slip}")
     return 1 if found else 0
+
+
+def main(words):
+    """The command: see above."""
+    return ended(words, __doc__, work)

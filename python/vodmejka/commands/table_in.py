@@ -31,13 +31,14 @@ import re
 import sys
 
 from .. import sheets, source
+from ..endings import Wrong, ended
 from ..limits import ROWS
 from ..source import Refused
 from ..written_amounts import Amounts, OTHER, Signs, is_amount
 
 CODE = re.compile("(?![0-9]+$)[0-9A-Z_]+")
 LIKE_A_BOX = re.compile("[0-9]+[A-Za-z][0-9A-Za-z]*")
-WORDS = ("table-in: words: table-in [--list LIST] [--leave HEAD] [--labels HEAD] [--sheet NAME] [--french | --decimal SIGN | --thousands SIGN] "
+WORDS = ("words: table-in [--list LIST] [--leave HEAD] [--labels HEAD] [--sheet NAME] [--french | --decimal SIGN | --thousands SIGN] "
          "[--table | --household] FILE; see --help")
 FILE_BYTES = 1 << 28
 OF_UTF_8 = re.compile(rb"[\xc2-\xdf][\x80-\xbf]|[\xe0-\xef][\x80-\xbf]{2}|[\xf0-\xf4][\x80-\xbf]{3}")
@@ -269,26 +270,23 @@ def read_words(words):
     return options, words[0] if len(words) == 1 else None
 
 
-def main(words):
-    if "--help" in words:
-        print(__doc__, end="")
-        return 0
-    try:
-        options, name = read_words(words)
-        if name is None:
-            print(WORDS, file=sys.stderr)
-            return 2
-        content = source.taken(source.standard_input(), name, FILE_BYTES) if name == "-" else source.fetch(name, FILE_BYTES)
-    except Refused as fault:
-        print(f"table-in: {fault}", file=sys.stderr)
-        return 3
+def work(words):
+    """Does what the words say."""
+    options, name = read_words(words)
+    if name is None:
+        raise Wrong(WORDS, 2)
+    content = source.taken(source.standard_input(), name, FILE_BYTES) if name == "-" else source.fetch(name, FILE_BYTES)
     options["name"] = name
     try:
         text, count = written(content, options)
     except Refused as fault:
-        print(f"table-in: {name} {fault}", file=sys.stderr)
-        return 1
+        raise Wrong(f"{name} {fault}") from fault
     if count > ROWS:
-        print(f"table-in: {count} rows, and a table has at most {ROWS:,}: tools/scale cuts it", file=sys.stderr)
+        source.say(f"{count} rows, and a table has at most {ROWS:,}: tools/scale cuts it")
     sys.stdout.write(text)
     return 0
+
+
+def main(words):
+    """The command: see above."""
+    return ended(words, __doc__, work)

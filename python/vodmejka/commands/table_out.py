@@ -22,6 +22,7 @@ import re
 import sys
 
 from .. import records, source
+from ..endings import Wrong, ended
 from ..records import Strange
 
 BYTES = 16_777_216  # the longest record of a table
@@ -119,14 +120,11 @@ def read_words(words):
     return None if {"--requests", "--list"} <= set(options) else options
 
 
-def main(words):
-    if "--help" in words:
-        print(__doc__, end="")
-        return 0
+def work(words):
+    """Does what the words say."""
     options = read_words(words)
     if options is None:
-        print("table-out: words: table-out [--of TABLE] [--french] [--bare] [--requests REQUESTS | --list LIST]; see --help", file=sys.stderr)
-        return 2
+        raise Wrong("words: table-out [--of TABLE] [--french] [--bare] [--requests REQUESTS | --list LIST]; see --help", 2)
     french, out = "--french" in options, sys.stdout.buffer
     delimiter, end = (b";", b"\r\n") if french else (b",", b"\n")
     guarded = (lambda text: text) if "--bare" in options else records.unlike_a_formula
@@ -141,6 +139,10 @@ def main(words):
             out.write(delimiter.join([quoted(field, delimiter) for field in fields]) + end)
     except (Strange, source.Refused) as fault:
         out.flush()
-        print(f"table-out: {fault}", file=sys.stderr)
-        return 1 if isinstance(fault, Strange) else 3
+        raise Wrong(str(fault), 1 if isinstance(fault, Strange) else 3) from fault
     return 0
+
+
+def main(words):
+    """The command: see above."""
+    return ended(words, __doc__, work)

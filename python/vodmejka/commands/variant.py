@@ -12,13 +12,12 @@ are reported on standard error, with the status 1. FOLDER must not exist, and it
 The status is 2 for wrong words, 3 where a file can't be read or written, and 4 where the output is closed.
 """
 import os
-import shutil
-import sys
-import tempfile
 
 from .. import source
-from ..constants import Wrong, change_of, changed, places_of, spelled
+from ..constants import change_of, changed, places_of, spelled
+from ..endings import Wrong, ended, files_named
 from ..limits import FILE_NAME_BYTES
+from ..program import whole_folder
 
 
 def copy_names(files):
@@ -51,32 +50,22 @@ def write_copy(base, pieces, folder):
     """Writes the files with their pieces replaced, and the list; the folder gets its name once all are written."""
     names = copy_names(base.files)
     lines = [line_of_list(os.path.join(folder, name)) for name in names]
-    parent = os.path.dirname(os.path.abspath(folder))
-    room = tempfile.mkdtemp(prefix=".variant-", dir=parent)
-    try:
+    with whole_folder(folder) as room:
         for file, name in zip(base.files, names):
             with open(os.path.join(room, name), "wb") as out:
                 out.write(changed(file.bytes, pieces.get(id(file), [])))
         with open(os.path.join(room, "rules.list"), "wb") as out:
             out.write(base.application.encode() + b"\n")
             out.writelines(lines)
-        os.chmod(room, 0o777 & ~source.MASK)
-        os.rename(room, folder)
-    except BaseException:
-        shutil.rmtree(room, ignore_errors=True)
-        raise
 
 
-def main(words):
-    if "--help" in words:
-        print(__doc__, end="")
-        return 0
+def work(words):
+    """Does what the words say."""
     changes = [word.split("=", 1) for word in words[1:-1]]
     if len(words) < 3 or not all(len(change) == 2 for change in changes) or "=" in words[-1] or words[0].startswith("-"):
-        print("variant: words: variant LIST NAME=VALUE.. FOLDER; see --help", file=sys.stderr)
-        return 2
+        raise Wrong("words: variant LIST NAME=VALUE.. FOLDER; see --help", 2)
     folder = words[-1]
-    try:
+    with files_named(folder):
         if os.path.lexists(folder):
             raise Wrong(f"{folder} is there already")
         names = [name for name, _ in changes]
@@ -93,16 +82,12 @@ def main(words):
             pieces.setdefault(id(file), []).append((begin, end, value))
             told.append(f"{name}: {before} is {value} now, {file.place(begin)}")
         write_copy(base, pieces, folder)
-    except Wrong as fault:
-        print(f"variant: {fault}", file=sys.stderr)
-        return 1
-    except source.Refused as fault:
-        print(f"variant: {fault}", file=sys.stderr)
-        return 3
-    except OSError as fault:
-        print(f"variant: {fault.filename or folder}: {fault.strerror}", file=sys.stderr)
-        return 3
     for line in told:
         print(line)
     print(f"the copy's list: {os.path.join(folder, 'rules.list')}")
     return 0
+
+
+def main(words):
+    """The command: see above."""
+    return ended(words, __doc__, work)

@@ -32,6 +32,7 @@ from .. import reasons, runs, source
 from ..copies import Copies, Stopped
 from ..driver_trace import Driver, Trace, cells_of, last
 from ..endings import Wrong, ended
+from ..program import whole_file
 from ..texts import FRENCH, Language, language_of, said
 from ..why_trees import Tree
 
@@ -201,19 +202,11 @@ def as_page(tree, words, is_open, stop):
 
 def write_page(path, lines):
     """Writes a file whole, or not at all; of a link the file that it leads to."""
-    target, made = os.path.realpath(path), None
     try:
-        with tempfile.NamedTemporaryFile("w", dir=os.path.dirname(target), prefix=".why-", delete=False, encoding="utf-8", errors="surrogateescape") as out:
-            made = out.name
-            os.fchmod(out.fileno(), 0o666 & ~source.MASK)
-            out.writelines(line + "\n" for line in lines)
-        os.replace(made, target)
-    except BaseException as fault:
-        if made is not None:
-            os.unlink(made)
-        if isinstance(fault, OSError):
-            raise Wrong(f"{path}: {fault.strerror}", 4) from fault
-        raise
+        with whole_file(os.path.realpath(path), 0o666 & ~source.MASK) as out:
+            out.writelines(f"{line}\n".encode("utf-8", "surrogateescape") for line in lines)
+    except OSError as fault:
+        raise Wrong(f"{path}: {fault.strerror}", 4) from fault
 
 
 def look_at_page(page, read):

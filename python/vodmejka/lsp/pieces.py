@@ -11,7 +11,6 @@ from bisect import bisect_right
 from typing import Any, NamedTuple
 
 from .. import items, loops, source
-from ..grammar import Stuck
 from ..limits import BRACKET_DEPTH
 from .texts import Text
 
@@ -154,12 +153,7 @@ class PieceReader(items.RuleReader):
         """Reads up to the end of the piece at hand. One without a token goes on in the next."""
         first = self.at
         while self.at == first and (self.at < len(self.tokens) or self.due):
-            self.wanted, self.hint = [], ""
-            try:
-                self.piece()
-            except Stuck:
-                self.note()
-                self.recover()
+            self.piece_or_fault()
 
     def note(self) -> None:
         super().note()

@@ -1,8 +1,8 @@
 """A stub of PySpark, for tests of what `RDD.pipe` does to a command: it does what Spark 3 does, and nothing else of Spark.
 
 A list is cut into partitions. Each is a task of an executor, a process with a folder of its own. The task starts the command, whose words are split as by
-a shell, with the environment that was given (none, where none was), and writes each element as a line of UTF-8. Lines come back as UTF-8. A status that isn't 0 is
-an error with checkCode. A task that fails, or whose executor is lost, is begun again, four times at the most.
+a shell, with the environment that was given (none, where none was), and writes each element as a line of UTF-8. Lines come back as UTF-8. A status that
+isn't 0 is an error with checkCode. A task that fails, or whose executor is lost, is begun again, four times at the most.
 """
 import multiprocessing
 import os

@@ -2,9 +2,9 @@
 
 from typing import Any, List, NamedTuple, Tuple
 
-from .amounts import OVER, UNDEFINED, print_amount, read_amount
+from .amounts import OVER, UNDEFINED, print_amount
 from .faults import Refused
-from .files import TableRow, at_record, records_of, table_row
+from .files import TableRow, amount_of, at_record, records_of, table_row
 from .texts import decimal
 
 STOP = "stop"
@@ -41,17 +41,9 @@ def read_case(number, header, fields, inputs, types, names):
     expected = []
     for code, field in zip(header[1:], fields[1:]):
         if field and code.startswith(b"="):
-            value = WORDS[field] if field in WORDS else amount_expected(number, field)
+            value = WORDS[field] if field in WORDS else amount_of(number, field, b"bad expected")
             expected.append((names.index(code[1:]), value))
     return Case(row, expected)
-
-
-def amount_expected(number, field):
-    """The amount that a field expects."""
-    amount = read_amount(field)
-    if amount is UNDEFINED or amount is OVER:
-        raise at_record(number, b"bad expected")
-    return amount
 
 
 def mismatches(case, values, names):

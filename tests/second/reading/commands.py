@@ -55,8 +55,13 @@ class Output(NamedTuple):
 
 def output(words, files, typed=b""):
     """What is printed, and with which status. `files` has the bytes of each file by its name."""
+    return output_of(answer, words, files, typed)
+
+
+def output_of(answer, *arguments):
+    """The same of an answer to these arguments, where refusals are raised."""
     try:
-        return Output(*answer(words, files, typed))
+        return Output(*answer(*arguments))
     except RingRefused as refusal:
         return Output(refusal.line + b"\n", REFUSED, refusal)
     except Refused as refusal:

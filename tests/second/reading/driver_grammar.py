@@ -4,12 +4,10 @@ from typing import Any, List, NamedTuple, Optional
 
 from .amounts import UNIT
 from .faults import at_driver_line
-from .terms import Cursor, NotSpelled, chained, is_whole
+from .terms import Cursor, NotSpelled, chained, is_whole, plain_sum
 from .trees import Number, Operation
 
 COMPARISONS = {b"==": "eq", b"!=": "ne", b"<": "lt", b"<=": "le", b">": "gt", b">=": "ge"}
-SUMS = {b"+": "add", b"-": "sub"}
-PRODUCTS = {b"*": "mul", b"/": "div"}
 TAX_BENEFIT = (b"avfisc", [1 * UNIT, 2 * UNIT])
 
 
@@ -249,26 +247,9 @@ def negation(cursor):
 
 def comparison(cursor):
     """A sum, or two sums with one comparison between them."""
-    left = plain_sum(cursor)
+    left = plain_sum(cursor, primary)
     operator = cursor.one_of("sign", COMPARISONS)
-    return left if operator is None else Operation(operator, [left, plain_sum(cursor)])
-
-
-def plain_sum(cursor):
-    """Products joined by `+` and `-`."""
-    return chained(cursor, product, "sign", SUMS)
-
-
-def product(cursor):
-    """Factors joined by `*` and `/`."""
-    return chained(cursor, factor, "sign", PRODUCTS)
-
-
-def factor(cursor):
-    """A primary, perhaps after one `-`."""
-    if cursor.take_if("sign", b"-"):
-        return Operation("neg", [primary(cursor)])
-    return primary(cursor)
+    return left if operator is None else Operation(operator, [left, plain_sum(cursor, primary)])
 
 
 def primary(cursor):

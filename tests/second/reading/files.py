@@ -145,11 +145,11 @@ def read_household(text, inputs, types):
     return list(amounts.items())
 
 
-def amount_of(number, text):
+def amount_of(number, text, fault=b"bad amount"):
     """The amount of a field in the record with this number."""
     amount = read_amount(text)
     if amount is UNDEFINED or amount is OVER:
-        raise at_record(number, b"bad amount")
+        raise at_record(number, fault)
     return amount
 
 

@@ -1,9 +1,9 @@
 """Names to cells: the base of the rules, or the first fault of a name."""
 
-from typing import Any, NamedTuple
+from typing import NamedTuple
 
 from .faults import at_place
-from .trees import EVERY, Cell, CellNumber, Chain, Membership, Name, Number, Operation, Pick, Read
+from .trees import EVERY, Cell, CellNumber, Chain, Name, Number, Operation, Pick, Read
 
 
 class Label(NamedTuple):

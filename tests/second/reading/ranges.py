@@ -1,9 +1,9 @@
 """Ranges: what may be given of each input."""
 
 from .amounts import GREATEST, OVER, UNDEFINED, UNIT, read_amount
-from .facts import UNDEFINED_ALONE, Fact
 from .faults import Refused
 from .files import MOST_ROWS, is_of_type, records_of
+from .intervals import UNDEFINED_ALONE, Fact
 from .texts import decimal
 
 

@@ -1,9 +1,8 @@
 """The commands of m_survey."""
 
 from .code_files import read_code
-from .commands import CODE_FILE_BYTES, DONE, FILE_BYTES, NO_COMMAND, NOT_READ, REFUSED, Output, fetched, gathered
+from .commands import CODE_FILE_BYTES, DONE, FILE_BYTES, NO_COMMAND, fetched, gathered, output_of
 from .facts import Facts
-from .faults import Refused, RingRefused, Unreadable
 from .files import read_table
 from .ranges import read_ranges
 from .records import record
@@ -19,14 +18,7 @@ VERSION = b"vodmejka 1.0.0\n"
 
 def survey_output(words, files):
     """What m_survey prints, and with which status. `files` has the bytes of each file by its name."""
-    try:
-        return Output(*survey_answer(words, files))
-    except RingRefused as refusal:
-        return Output(refusal.line + b"\n", REFUSED, refusal)
-    except Refused as refusal:
-        return Output(refusal.line + b"\n", REFUSED)
-    except Unreadable as missing:
-        return Output(b"unreadable " + missing.name + b"\n", NOT_READ)
+    return output_of(survey_answer, words, files)
 
 
 def survey_answer(words, files):

@@ -176,10 +176,10 @@ def negation(cursor):
 
 def relation(cursor):
     """A sum, a comparison of two, or a membership."""
-    left = plain_sum(cursor)
+    left = plain_sum(cursor, primary)
     operator = cursor.one_of("sign", COMPARISONS)
     if operator is not None:
-        return Operation(operator, [left, plain_sum(cursor)])
+        return Operation(operator, [left, plain_sum(cursor, primary)])
     negated = cursor.take_if("key", b"non")
     if negated:
         cursor.key(b"dans")
@@ -208,17 +208,17 @@ def signed_number(cursor):
     return Operation("neg", [number]) if negative else number
 
 
-def plain_sum(cursor):
-    """Products joined by `+` and `-`."""
-    return chained(cursor, product, "sign", SUMS)
+def plain_sum(cursor, primary):
+    """Products joined by `+` and `-`; `primary` reads what the operators join."""
+    return chained(cursor, lambda at: product(at, primary), "sign", SUMS)
 
 
-def product(cursor):
+def product(cursor, primary):
     """Factors joined by `*` and `/`."""
-    return chained(cursor, factor, "sign", PRODUCTS)
+    return chained(cursor, lambda at: factor(at, primary), "sign", PRODUCTS)
 
 
-def factor(cursor):
+def factor(cursor, primary):
     """A primary, perhaps after one `-`."""
     if cursor.take_if("sign", b"-"):
         return Operation("neg", [primary(cursor)])
