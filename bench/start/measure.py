@@ -40,7 +40,7 @@ def script(folder, name, text):
 
 
 def copied(folder):
-    """The sources, `true` as the programs, and what ./build leaves beside them, by ./build itself and a toolchain that proves nothing; how many are looked at."""
+    """The sources, `true` as the programs, and what ./build leaves beside them with a toolchain that proves nothing; returns how many files are looked at."""
     for name in (f"crates/{crate}/{part}" for crate in sorted(os.listdir(f"{ROOT}/crates")) for part in ("src", "specs")):
         if os.path.isdir(f"{ROOT}/{name}"):
             shutil.copytree(f"{ROOT}/{name}", f"{folder}/{name}")

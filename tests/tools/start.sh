@@ -44,7 +44,8 @@ for site in made bare; do
     echo "-- $site: a file of each folder that is rewritten, new, gone or moved, and a crate that is new: each is told"
     for change in 'echo >>src/file' 'echo >>src/below/file' 'echo >>specs/file' 'echo >>specs/below/file' ': >src/other' 'rm src/file' ': >src/below/other' \
         ': >specs/other' 'rm specs/file' 'rm specs/below/file' 'mkdir src/new' 'mv specs/below/file specs/moved' 'mkdir -p ../new/src' 'mkdir -p ../new/specs' \
-        'mkdir ../m_tax/specs' 'echo >>../../crates.txt' 'mv ../../crates.txt ../../old.txt && : >../../crates.txt' 'touch -d "2000-01-02 00:00:00.000000001" src/file'; do
+        'mkdir ../m_tax/specs' 'echo >>../../crates.txt' 'mv ../../crates.txt ../../old.txt && : >../../crates.txt' \
+        'touch -d "2000-01-02 00:00:00.000000001" src/file'; do
         changed $site "$change" >said
         echo "$(cat said)" | tr '\n' ' '
         echo "$change"
