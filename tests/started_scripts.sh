@@ -49,6 +49,7 @@ for call in 'old/m_tax' './old/m_tax' 'sh old/m_tax' 'there/m_tax' './again' "$d
     judge "$?" 6 "program: run" "$call, a newer file" "m_tax: the sources are newer than the program; this is the program as ./build proved it last"
 done
 # The other name runs the other program, also through a link of its own name; a link of any name runs the one that it points to.
+aged
 printf '#!/bin/sh\necho "survey: $*"\nexit 5\n' >"$dir/old/out/m_survey"
 chmod +x "$dir/old/out/m_survey"
 ln -s m_tax "$dir/old/m_survey"
@@ -109,7 +110,7 @@ for signal in TERM KILL; do
 done
 
 # So does ./build, which leaves its messages.
-mkdir -p "$dir/site/crates/m_tax"
+mkdir -p "$dir/site/crates/m_tax/src" "$dir/site/crates/m_tax/specs"
 : >"$dir/site/crates.txt"
 cp build "$dir/site/build"
 rm -f "$dir/begun" "$dir/ended"
