@@ -25,23 +25,29 @@ const PARTS: usize = 4;
 // time would take more than 8 GB.
 const HEAVY: usize = 33_554_432;
 
-// How many neighbouring files a worker reads: all of them, if they are heavy.
+// Files of fewer bytes than these together are read one after another too: a thread takes as long to
+// start as 6 KB take to be read.
+const LIGHT: usize = 32_768;
+
+// How many neighbouring files a worker reads: all of them, if threads don't pay.
 fn files_at_once<R: Threads>(rt: &R, texts: &[Text]) -> usize
     ensures { 0 < result }
 {
-    if are_heavy(texts) {
+    let bytes = bytes_of(texts);
+    if bytes < LIGHT || bytes > HEAVY {
         texts.len().max(1)
     } else {
         part_size(rt, texts.len(), PARTS)
     }
 }
 
-fn are_heavy(texts: &[Text]) -> bool {
+// The bytes of all files.
+fn bytes_of(texts: &[Text]) -> usize {
     let mut bytes = 0usize;
     for text in texts {
         bytes = bytes.saturating_add(text.bytes.as_slice().len());
     }
-    bytes > HEAVY
+    bytes
 }
 
 /// The items of each rule file, in the order of the files, or the error of the first file that
