@@ -1,35 +1,45 @@
 //! The hash key of names.
 
+use crate::hasher::NameHasher;
 use m_places::Name;
-use sha2::{Digest, Sha256};
+use sha2::{Digest, Sha512};
 use std::hash::{BuildHasher, DefaultHasher, Hasher};
 
 /// A key for hashing names: every hash starts from this state of the hasher.
 #[derive(Clone, Copy)]
 pub struct Key {
-    start: DefaultHasher,
+    start: NameHasher,
 }
 
-/// The digest from which a key is made: SHA-256 of the names and their lengths.
+// A name of fewer bytes has its length in one byte.
+const LONG: usize = 255;
+
+/// The digest from which a key is made: SHA-512 of the names and their lengths. (It takes half of
+/// the time a byte that SHA-256 takes.)
 ///
 /// A key that depends on all names is known only after they are chosen, so names can't be chosen to
 /// collide under it.
 #[derive(Drop)]
 pub struct NamesDigest {
-    digest: Sha256,
+    digest: Sha512,
 }
 
 impl NamesDigest {
     /// The digest of no names.
     pub fn new() -> NamesDigest {
         NamesDigest {
-            digest: Sha256::new(),
+            digest: Sha512::new(),
         }
     }
 
     /// Adds a name to the digest.
     pub fn take(&mut self, name: &[u8]) {
-        self.digest.update(&name.len().to_le_bytes());
+        if name.len() < LONG {
+            self.digest.update(&[name.len() as u8]);
+        } else {
+            self.digest.update(&[LONG as u8]);
+            self.digest.update(&name.len().to_le_bytes());
+        }
         self.digest.update(name);
     }
 
@@ -38,7 +48,9 @@ impl NamesDigest {
         let NamesDigest { digest } = self;
         let mut start = DefaultHasher::new();
         start.write(&digest.finalize());
-        Key { start }
+        Key {
+            start: NameHasher::after(start),
+        }
     }
 }
 
@@ -54,11 +66,11 @@ impl Key {
 }
 
 impl BuildHasher for Key {
-    type Hasher = DefaultHasher;
+    type Hasher = NameHasher;
 
     ghost build_hasher = { λ key. key.start };
 
-    fn build_hasher(&self) -> DefaultHasher {
+    fn build_hasher(&self) -> NameHasher {
         self.start
     }
 }

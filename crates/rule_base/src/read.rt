@@ -1,6 +1,6 @@
 //! Rule files, parsed by several workers.
 
-ghost use Rattle.std.specs.Prelude.{◌≤◌, ◌+◌, length};
+ghost use Rattle.std.specs.Prelude.{◌<◌, ◌≤◌, ◌+◌, length};
 ghost use Rattle.m_places.specs.Refusals.{Outcome};
 ghost use Rattle.m_places.specs.declared.limits.TheConstants.{LIST_FILES};
 ghost use Rattle.m_places.specs.SourceLimits.{TextsAreWithin, EachIsWithin};
@@ -20,6 +20,36 @@ use workers::{join_parts, part_size};
 // one worker.
 const PARTS: usize = 4;
 
+// Files of more bytes than these together are read one after another. The tokens of a file take up
+// to 80 times its bytes while it is read, its items up to 64 times: 64 MB read by four workers at a
+// time would take more than 8 GB.
+const HEAVY: usize = 33_554_432;
+
+// Files of fewer bytes than these together are read one after another too: a thread takes as long to
+// start as 6 KB take to be read.
+const LIGHT: usize = 32_768;
+
+// How many neighbouring files a worker reads: all of them, if threads don't pay.
+fn files_at_once<R: Threads>(rt: &R, texts: &[Text]) -> usize
+    ensures { 0 < result }
+{
+    let bytes = bytes_of(texts);
+    if bytes < LIGHT || bytes > HEAVY {
+        texts.len().max(1)
+    } else {
+        part_size(rt, texts.len(), PARTS)
+    }
+}
+
+// The bytes of all files.
+fn bytes_of(texts: &[Text]) -> usize {
+    let mut bytes = 0usize;
+    for text in texts {
+        bytes = bytes.saturating_add(text.bytes.as_slice().len());
+    }
+    bytes
+}
+
 /// The items of each rule file, in the order of the files, or the error of the first file that
 /// fails, in whatever order the workers finish. The worker that reads file k, from 0, first calls
 /// `gate.pass(k)`. `TextsAreWithin` bounds the count of files, so a file's number can't overflow.
@@ -32,7 +62,7 @@ pub fn read_all<R: Threads + Sync, G: Gate + Sync>(
     requires { TextsAreWithin texts.now }
     ensures { Outcome Memory result (SayEach 0 texts.now) (IsFirstFileFault 0 texts.now) }
 {
-    let size = part_size(rt, texts.len(), PARTS);
+    let size = files_at_once(rt, texts);
     let files = join_parts(
         rt,
         alloc,
