@@ -1,4 +1,5 @@
 """What one run of a command takes, and how a figure is reported: used by the benches that time whole runs of programs."""
+import contextlib
 import os
 import subprocess
 import sys
@@ -24,6 +25,36 @@ def timed(command, folder, typed=b""):
         printed.seek(0)
         peak = int(told.read().split()[-1]) * 1024
         return usage.ru_utime + usage.ru_stime, peak, child.returncode, printed.read(), elapsed
+
+
+def processors():
+    """The numbers of the processors that this process may use."""
+    return sorted(os.sched_getaffinity(0))
+
+
+def alone(command, number=0):
+    """The command on one processor."""
+    return ["taskset", "-c", str(processors()[number]), *command]
+
+
+def side_by_side(command, folder, wanted=None):
+    """Seconds by the clock of one run of the command on each processor, all at once: until the last ends.
+
+    This is what all processors together can give. Four virtual processors are often two cores, on which it is about twice as long as one run alone.
+    Each run must end with the status and the text of `wanted`, where that is given.
+    """
+    count = len(processors())
+    with contextlib.ExitStack() as files:
+        outs = [files.enter_context(tempfile.TemporaryFile()) for _ in range(count)]
+        begin = time.monotonic()
+        children = [subprocess.Popen(alone(command, k), cwd=folder, stdout=out, stdin=subprocess.DEVNULL) for k, out in enumerate(outs)]
+        statuses = [child.wait() for child in children]
+        elapsed = time.monotonic() - begin
+        for status, out in zip(statuses, outs):
+            out.seek(0)
+            if wanted is not None and (status, out.read()) != wanted:
+                sys.exit(f"{command}: status {status}, or another text, where {count} run side by side")
+    return elapsed
 
 
 def used(command, folder, typed=b""):

@@ -1,14 +1,14 @@
 #!/usr/bin/env python3
-"""Writes rule files of 64 MB in eight files: generate.py FOLDER [MEGABYTES]
+"""Writes rule files of 64 MB in four files: generate.py FOLDER [MEGABYTES]
 
 They are like published ones: declarations with a description, rules with comments over them, formulas of some terms over variables
-of the same and of earlier files, so that all of them make one base below the limits. list.txt names the eight, and fault.txt
+of the same and of earlier files, so that all of them make one base below the limits. list.txt names the four, and fault.txt
 the same but for the last, whose last line can't be read, so that reading alone is done.
 """
 import os
 import sys
 
-FILES = 8
+FILES = 4
 COMMENT = "# Ce que dit l'article : le montant est retenu dans la limite du plafond, pour chaque membre du foyer fiscal, et arrondi.\n"
 
 
@@ -46,7 +46,7 @@ def files(folder, size):
 
 def main():
     folder = sys.argv[1]
-    size = int(float(sys.argv[2]) * 1_000_000) // FILES if len(sys.argv) > 2 else 67_000_000 // FILES
+    size = int(float(sys.argv[2]) * 1_000_000) // FILES if len(sys.argv) > 2 else 16_700_000
     os.makedirs(folder, exist_ok=True)
     names, count = files(folder, size)
     with open(os.path.join(folder, names[-1]), encoding="ascii") as last, open(os.path.join(folder, "fault.m"), "w", encoding="ascii") as out:

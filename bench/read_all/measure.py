@@ -1,55 +1,58 @@
 #!/usr/bin/env python3
-"""Times rule files of 64 MB in eight files on four processors and on one: measure.py PROGRAM FOLDER [MEGABYTES]
+"""Times rule files of 64 MB in four files on all processors: measure.py PROGRAM FOLDER [MEGABYTES]
 
-FOLDER gets the files of generate.py. Elapsed seconds, the least of three runs; one processor is `taskset -c 0`. A whole `run` is timed,
-and one of files whose last line can't be read, which does no more than reading. The bytes and the status of both must be equal,
-and those of the fault at its place. Prints one line with both ratios, and both as figures.
+FOLDER gets the files of generate.py. A whole `run` is timed, and one of files whose last line can't be read, which does no more than reading. Seconds by
+the clock, the least of three runs by turns, of one run on all processors, of one run on one processor (`taskset -c 0`), and of four runs on a processor
+each at once. What all processors can give for one run's work is a quarter of the last: the aim is 1.15 times that. The bytes and the status of all must be
+equal, and those of the fault at its place.
 """
 import os
 import subprocess
 import sys
-import time
 
 HERE = os.path.dirname(os.path.abspath(__file__))
 sys.path.append(os.path.dirname(HERE))
-from measured import figure  # noqa: E402
+from measured import alone, figure, machine, processors, side_by_side, timed  # noqa: E402
 
 RUNS = 3
 
 
-def timed(words, folder):
-    """The least elapsed seconds, and what was printed, with the status."""
-    least, said = None, None
-    for _ in range(RUNS):
-        begin = time.monotonic()
-        done = subprocess.run(words, cwd=folder, stdin=subprocess.DEVNULL, stdout=subprocess.PIPE, check=False)
-        least = min(time.monotonic() - begin, least or float("inf"))
-        if said not in (None, (done.stdout, done.returncode)):
-            sys.exit(f"{words}: two runs differ")
-        said = done.stdout, done.returncode
-    return least, said
+def clock(words, folder):
+    """Seconds by the clock of one run, and its status and text."""
+    _, _, status, text, seconds = timed(words, folder)
+    return seconds, (status, text)
 
 
 def ratio(name, program, folder, listed, wanted):
     words = [program, "run", listed, "-", "-", "household.csv"]
-    (many, said), (one, alone) = timed(words, folder), timed(["taskset", "-c", "0", *words], folder)
-    if said != alone or not wanted(*said):
-        sys.exit(f"{listed}: {said} on all processors, {alone} on one")
-    processors = min(4, os.cpu_count() or 1)
-    figure(f"read_all.{name}_{processors}_processors_to_one", many / one, "<=0.45")
-    return f"{many:.2f} s on {processors} processors, {one:.2f} s on one: {many / one:.2f}"
+    many, one, each = [], [], []
+    for _ in range(RUNS):
+        (seconds, said), (single, other) = clock(words, folder), clock(alone(words), folder)
+        if said != other or not wanted(*said):
+            sys.exit(f"{listed}: {said} on all processors, {other} on one")
+        many, one, each = [*many, seconds], [*one, single], [*each, side_by_side(words, folder, said)]
+    count = len(processors())
+    share = min(each) / count
+    print(f"| {name} | {min(one):.2f} | {min(each):.2f} | {share:.2f} | {min(many):.2f} | {min(many) / share:.2f} | {min(many) / min(one):.2f} |", flush=True)
+    return [(f"{name}_{count}_processors_to_a_share_of_{count}_runs", min(many) / share, "<=1.15"),
+            (f"{name}_{count}_processors_to_one", min(many) / min(one))]
 
 
 def main():
     program, folder = os.path.abspath(sys.argv[1]), sys.argv[2]
     subprocess.run([sys.executable, os.path.join(HERE, "generate.py"), folder, *sys.argv[3:4]], check=True, stdout=subprocess.DEVNULL)
-    size = sum(os.path.getsize(os.path.join(folder, f"r{k}.m")) for k in range(8))
+    names = [name for name in os.listdir(folder) if name.startswith("r") and name.endswith(".m")]
+    size = sum(os.path.getsize(os.path.join(folder, name)) for name in names)
     with open(os.path.join(folder, "fault.m"), "rb") as file:
         text = file.read()
     place = f"line {text.count(10)} byte {text.rindex(b'RESULTAT = ;')}: syntax\n".encode()
-    whole = ratio("run", program, folder, "list.txt", lambda out, status: status == 0 and out.startswith(b"RESULTAT = "))
-    reading = ratio("reading", program, folder, "fault.txt", lambda out, status: status == 1 and out == b"refused fault.m " + place)
-    print(f"{size / 1e6:.0f} MB in 8 files: a run {whole}; reading alone {reading}")
+    print(f"{size / 1e6:.0f} MB in {len(names)} files; {machine()}\n")
+    print("| Work | one run on one processor, s | a run on each processor at once, s | a share of that, s | one run on all, s | to the share | to one |\n"
+          "|---|---:|---:|---:|---:|---:|---:|")
+    found = ratio("run", program, folder, "list.txt", lambda status, out: status == 0 and out.startswith(b"RESULTAT = "))
+    found += ratio("reading", program, folder, "fault.txt", lambda status, out: status == 1 and out == b"refused fault.m " + place)
+    for name, *rest in found:
+        figure(f"read_all.{name}", *rest)
 
 
 main()

@@ -1,6 +1,6 @@
 #!/bin/sh
-# Times the reading of 64 MB of rule files on four processors and on one, and compares what both print. It needs ./build before,
-# python3 and taskset, and a machine that does nothing else.
+# Times the reading of four rule files of 16 MB on all processors, on one, and by a run on each at once, and compares what they print.
+# It needs ./build before, python3, taskset and GNU `time`, and a machine that does nothing else.
 #
 #     sh bench/read_all/run.sh [PROGRAM]
 set -eu

@@ -118,7 +118,7 @@ impl Chains {
         None
     }
 
-    // Rebuilds the table with more buckets if there are as many nodes as buckets.
+    // Rebuilds the table with four times as many buckets if there are as many nodes as buckets.
     fn make_room(&mut self) -> Result<(), AllocError>
         requires table { IsTable self.old.key self.old.nodes.items self.old.links.items self.old.heads.items }
         requires few { length self.old.nodes.items < 4_294_967_295 }
@@ -131,7 +131,7 @@ impl Chains {
         if count < self.heads.len() {
             return Ok(());
         }
-        let mut heads = vec![in self.alloc; 0; 2 * count + 8]?;
+        let mut heads = vec![in self.alloc; 0; 4 * count + 8]?;
         chain_all(&mut self.links, &mut heads, count);
         self.heads = heads;
         Ok(())

@@ -71,9 +71,7 @@ fn each_copy(column: &[Value], out: &mut [Value])
     requires { length column.now ≡ length out.old }
     ensures { (r : ℕ) → r < length out.old → at out.new r ≡ at column.now r }
 {
-    for r in 0..out.len() {
-        out[r] = column[r];
-    }
+    out.copy_from_slice(column);
 }
 
 /// The results of an operator on three registers.

@@ -1,10 +1,15 @@
 -- The hash table of nodes. The nodes of a bucket form a linked list, its chain, from the newest to
 -- the oldest.
-use Rattle.std.specs.Prelude.{◌≡◌, ℕ, zero, suc, ◌%◌, ◌<◌, ◌≤◌, nat_eq, List, length, slice_index_or, fold, if◌then◌else◌}
+use Rattle.std.specs.Prelude.{◌≡◌, ℕ, zero, suc, ◌+◌, ◌*◌, ◌%◌, ◌<◌, ◌≤◌, nat_eq, List, ◌++◌, length, slice_index_or, fold, if◌then◌else◌, unsigned_abs}
+use Rattle.std.specs.Int.{is_negative}
+use Rattle.std.specs.Hash as fed
 use Rattle.std.specs.Hash.DefaultHasher as sip
+use Rattle.m_fixed.specs.declared.amount.Value.{Value}
+use Rattle.m_fixed.specs.declared.amount.Value.TheVariants.{Undef, Num, Over}
 use Rattle.flat_code.specs.declared.program.Node.{Node}
 use Rattle.flat_code.specs.Entries.{node_at}
-use Rattle.flat_code.specs.inner.Hashing.{node_fed}
+use Rattle.flat_code.specs.declared.program.Node.TheVariants.{Input, Lit, Do}
+use Rattle.flat_code.specs.inner.Hashing.{place_of}
 use Rattle.common_terms.specs.declared.key.Key.{Key}
 use Rattle.common_terms.specs.declared.chains.Link.{Link}
 
@@ -12,9 +17,21 @@ use Rattle.common_terms.specs.declared.chains.Link.{Link}
 abbrev pub hash_after : Key → List (List ℕ) → ℕ
 hash_after key fed = sip.finish (fold sip.write key.start fed) % 4_294_967_296
 
+-- two words that tell values apart
+abbrev pub value_words : Value → ℕ × ℕ
+value_words Undef = (1, 0)
+value_words Over = (2, 0)
+value_words (Num z) = (if is_negative z then 4 else 3, unsigned_abs z)
+
+-- two words that tell nodes apart
+abbrev pub node_words : Node → ℕ × ℕ
+node_words (Input n) = (0, n)
+node_words (Lit v) = value_words v
+node_words (Do op a b c) = (5 + place_of op + 4_294_967_296 * a, b + 4_294_967_296 * c)
+
 -- the hash of a node under a key
 abbrev pub node_hash : Key → Node → ℕ
-node_hash key node = hash_after key (node_fed node)
+node_hash key node = let words = node_words node in hash_after key (fed.u64 words.0 ++ fed.u64 words.1)
 
 -- the link of node i
 abbrev pub link_at : List Link → ℕ → Link

@@ -1,6 +1,0 @@
-use Rattle.std.proofs.Common.{◌≡◌, ℕ, ◌<◌}
-use Rattle.reg_machine.specs.inner.Cells.{at}
-use Rattle.m_batch.proofs.each.each_copy.Given as goal
-
-abbrev pub invariant-loop-r : goal.invariant-loop-r
-invariant-loop-r l = (k : ℕ) → k < l.r → at l.out k ≡ at l.column k
