@@ -2,7 +2,7 @@
 ghost use Rattle.std.specs.Prelude.{Ok, Err};
 ghost use Rattle.m_places.specs.SourceLimits.{SourceKeepsLimits};
 ghost use Rattle.command_plans.specs.Views.{output_view};
-ghost use Rattle.command_answers.specs.Batches.{BatchReplies};
+ghost use Rattle.command_answers.specs.Runs.{BatchReplies};
 ghost use Rattle.code_answers.specs.Parts.{IsWrittenInParts};
 
 use crate::program::prepare_code;

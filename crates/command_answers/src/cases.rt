@@ -3,7 +3,7 @@ ghost use Rattle.std.specs.Prelude.{◌<◌, Ok, Err};
 ghost use Rattle.m_places.specs.SourceLimits.{SourceKeepsLimits};
 ghost use Rattle.command_plans.specs.Views.{output_view};
 ghost use Rattle.code_answers.specs.Parts.{IsWrittenInParts};
-ghost use Rattle.command_answers.specs.Cases.{CasesReplies};
+ghost use Rattle.command_answers.specs.Runs.{CasesReplies};
 
 use crate::program::prepare_code;
 use code_answers::answer_cases;
