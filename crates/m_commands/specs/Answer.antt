@@ -3,14 +3,12 @@ use Rattle.std.specs.Prelude.{ℕ, ◌≤◌, List, length}
 use Rattle.m_places.specs.declared.limits.TheConstants.{CODE_FILE_BYTES, LARGE}
 use Rattle.m_places.specs.SourceLimits.{SourceKeepsLimits}
 use Rattle.command_plans.specs.declared.status.Status.{Status}
-use Rattle.command_answers.specs.Batches.{BatchReplies, BatchHasAnswer}
-use Rattle.command_answers.specs.Cases.{CasesReplies, CasesHasAnswer}
 use Rattle.rule_answers.specs.Checks.{CheckReplies, CheckHasAnswer}
 use Rattle.command_answers.specs.Compiles.{CompileReplies, CompileHasAnswer}
 use Rattle.code_answers.specs.Execs.{ExecReplies, ExecHasAnswer}
 use Rattle.command_answers.specs.LargeAnswers.{LargeReplies}
 use Rattle.rule_answers.specs.Lints.{LintReplies}
-use Rattle.command_answers.specs.Runs.{RunReplies, RunHasAnswer}
+use Rattle.command_answers.specs.Runs.{BatchReplies, BatchHasAnswer, CasesReplies, CasesHasAnswer, RunReplies, RunHasAnswer}
 use Rattle.command_answers.specs.Serves.{ServeReplies, ServeCutOff}
 use Rattle.m_commands.specs.declared.work.Work.{Work}
 use Rattle.m_commands.specs.declared.work.Work.TheVariants.{Run, Serve, Batch, Large, Compile, Exec, Check, Lint, Cases}

@@ -5,15 +5,13 @@ use Rattle.command_plans.specs.Courses as courses
 use Rattle.command_plans.specs.Printing.{IsAnswered}
 use Rattle.command_plans.specs.Views.{FilesView, InputView, OutputView}
 use Rattle.command_plans.specs.declared.status.Status.{Status}
-use Rattle.command_answers.specs.Batches.{BatchReplies}
 use Rattle.code_answers.specs.Parts.{IsWrittenInParts}
-use Rattle.command_answers.specs.Cases.{CasesReplies}
 use Rattle.rule_answers.specs.Checks.{CheckReplies}
 use Rattle.command_answers.specs.Compiles.{CompileReplies}
 use Rattle.code_answers.specs.Execs.{ExecReplies}
 use Rattle.command_answers.specs.LargeAnswers.{LargeReplies}
 use Rattle.rule_answers.specs.Lints.{LintReplies}
-use Rattle.command_answers.specs.Runs.{RunReplies}
+use Rattle.command_answers.specs.Runs.{BatchReplies, CasesReplies, RunReplies}
 use Rattle.command_answers.specs.Serves.{IsServed}
 use Rattle.m_commands.specs.Command.{command_of, plan_of}
 use Rattle.m_commands.specs.declared.command.Command.{Command}
