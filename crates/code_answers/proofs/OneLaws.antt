@@ -69,11 +69,11 @@ pub one_code : (One : List ℕ → Status → List ℕ → Status → Type 0) (c
     → CodeReplies code Replies t s → CodeReplies code Replies u r → One t s u r
 one_code One code Replies t u s r same one (is_refused a) (is_refused b) =
     same t u (one_line code_fault_line a.0 b.0 t u (one-fault code a.0 b.0 a.1 b.1) a.2 b.2)
-one_code One code Replies t u s r same one (is_refused a) (is_answered scheme shown b) = absurd (no-fault-of-form code shown.loaded a.0 shown.form a.1)
-one_code One code Replies t u s r same one (is_answered scheme shown a) (is_refused b) = absurd (no-fault-of-form code shown.loaded b.0 shown.form b.1)
+one_code One code Replies t u s r same one (is_refused a) (is_answered scheme shown b) = absurd (no-fault-of-form code shown.0 a.0 shown.1 a.1)
+one_code One code Replies t u s r same one (is_answered scheme shown a) (is_refused b) = absurd (no-fault-of-form code shown.0 b.0 shown.1 b.1)
 one_code One code Replies t u s r same one (is_answered scheme shown a) (is_answered other seen b) =
-    one seen.loaded.face (machine_run seen.loaded.code) scheme other
-    (shown_other scheme shown.loaded seen.loaded (one_loaded code shown.loaded seen.loaded shown.form seen.form) shown.shows) seen.shows a b
+    one seen.0.face (machine_run seen.0.code) scheme other
+    (shown_other scheme shown.0 seen.0 (one_loaded code shown.0 seen.0 shown.1 seen.1) shown.2) seen.2 a b
 
 -- ---- what has an answer isn't rejected
 
@@ -93,5 +93,5 @@ pub code_complete : {Given Fault : Type 0} (code : List ℕ) (stated : List Code
 code_complete code stated line_of text_of status_of text status ends h (is_refused a) = absurd (no-fault-of-form code h.own a.0 h.has a.1)
 code_complete code stated line_of text_of status_of text status ends h (is_answered scheme shown a) =
     file_complete (stated scheme.inputs) line_of (text_of scheme) (status_of scheme) h.given text status
-    (subst (λ inputs. stated inputs ≡ Ok h.given) ((one_loaded code h.own shown.loaded h.has shown.form).inputs ∙ shown.shows.inputs) h.is_given) (ends scheme)
+    (subst (λ inputs. stated inputs ≡ Ok h.given) ((one_loaded code h.own shown.0 h.has shown.1).inputs ∙ shown.2.inputs) h.is_given) (ends scheme)
     a

@@ -123,4 +123,4 @@ code_refused code Replies fault line is = is_refused (fault, is.0, is.1)
 pub code_answered : (code : List ℕ) (Replies : Scheme → List ℕ → Status → Type 0) (loaded : Loaded) (scheme : Scheme) → IsFormOf code loaded
     → Shows scheme loaded.face (machine_run loaded.code)
     → (text : List ℕ) (own : Status) → Replies scheme text own → CodeReplies code Replies text own
-code_answered code Replies loaded scheme form shown text own replied = is_answered scheme (record { loaded = loaded; form = form; shows = shown }) replied
+code_answered code Replies loaded scheme form shown text own replied = is_answered scheme (loaded, form, shown) replied

@@ -21,20 +21,12 @@ code_fault_line (BadLine line) = Some (code_line line word.BadLine)
 code_fault_line (BadOrder line) = Some (code_line line word.ReadBeforeWrite)
 code_fault_line Memory = None
 
--- the line of a fault of the code file of these bytes
-abbrev pub IsCodeRefusal : (code line : List ℕ) → Type 0
-IsCodeRefusal code line = (fault : CodeFault) × IsCodeFault code fault × (code_fault_line fault ≡ Some line)
-
--- The file of these bytes is the form of some code with its face, and the scheme gives the answers of that code for
--- every household.
-pub record IsSchemeOfCode (code : List ℕ) (scheme : Scheme) : Type 0 where
-  pub loaded : Loaded
-  pub form : IsFormOf code loaded
-  pub shows : Shows scheme loaded.face (machine_run loaded.code)
-
--- The answer of a code file: the line of its first fault, or the answer by a scheme of its code.
+-- The answer of a code file: the line of its first fault; or the file is the form of some code with its face, a scheme
+-- gives the answers of that code for every household, and this is an answer by it.
 abbrev pub CodeReplies : (code : List ℕ) → (Scheme → List ℕ → Status → Type 0) → List ℕ → Status → Type 0
-CodeReplies code = RepliesBy (IsCodeRefusal code) (IsSchemeOfCode code)
+CodeReplies code =
+    RepliesBy (λ line. (fault : CodeFault) × IsCodeFault code fault × (code_fault_line fault ≡ Some line))
+    (λ scheme. (loaded : Loaded) × IsFormOf code loaded × Shows scheme loaded.face (machine_run loaded.code))
 
 -- The answer of a code file to the household of these bytes.
 abbrev pub ExecReplies : (code rows : List ℕ) → List ℕ → Status → Type 0

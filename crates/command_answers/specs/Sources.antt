@@ -33,10 +33,6 @@ pub record IsScheme (source : Source) (scheme : Scheme) : Type 0 where
   pub valid : IsValid source declared base written requests
   pub stated : scheme ≡ source_scheme declared base written requests
 
--- the line of a fault of the source
-abbrev pub IsSourceRefusal : Source → List ℕ → Type 0
-IsSourceRefusal source line = (fault : SourceFault) × IsSourceFault source fault × (source_line source.texts fault ≡ Some line)
-
 -- The answer of a source: the line of its fault, or for a valid source the answer by its scheme.
 abbrev pub SourceReplies : Source → (Scheme → List ℕ → Status → Type 0) → List ℕ → Status → Type 0
-SourceReplies source = RepliesBy (IsSourceRefusal source) (IsScheme source)
+SourceReplies source = RepliesBy (λ line. (fault : SourceFault) × IsSourceFault source fault × (source_line source.texts fault ≡ Some line)) (IsScheme source)

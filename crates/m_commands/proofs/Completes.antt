@@ -10,14 +10,16 @@ use Rattle.m_cases.specs.declared.cases.Cases.{Cases}
 use Rattle.tax_print.specs.Lines.{observation_lines}
 use Rattle.command_plans.specs.Status.{IsComplete}
 use Rattle.command_plans.specs.declared.status.Status.{Status}
-use Rattle.code_answers.specs.Cases.{cases_count, cases_fault_line, cases_text, count_status}
+use Rattle.code_answers.specs.Cases.{ComparedReplies, cases_count, cases_fault_line, cases_text, count_status}
 use Rattle.code_answers.specs.Execs.{ExecHasAnswer, ExecReplies}
 use Rattle.code_answers.specs.Households.{household_fault_line, observation_status}
 use Rattle.code_answers.specs.Schemes.{Scheme, observation_for}
+use Rattle.code_answers.specs.Replies.{HasGiven}
+use Rattle.code_answers.specs.Shown.{TableReplies}
 use Rattle.code_answers.specs.Tables.{rows_lines}
 use Rattle.code_answers.proofs.OneLaws.{code_complete}
-use Rattle.command_answers.specs.Runs.{BatchHasAnswer, BatchReplies, CasesHasAnswer, CasesReplies, RunHasAnswer, RunReplies}
-use Rattle.command_answers.specs.Sources.{IsScheme}
+use Rattle.command_answers.specs.Runs.{RunHasAnswer, RunReplies}
+use Rattle.command_answers.specs.Sources.{IsScheme, SourceReplies}
 use Rattle.command_answers.proofs.SchemeLaws.{source_complete}
 use Rattle.command_plans.specs.declared.status.Status.TheVariants.{Done}
 
@@ -36,14 +38,14 @@ run_complete source rows text status h a =
     (λ (scheme : Scheme) pairs. observation_lines scheme.names (observation_for scheme pairs)) (λ scheme pairs. observation_status (observation_for scheme pairs))
     text status (λ scheme pairs. reported_complete (observation_for scheme pairs)) h a
 
-pub batch_complete : (source : Source) (table text : List ℕ) (status : Status) → BatchHasAnswer source table → BatchReplies source table text status
-    → IsComplete status
+pub batch_complete : (source : Source) (table text : List ℕ) (status : Status) → HasGiven (IsScheme source) (λ (scheme : Scheme). table_of scheme.inputs table)
+    → SourceReplies source (λ scheme. TableReplies scheme table) text status → IsComplete status
 batch_complete source table text status h a =
     source_complete source (λ (scheme : Scheme). table_of scheme.inputs table) household_fault_line rows_lines (λ scheme rows. Done) text status
     (λ scheme rows. tt) h a
 
-pub cases_complete : (source : Source) (table text : List ℕ) (status : Status) → CasesHasAnswer source table → CasesReplies source table text status
-    → IsComplete status
+pub cases_complete : (source : Source) (table text : List ℕ) (status : Status) → HasGiven (IsScheme source) (λ (scheme : Scheme). cases_of scheme.inputs scheme.names table)
+    → SourceReplies source (λ scheme. ComparedReplies scheme table) text status → IsComplete status
 cases_complete source table text status h a =
     source_complete source (λ (scheme : Scheme). cases_of scheme.inputs scheme.names table) cases_fault_line cases_text
     (λ scheme (cases : Cases). count_status (cases_count scheme cases.rows cases.expected)) text status

@@ -49,8 +49,8 @@ executed : (source : Source) (loaded : Loaded) (code rows text : List ℕ) (stat
     → RunReplies source rows text status
 executed source loaded code rows text status p form (is_refused a) = absurd (no-fault-of-form code loaded a.0 form a.1)
 executed source loaded code rows text status p form (is_answered scheme shown replies) =
-    let e = one_loaded code shown.loaded loaded shown.form form in
-    let a = shown_other scheme shown.loaded loaded e shown.shows in
+    let e = one_loaded code shown.0 loaded shown.1 form in
+    let a = shown_other scheme shown.0 loaded e shown.2 in
     is_answered p.scheme p.valid (same_replies loaded.face (machine_run loaded.code) scheme p.scheme rows text status a p.shows replies)
 
 -- the code shows each scheme of the source
@@ -64,7 +64,7 @@ ran : (source : Source) (loaded : Loaded) (code rows text : List ℕ) (status : 
     → ExecReplies code rows text status
 ran source loaded code rows text status p form (is_refused a) = absurd (no_scheme_and_fault source p.scheme a.0 p.valid a.1)
 ran source loaded code rows text status p form (is_answered scheme v replies) =
-    is_answered scheme (record { loaded = loaded; form = form; shows = shown_by source loaded scheme p v }) replies
+    is_answered scheme (loaded, form, shown_by source loaded scheme p v) replies
 
 -- ---- the text that `compile` has written
 

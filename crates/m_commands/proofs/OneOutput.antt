@@ -15,10 +15,11 @@ use Rattle.command_plans.specs.declared.status.Status.TheVariants.{Done, Refused
 use Rattle.command_plans.proofs.ValidLemmas.{one_output as one}
 use Rattle.why_session.specs.Explains.{Explaining}
 use Rattle.tax_print.specs.Lines.{observation_lines}
-use Rattle.command_answers.specs.Runs.{BatchReplies, CasesReplies, RunReplies}
-use Rattle.code_answers.specs.Cases.{cases_count, cases_fault_line, cases_text, count_status}
+use Rattle.command_answers.specs.Runs.{RunReplies}
+use Rattle.code_answers.specs.Cases.{ComparedReplies, cases_count, cases_fault_line, cases_text, count_status}
 use Rattle.code_answers.specs.Households.{household_fault_line, observation_status}
 use Rattle.code_answers.specs.Replies.{FileReplies}
+use Rattle.code_answers.specs.Shown.{TableReplies}
 use Rattle.code_answers.proofs.OneLaws.{one_file}
 use Rattle.m_cases.specs.Cases.{cases_of}
 use Rattle.m_cases.specs.declared.cases.Cases.{Cases}
@@ -60,11 +61,13 @@ one_run source rows t u s r a b =
     (λ (scheme : Scheme) pairs. observation_lines scheme.names (observation_for scheme pairs)) (λ scheme pairs. observation_status (observation_for scheme pairs))
     t u s r a b
 
-one_batch : (source : Source) (table t u : List ℕ) (s r : Status) → BatchReplies source table t s → BatchReplies source table u r → AreOneOutput t s u r
+one_batch : (source : Source) (table t u : List ℕ) (s r : Status) → SourceReplies source (λ scheme. TableReplies scheme table) t s
+    → SourceReplies source (λ scheme. TableReplies scheme table) u r → AreOneOutput t s u r
 one_batch source table t u s r a b =
     one_of_source source (λ (scheme : Scheme). table_of scheme.inputs table) household_fault_line rows_lines (λ scheme rows. Done) t u s r a b
 
-one_cases : (source : Source) (table t u : List ℕ) (s r : Status) → CasesReplies source table t s → CasesReplies source table u r → AreOneOutput t s u r
+one_cases : (source : Source) (table t u : List ℕ) (s r : Status) → SourceReplies source (λ scheme. ComparedReplies scheme table) t s
+    → SourceReplies source (λ scheme. ComparedReplies scheme table) u r → AreOneOutput t s u r
 one_cases source table t u s r a b =
     one_of_source source (λ (scheme : Scheme). cases_of scheme.inputs scheme.names table) cases_fault_line cases_text
     (λ scheme (cases : Cases). count_status (cases_count scheme cases.rows cases.expected)) t u s r a b

@@ -78,5 +78,8 @@ fn is_silent_by(guard: Fact, condition: Fact, over_only: bool) -> bool
 pub(crate) fn is_quiet(fact: Fact) -> bool
     ensures { result ≡ is_quiet fact }
 {
-    !fact.may_be_other()
+    match fact.range {
+        None => true,
+        Some((low, high)) => low.millionths() >= 0 && high.millionths() <= 0,
+    }
 }

@@ -9,8 +9,8 @@ use Rattle.code_file.specs.Reading.{IsFormOf}
 use Rattle.code_file.specs.declared.loaded.Loaded.{Loaded}
 use Rattle.code_answers.specs.Execs.{CodeReplies}
 use Rattle.code_answers.specs.Replies.{HasGiven}
-use Rattle.command_answers.specs.Runs.{BatchHasAnswer}
-use Rattle.command_answers.specs.Sources.{SourceReplies}
+use Rattle.code_answers.specs.Schemes.{Scheme}
+use Rattle.command_answers.specs.Sources.{IsScheme, SourceReplies}
 use Rattle.survey_commands.specs.Facts.{FactsHaveAnswer, FactsReplies}
 use Rattle.survey_commands.specs.Lines.{version_line}
 use Rattle.survey_commands.specs.Tables.{SchemeReplies}
@@ -26,7 +26,7 @@ Replies Version = λ text status. (text ≡ version_line) × (status ≡ Done)
 
 -- what was gathered has an answer that isn't an error
 abbrev pub HasAnswer : Work → Type 0
-HasAnswer (Table source table) = BatchHasAnswer source table
+HasAnswer (Table source table) = HasGiven (IsScheme source) (λ (scheme : Scheme). table_of scheme.inputs table)
 HasAnswer (Facts source ranges) = FactsHaveAnswer source ranges
 HasAnswer (CodeTable code table) = HasGiven (IsFormOf code) (λ (loaded : Loaded). table_of loaded.face.inputs table)
 HasAnswer Version = Unit {0}

@@ -14,8 +14,7 @@ use Rattle.observables.specs.declared.face.FaceOutput.TheVariants.{Named, Noted}
 use Rattle.flat_code.specs.declared.program.Check.{Check}
 use Rattle.flat_code.specs.declared.program.Flat.{Flat}
 use Rattle.micro_m.specs.declared.base.Base.{Base}
-use Rattle.flat_code.specs.Facts.{fact_at}
-use Rattle.m_lint.specs.Findings.{is_quiet, is_silent}
+use Rattle.m_lint.specs.Findings.{fact_at, is_quiet, is_silent}
 
 -- ---- by number
 
