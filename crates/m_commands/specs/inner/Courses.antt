@@ -56,13 +56,15 @@ IsWorkOf wanted work = work_form work ≡ command_form wanted
 abbrev pub WorkIsAnswered : Work → (heard reported : InputView) (old new : OutputView) → Status → Type 0
 WorkIsAnswered (Run source rows) heard reported old new status = (reported ≡ heard) × IsAnswered (RunReplies source rows) old new status
 WorkIsAnswered (Serve source rows) heard reported old new status = IsServed source rows heard reported old new status
-WorkIsAnswered (Batch source table) heard reported old new status = (reported ≡ heard) × IsWrittenInParts (SourceReplies source (λ scheme. TableReplies scheme table)) old new status
+WorkIsAnswered (Batch source table) heard reported old new status =
+    (reported ≡ heard) × IsWrittenInParts (SourceReplies source (λ scheme. TableReplies scheme table)) old new status
 WorkIsAnswered (Large n) heard reported old new status = (reported ≡ heard) × IsAnswered (LargeReplies n) old new status
 WorkIsAnswered (Compile source) heard reported old new status = (reported ≡ heard) × IsAnswered (CompileReplies source) old new status
 WorkIsAnswered (Exec code rows) heard reported old new status = (reported ≡ heard) × IsAnswered (ExecReplies code rows) old new status
 WorkIsAnswered (Check source rows report) heard reported old new status = (reported ≡ heard) × IsAnswered (CheckReplies source rows report) old new status
 WorkIsAnswered (Lint source) heard reported old new status = (reported ≡ heard) × IsAnswered (LintReplies source) old new status
-WorkIsAnswered (Cases source table) heard reported old new status = (reported ≡ heard) × IsWrittenInParts (SourceReplies source (λ scheme. ComparedReplies scheme table)) old new status
+WorkIsAnswered (Cases source table) heard reported old new status =
+    (reported ≡ heard) × IsWrittenInParts (SourceReplies source (λ scheme. ComparedReplies scheme table)) old new status
 
 -- The course of a call: nothing was read from the input unless the command's work was answered.
 abbrev pub Course : List (List ℕ) → (before after : FilesView) → (heard reported : InputView) → (old new : OutputView) → Status → Type 0
