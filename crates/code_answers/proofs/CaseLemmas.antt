@@ -21,25 +21,22 @@ use Rattle.m_batch.specs.Batch.{answers_of, row_answer}
 use Rattle.m_batch.specs.Printing.{MayPrintEach, WritesRows, counted_to_end, printed_count, printed_text}
 use Rattle.m_batch.specs.declared.fault.PrintFault.{PrintFault}
 use Rattle.m_batch.specs.declared.fault.PrintFault.TheVariants.{Memory, Failed}
-use Rattle.m_cases.specs.Cases.{AreExpected, cases_of, numbered, numbered_cases}
+use Rattle.m_cases.specs.Cases.{AreExpected, numbered, numbered_cases}
 use Rattle.m_cases.specs.Mismatches.{answer_values, count_line, got_of, is_met, mismatch_count, mismatch_lines, named_values, output_names, observation_values}
 use Rattle.m_cases.specs.declared.cases.Cases.{Cases}
 use Rattle.m_cases.specs.declared.expected.Expected.{Expected}
-use Rattle.m_cases.specs.declared.fault.CasesFault.{CasesFault}
 use Rattle.m_cases.proofs.Numbered.{count_numbered, lines_numbered}
 use Rattle.m_cases.proofs.ToldLemmas.{reported_is}
 use Rattle.command_plans.specs.Views.{OutputView, output_view}
 use Rattle.command_plans.specs.Status.{IsOfEnd}
 use Rattle.command_plans.specs.declared.status.Status.{Status}
-use Rattle.command_plans.specs.declared.status.Status.TheVariants.{Refused}
 use Rattle.code_answers.specs.Parts.{IsWrittenInParts, broke_off}
 use Rattle.code_answers.specs.Parts as parts
-use Rattle.code_answers.specs.Cases.{ComparedReplies, cases_count, cases_fault_line, cases_lines, cases_text, count_status, table_is_refused}
+use Rattle.code_answers.specs.Cases.{cases_count, cases_lines, cases_text, count_status}
 use Rattle.code_answers.specs.Shown.{Shows}
 use Rattle.code_answers.specs.Schemes.{Scheme, observation_for}
 use Rattle.code_answers.specs.inner.Printers.{MayBeCompared, case_count, case_text, compared_status, mismatches_by, misses_by}
 use Rattle.code_answers.proofs.CodeLemmas.{agrees, code_each}
-use Rattle.code_answers.proofs.Refusals.{ReportsRefusal}
 
 -- ---- the expectations of the row at a place
 
@@ -142,12 +139,6 @@ count_reported scheme loaded all at (row ∷ rows) (es ∷ expected) shown many 
     λ i. one i + rest i
 
 -- ---- from what was found and written to the command's ending
-
-pub case_table_refused : (scheme : Scheme) (table : List ℕ) (fault : CasesFault) (old new : OutputView) (status : Status)
-    → ReportsRefusal (λ line. (cases_of scheme.inputs scheme.names table ≡ Err fault) × (cases_fault_line fault ≡ Some line)) old new status
-    → IsWrittenInParts (ComparedReplies scheme table) old new status
-case_table_refused scheme table fault old new status (inl (line, is, shown)) = parts.printed line Refused (table_is_refused fault is.0 is.1) tt shown
-case_table_refused scheme table fault old new status (inr (same, memory)) = parts.no_memory same memory
 
 count_ends : (count : ℕ) → IsOfEnd (count_status count)
 count_ends zero = tt

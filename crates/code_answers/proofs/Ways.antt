@@ -13,6 +13,7 @@ use Rattle.code_file.specs.declared.loaded.Loaded.{Loaded}
 use Rattle.household.specs.Household.{household_of}
 use Rattle.household.specs.Table.{table_of}
 use Rattle.household.specs.declared.fault.HouseholdFault.{HouseholdFault}
+use Rattle.household.specs.declared.table.Row.{Row}
 use Rattle.tax_print.specs.Lines.{answer_lines, observation_lines}
 use Rattle.command_plans.specs.Printing.{IsAnswered, Prints, printed, no_memory}
 use Rattle.command_plans.specs.Status.{IsOfEnd}
@@ -20,11 +21,10 @@ use Rattle.command_plans.specs.Views.{OutputView, output_view}
 use Rattle.command_plans.specs.declared.status.Status.{Status}
 use Rattle.command_plans.specs.declared.status.Status.TheVariants.{Done, Refused}
 use Rattle.code_answers.specs.Parts.{IsWrittenInParts, broke_off}
-use Rattle.code_answers.specs.Execs.{ExecReplies, code_fault_line}
-use Rattle.code_answers.specs.Execs as exec
+use Rattle.code_answers.specs.Execs.{CodeReplies, code_fault_line}
 use Rattle.code_answers.specs.Households.{answer_status, household_fault_line, observation_status}
-use Rattle.code_answers.specs.Shown.{HouseholdReplies, Shows, TableReplies}
-use Rattle.code_answers.specs.Shown as households
+use Rattle.code_answers.specs.Replies.{FileReplies, file_is_answered, file_is_refused, is_answered, is_refused}
+use Rattle.code_answers.specs.Shown.{HouseholdReplies, Shows}
 use Rattle.code_answers.specs.Schemes.{Scheme, observation_for}
 use Rattle.m_batch.specs.Printing.{WritesRows}
 use Rattle.m_batch.specs.declared.fault.PrintFault.{PrintFault}
@@ -53,6 +53,19 @@ parts_as One Other old new status turn (parts.printed text own replied end shown
 parts_as One Other old new status turn (parts.no_memory same memory) = parts.no_memory same memory
 parts_as One Other old new status turn (broke_off text own replied prefix none memory) = broke_off text own (turn text own replied) prefix none memory
 
+-- what was rejected, by a line that is an answer
+pub refused_as : (IsLine : List ℕ → Type 0) (Replies : List ℕ → Status → Type 0) (old new : OutputView) (status : Status)
+    → ((line : List ℕ) → IsLine line → Replies line Refused)
+    → ReportsRefusal IsLine old new status → IsAnswered Replies old new status
+refused_as IsLine Replies old new status turn (inl (line, is, shown)) = printed line Refused (turn line is) tt shown
+refused_as IsLine Replies old new status turn (inr (same, memory)) = no_memory same memory
+
+pub refused_in_parts : (IsLine : List ℕ → Type 0) (Replies : List ℕ → Status → Type 0) (old new : OutputView) (status : Status)
+    → ((line : List ℕ) → IsLine line → Replies line Refused)
+    → ReportsRefusal IsLine old new status → IsWrittenInParts Replies old new status
+refused_in_parts IsLine Replies old new status turn (inl (line, is, shown)) = parts.printed line Refused (turn line is) tt shown
+refused_in_parts IsLine Replies old new status turn (inr (same, memory)) = parts.no_memory same memory
+
 -- ---- households
 
 -- the household of these bytes was rejected, for a program's codes
@@ -60,9 +73,9 @@ pub rows_refused : (front : List ℕ) (scheme : Scheme) (face : Face) (runs : Li
     (status : Status) → Shows scheme face runs
     → ReportsRefusal (λ line. (household_of face.inputs rows ≡ Err fault) × (household_fault_line fault ≡ Some line)) old new status
     → IsAnswered (HouseholdReplies front scheme rows) old new status
-rows_refused front scheme face runs rows fault old new status shown (inl (line, refused, p)) =
-    printed line Refused (households.is_refused fault (subst (λ inputs. household_of inputs rows ≡ Err fault) shown.inputs refused.0) refused.1) tt p
-rows_refused front scheme face runs rows fault old new status shown (inr (same, memory)) = no_memory same memory
+rows_refused front scheme face runs rows fault old new status shown reported =
+    refused_as (λ line. (household_of face.inputs rows ≡ Err fault) × (household_fault_line fault ≡ Some line)) (HouseholdReplies front scheme rows) old new status
+    (λ line is. file_is_refused fault (subst (λ inputs. household_of inputs rows ≡ Err fault) shown.inputs is.0) is.1) reported
 
 pub rows_printed : (front : List ℕ) (scheme : Scheme) (loaded : Loaded) (rows : List ℕ) (answer : Answer) (old new : OutputView) (status : Status)
     → Shows scheme loaded.face (machine_run loaded.code) → (of : IsAnswerOf loaded rows answer)
@@ -71,7 +84,7 @@ rows_printed front scheme loaded rows answer old new status shown of p =
     let reported = observation_for scheme of.pairs in
     let is = household_reported scheme loaded rows answer shown of in
     printed (front ++ observation_lines scheme.names reported) (observation_status reported)
-    (households.is_reported of.pairs (given_by scheme loaded rows answer shown of)) (of_end reported)
+    (file_is_answered of.pairs (given_by scheme loaded rows answer shown of)) (of_end reported)
     (subst (λ own. Prints (front ++ observation_lines scheme.names reported) own old new status)
     (status_reported loaded.face.labels (notes_of loaded.face.outputs) answer reported is)
     (subst (λ text. Prints (front ++ text) (answer_status answer) old new status) (reported_answer scheme loaded.face (machine_run loaded.code) answer reported
@@ -79,13 +92,15 @@ rows_printed front scheme loaded rows answer old new status shown of p =
 
 -- ---- tables
 
-pub table_refused : (scheme : Scheme) (face : Face) (runs : List Value → Answer) (table : List ℕ) (fault : HouseholdFault) (old new : OutputView)
-    (status : Status) → Shows scheme face runs
+-- the table of these bytes was rejected, for a program's codes
+pub table_refused : (scheme : Scheme) (face : Face) (runs : List Value → Answer) (table : List ℕ) (text_of : List Row → List ℕ) (status_of : List Row → Status)
+    (fault : HouseholdFault) (old new : OutputView) (status : Status) → Shows scheme face runs
     → ReportsRefusal (λ line. (table_of face.inputs table ≡ Err fault) × (household_fault_line fault ≡ Some line)) old new status
-    → IsWrittenInParts (TableReplies scheme table) old new status
-table_refused scheme face runs table fault old new status shown (inl (line, refused, p)) =
-    parts.printed line Refused (households.table_is_refused fault (subst (λ inputs. table_of inputs table ≡ Err fault) shown.inputs refused.0) refused.1) tt p
-table_refused scheme face runs table fault old new status shown (inr (same, memory)) = parts.no_memory same memory
+    → IsWrittenInParts (FileReplies (table_of scheme.inputs table) household_fault_line text_of status_of) old new status
+table_refused scheme face runs table text_of status_of fault old new status shown reported =
+    refused_in_parts (λ line. (table_of face.inputs table ≡ Err fault) × (household_fault_line fault ≡ Some line))
+    (FileReplies (table_of scheme.inputs table) household_fault_line text_of status_of) old new status
+    (λ line is. file_is_refused fault (subst (λ inputs. table_of inputs table ≡ Err fault) shown.inputs is.0) is.1) reported
 
 pub batch_written : {S T : Type 0} (written : S → Option (List ℕ)) (faults : S → ℕ) (old new : S) (result : Result T PrintFault) (text : List ℕ)
     (Replies : List ℕ → Status → Type 0) (status : Status)
@@ -98,15 +113,14 @@ batch_written written faults old new (Err rows.Failed) text Replies status repli
 
 -- ---- code files that are read
 
-pub exec_refused : (code rows : List ℕ) (fault : CodeFault) (old new : OutputView) (status : Status)
-    → ReportsRefusal (λ line. IsCodeFault code fault × (code_fault_line fault ≡ Some line)) old new status
-    → IsAnswered (ExecReplies code rows) old new status
-exec_refused code rows fault old new status (inl (line, refused, shown)) = printed line Refused (exec.code_is_refused fault refused.0 refused.1) tt shown
-exec_refused code rows fault old new status (inr (same, memory)) = no_memory same memory
+-- a code file was rejected
+pub code_refused : (code : List ℕ) (Replies : Scheme → List ℕ → Status → Type 0) (fault : CodeFault) (line : List ℕ)
+    → IsCodeFault code fault × (code_fault_line fault ≡ Some line)
+    → CodeReplies code Replies line Refused
+code_refused code Replies fault line is = is_refused (fault, is.0, is.1)
 
-pub exec_answered : (code rows : List ℕ) (loaded : Loaded) (scheme : Scheme) (old new : OutputView) (status : Status) → IsFormOf code loaded
+-- the answer by a scheme of a code file is the file's
+pub code_answered : (code : List ℕ) (Replies : Scheme → List ℕ → Status → Type 0) (loaded : Loaded) (scheme : Scheme) → IsFormOf code loaded
     → Shows scheme loaded.face (machine_run loaded.code)
-    → IsAnswered (HouseholdReplies [] scheme rows) old new status → IsAnswered (ExecReplies code rows) old new status
-exec_answered code rows loaded scheme old new status form shown a =
-    answered_as (HouseholdReplies [] scheme rows) (ExecReplies code rows) old new status (λ text own replied. exec.is_answered loaded scheme form shown replied)
-    a
+    → (text : List ℕ) (own : Status) → Replies scheme text own → CodeReplies code Replies text own
+code_answered code Replies loaded scheme form shown text own replied = is_answered scheme (loaded, form, shown) replied

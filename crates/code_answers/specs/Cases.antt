@@ -1,5 +1,5 @@
 -- What the `cases` command prints.
-use Rattle.std.specs.Prelude.{◌≡◌, ℕ, zero, suc, ◌+◌, List, [], ◌∷◌, ◌++◌, length, Option, Some, None, Ok, Err}
+use Rattle.std.specs.Prelude.{ℕ, zero, suc, ◌+◌, List, [], ◌∷◌, ◌++◌, length, Option, Some, None}
 use Rattle.tax_print.specs.FaultLines.{household_header_line, household_line, too_many_rows_line}
 use Rattle.tax_print.specs.declared.fault.RowFault.TheVariants as row
 use Rattle.household.specs.declared.table.Row.{Row}
@@ -11,7 +11,8 @@ use Rattle.m_cases.specs.declared.fault.CasesFault.{CasesFault}
 use Rattle.m_cases.specs.declared.fault.CasesFault.TheVariants.{BadHeader, TooManyRows, BadRow, UnknownCode, UnknownOutput, CodeTwice, BadAmount, NotOfType}
 use Rattle.m_cases.specs.declared.fault.CasesFault.TheVariants.{BadExpected, Memory}
 use Rattle.command_plans.specs.declared.status.Status.{Status}
-use Rattle.command_plans.specs.declared.status.Status.TheVariants.{Done, Refused, Stopped}
+use Rattle.command_plans.specs.declared.status.Status.TheVariants.{Done, Stopped}
+use Rattle.code_answers.specs.Replies.{FileReplies}
 use Rattle.code_answers.specs.Schemes.{Scheme, observation_for}
 
 -- The line of a fault of a table of cases; none for out of memory. A field `=IR` in the first record, where `IR` isn't
@@ -50,8 +51,7 @@ count_status zero = Done
 count_status (suc count) = Stopped
 
 -- The answer to the table of these bytes by a scheme: the line of the table's fault, or the text of its cases.
-pub data ComparedReplies (scheme : Scheme) (table : List ℕ) : List ℕ → Status → Type 0 where
-  table_is_refused : {line : List ℕ} (fault : CasesFault) → cases_of scheme.inputs scheme.names table ≡ Err fault → cases_fault_line fault ≡ Some line
-      → ComparedReplies scheme table line Refused
-  is_compared : (cases : Cases) → cases_of scheme.inputs scheme.names table ≡ Ok cases
-      → ComparedReplies scheme table (cases_text scheme cases) (count_status (cases_count scheme cases.rows cases.expected))
+abbrev pub ComparedReplies : Scheme → (table : List ℕ) → List ℕ → Status → Type 0
+ComparedReplies scheme table =
+    FileReplies (cases_of scheme.inputs scheme.names table) cases_fault_line (cases_text scheme)
+    (λ (cases : Cases). count_status (cases_count scheme cases.rows cases.expected))

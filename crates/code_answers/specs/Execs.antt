@@ -1,5 +1,5 @@
 -- The answer of `exec`.
-use Rattle.std.specs.Prelude.{◌≡◌, ℕ, ℤ, List, [], Option, Some, None, Ok}
+use Rattle.std.specs.Prelude.{◌≡◌, ℕ, List, [], Option, Some, None}
 use Rattle.tax_print.specs.FaultLines.{code_header_line, code_line}
 use Rattle.tax_print.specs.declared.fault.CodeFault.TheVariants as word
 use Rattle.reg_machine.specs.Machine.{machine_run}
@@ -9,7 +9,7 @@ use Rattle.code_file.specs.declared.fault.CodeFault.{CodeFault}
 use Rattle.code_file.specs.declared.fault.CodeFault.TheVariants.{BadHeader, BadLine, BadOrder, Memory}
 use Rattle.code_file.specs.declared.loaded.Loaded.{Loaded}
 use Rattle.command_plans.specs.declared.status.Status.{Status}
-use Rattle.command_plans.specs.declared.status.Status.TheVariants.{Refused}
+use Rattle.code_answers.specs.Replies.{HasGiven, RepliesBy}
 use Rattle.code_answers.specs.Shown.{HouseholdReplies, Shows}
 use Rattle.code_answers.specs.Schemes.{Scheme}
 
@@ -21,18 +21,17 @@ code_fault_line (BadLine line) = Some (code_line line word.BadLine)
 code_fault_line (BadOrder line) = Some (code_line line word.ReadBeforeWrite)
 code_fault_line Memory = None
 
--- The answer of a code file to the household of these bytes: the line of the file's first fault; or the file is the
--- form of some code with its face, a scheme gives the answers of that code for every household, and this is the
--- scheme's answer.
-pub data ExecReplies (code rows : List ℕ) : List ℕ → Status → Type 0 where
-  code_is_refused : {line : List ℕ} (fault : CodeFault) → IsCodeFault code fault → code_fault_line fault ≡ Some line → ExecReplies code rows line Refused
-  is_answered : {text : List ℕ} {status : Status} (loaded : Loaded) (scheme : Scheme) → IsFormOf code loaded
-      → Shows scheme loaded.face (machine_run loaded.code)
-      → HouseholdReplies [] scheme rows text status → ExecReplies code rows text status
+-- The answer of a code file: the line of its first fault; or the file is the form of some code with its face, a scheme
+-- gives the answers of that code for every household, and this is an answer by it.
+abbrev pub CodeReplies : (code : List ℕ) → (Scheme → List ℕ → Status → Type 0) → List ℕ → Status → Type 0
+CodeReplies code =
+    RepliesBy (λ line. (fault : CodeFault) × IsCodeFault code fault × (code_fault_line fault ≡ Some line))
+    (λ scheme. (loaded : Loaded) × IsFormOf code loaded × Shows scheme loaded.face (machine_run loaded.code))
+
+-- The answer of a code file to the household of these bytes.
+abbrev pub ExecReplies : (code rows : List ℕ) → List ℕ → Status → Type 0
+ExecReplies code rows = CodeReplies code (λ scheme. HouseholdReplies [] scheme rows)
 
 -- a code file without a fault, and a household without a fault for its inputs
-pub record ExecHasAnswer (code rows : List ℕ) : Type 0 where
-  pub loaded : Loaded
-  pub pairs : List (ℕ × ℤ)
-  pub form : IsFormOf code loaded
-  pub given : household_of loaded.face.inputs rows ≡ Ok pairs
+abbrev pub ExecHasAnswer : (code rows : List ℕ) → Type 0
+ExecHasAnswer code rows = HasGiven (IsFormOf code) (λ (loaded : Loaded). household_of loaded.face.inputs rows)

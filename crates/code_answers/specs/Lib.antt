@@ -2,6 +2,7 @@ pub mod Schemes
 pub mod Households
 pub mod Tables
 pub mod Larges
+pub mod Replies
 pub mod Shown
 pub mod Parts
 pub mod Execs

@@ -1,5 +1,5 @@
 -- Programs, in any form: when they show a scheme, and their answers to households and tables.
-use Rattle.std.specs.Prelude.{◌≡◌, ℕ, ℤ, List, ◌++◌, None, Some, Ok, Err}
+use Rattle.std.specs.Prelude.{◌≡◌, List, ℕ, ◌++◌, None, Some}
 use Rattle.m_fixed.specs.declared.amount.Value.{Value}
 use Rattle.m_names.specs.Names.{AreDistinct}
 use Rattle.observables.specs.declared.answer.Answer.{Answer}
@@ -11,12 +11,11 @@ use Rattle.reg_machine.specs.Flow.{code_fault}
 use Rattle.code_file.specs.declared.loaded.Loaded.{Loaded}
 use Rattle.household.specs.Household.{household_of}
 use Rattle.household.specs.Table.{table_of}
-use Rattle.household.specs.declared.fault.HouseholdFault.{HouseholdFault}
-use Rattle.household.specs.declared.table.Row.{Row}
 use Rattle.tax_print.specs.Lines.{observation_lines}
 use Rattle.command_plans.specs.declared.status.Status.{Status}
-use Rattle.command_plans.specs.declared.status.Status.TheVariants.{Done, Refused}
+use Rattle.command_plans.specs.declared.status.Status.TheVariants.{Done}
 use Rattle.code_answers.specs.Households.{household_fault_line, observation_status}
+use Rattle.code_answers.specs.Replies.{FileReplies}
 use Rattle.code_answers.specs.Schemes.{Scheme, observation_for}
 use Rattle.code_answers.specs.Tables.{rows_lines}
 
@@ -35,15 +34,11 @@ pub record IsRunnableCode (loaded : Loaded) : Type 0 where
 
 -- The answer to the household of these bytes: the line of the household's fault; or the bytes `front`, and then the
 -- lines of what is observed for the household.
-pub data HouseholdReplies (front : List ℕ) (scheme : Scheme) (rows : List ℕ) : List ℕ → Status → Type 0 where
-  is_refused : {line : List ℕ} (fault : HouseholdFault) → household_of scheme.inputs rows ≡ Err fault → household_fault_line fault ≡ Some line
-      → HouseholdReplies front scheme rows line Refused
-  is_reported : (pairs : List (ℕ × ℤ)) → household_of scheme.inputs rows ≡ Ok pairs
-      → HouseholdReplies front scheme rows (front ++ observation_lines scheme.names (observation_for scheme pairs))
-      (observation_status (observation_for scheme pairs))
+abbrev pub HouseholdReplies : (front : List ℕ) → Scheme → (rows : List ℕ) → List ℕ → Status → Type 0
+HouseholdReplies front scheme rows =
+    FileReplies (household_of scheme.inputs rows) household_fault_line (λ pairs. front ++ observation_lines scheme.names (observation_for scheme pairs))
+    (λ pairs. observation_status (observation_for scheme pairs))
 
 -- The answer to the table of these bytes: the line of the table's fault, or the lines of all its rows.
-pub data TableReplies (scheme : Scheme) (table : List ℕ) : List ℕ → Status → Type 0 where
-  table_is_refused : {line : List ℕ} (fault : HouseholdFault) → table_of scheme.inputs table ≡ Err fault → household_fault_line fault ≡ Some line
-      → TableReplies scheme table line Refused
-  rows_are_answered : (rows : List Row) → table_of scheme.inputs table ≡ Ok rows → TableReplies scheme table (rows_lines scheme rows) Done
+abbrev pub TableReplies : Scheme → (table : List ℕ) → List ℕ → Status → Type 0
+TableReplies scheme table = FileReplies (table_of scheme.inputs table) household_fault_line (rows_lines scheme) (λ rows. Done)

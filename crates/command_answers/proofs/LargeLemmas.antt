@@ -18,7 +18,7 @@ use Rattle.code_answers.specs.Larges.{ReadsLarge}
 use Rattle.code_answers.specs.Larges.{large_line}
 use Rattle.code_answers.specs.Shown.{HouseholdReplies}
 use Rattle.command_answers.specs.Prepared.{IsPreparedCode}
-use Rattle.code_answers.specs.Shown as households
+use Rattle.code_answers.specs.Replies.{file_is_answered, file_is_refused}
 use Rattle.code_answers.specs.Schemes.{Scheme}
 use Rattle.command_answers.specs.Sources.{IsScheme}
 use Rattle.code_answers.proofs.Ways.{answered_as}
@@ -57,8 +57,8 @@ reads_large n some few loaded is =
 
 large_as : (n : ℕ) → 1 ≤ n → n ≤ 100000 → (scheme : Scheme) → IsScheme (large_source n) scheme → (text : List ℕ) (own : Status)
     → HouseholdReplies (large_line n) scheme (household_text n) text own → LargeReplies n text own
-large_as n some few scheme valid text own (households.is_refused fault faulty line) = let g = (given n some few scheme valid).1 in cc
-large_as n some few scheme valid text own (households.is_reported pairs stated) = is_reported scheme pairs valid stated
+large_as n some few scheme valid text own (file_is_refused fault faulty line) = let g = (given n some few scheme valid).1 in cc
+large_as n some few scheme valid text own (file_is_answered pairs stated) = is_reported scheme pairs valid stated
 
 pub large_answered : (n : ℕ) → 1 ≤ n → n ≤ 100000 → (loaded : Loaded) (old new : OutputView) (status : Status) → (is : IsPreparedCode (large_source n) loaded)
     → IsAnswered (HouseholdReplies (large_line n) is.scheme (household_text n)) old new status → IsAnswered (LargeReplies n) old new status

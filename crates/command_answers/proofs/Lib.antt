@@ -1,7 +1,6 @@
 pub mod SessionLemmas
 pub mod LargeLemmas
 pub mod LargeLimits
-pub mod Refusals
 pub mod Ways
 pub mod ExplainedLemmas
 pub mod SchemeLaws

@@ -14,7 +14,6 @@ use Rattle.reg_machine.specs.Machine.{machine_run}
 use Rattle.reg_machine.proofs.StepLaws.{run-is-flat_run}
 use Rattle.code_file.specs.declared.loaded.Loaded.{Loaded}
 use Rattle.household.specs.Household.{household_of, values_of}
-use Rattle.household.specs.Table.{table_of}
 use Rattle.household.specs.declared.fault.HouseholdFault.{HouseholdFault}
 use Rattle.household.proofs.GivenLemmas.{household_gives}
 use Rattle.household_session.specs.Replies.{ended_lines, input_lines}
@@ -35,93 +34,70 @@ use Rattle.command_plans.specs.Printing.{Appends, Breaks, IsAnswered, Prints, pr
 use Rattle.command_plans.specs.Views.{InputView, OutputView}
 use Rattle.command_plans.specs.declared.status.Status.{Status}
 use Rattle.command_plans.specs.declared.status.Status.TheVariants.{ReadFault, Refused}
-use Rattle.command_answers.specs.Batches.{BatchReplies}
 use Rattle.code_answers.specs.Parts.{IsWrittenInParts}
-use Rattle.command_answers.specs.Batches as batch
 use Rattle.command_answers.specs.Compiles.{CompileReplies}
 use Rattle.command_answers.specs.Compiles as compile
 use Rattle.code_answers.specs.Households.{household_fault_line}
-use Rattle.code_answers.specs.Shown.{HouseholdReplies, IsRunnableCode, Shows, TableReplies}
+use Rattle.code_answers.specs.Replies.{file_is_refused, is_answered, is_refused}
+use Rattle.code_answers.specs.Shown.{HouseholdReplies, IsRunnableCode, Shows}
 use Rattle.command_answers.specs.Prepared.{IsPreparedCode}
-use Rattle.command_answers.specs.Runs.{RunReplies}
-use Rattle.command_answers.specs.Runs as run
 use Rattle.command_answers.specs.Explained.{IsExplained}
 use Rattle.code_answers.specs.Schemes.{Scheme}
 use Rattle.command_answers.specs.Serves.{IsServed}
 use Rattle.command_answers.specs.Serves as serve
 use Rattle.command_answers.specs.Serving.{Served, to_its_end, unread, too_long, unwritten, unwritten_at_end}
 use Rattle.command_answers.specs.Sessions.{ended_replies, replies_by, scheme_showing, session_replies}
-use Rattle.command_answers.specs.Sources.{IsScheme, Refuses, households_are_refused, source_scheme}
+use Rattle.command_answers.specs.Sources.{IsScheme, SourceReplies, source_scheme}
 use Rattle.command_answers.specs.inner.Answers.{IsBegun, IsExplainerOf, IsFileOf, IsPrepared, IsServedBy, is_file}
 use Rattle.command_answers.specs.inner.Answers as prepared
 use Rattle.code_answers.proofs.CodeLemmas.{spells_whole}
 use Rattle.code_answers.proofs.Refusals.{ReportsRefusal}
 use Rattle.command_answers.proofs.SessionLemmas.{replies_are}
 use Rattle.code_answers.proofs.Shown.{as_many, lines_reported}
-use Rattle.command_answers.specs.Cases.{CasesReplies}
-use Rattle.command_answers.specs.Cases as cases
-use Rattle.code_answers.specs.Cases.{ComparedReplies}
-use Rattle.code_answers.specs.Parts as parts
-use Rattle.code_answers.specs.Shown as households
-use Rattle.code_answers.proofs.Ways.{answered_as, parts_as}
+use Rattle.code_answers.proofs.Ways.{answered_as, parts_as, refused_as, refused_in_parts}
 
--- ---- runs
+-- ---- sources
 
-pub run_refused : (source : Source) (rows : List ℕ) (old new : OutputView) (status : Status)
-    → ReportsRefusal (Refuses source (λ inputs. household_of inputs rows)) old new status
-    → IsAnswered (RunReplies source rows) old new status
-run_refused source rows old new status (inl (line, refused, shown)) = printed line Refused (run.is_refused refused) tt shown
-run_refused source rows old new status (inr (same, memory)) = no_memory same memory
+-- a source was rejected
+refused : (source : Source) (Replies : Scheme → List ℕ → Status → Type 0) (fault : SourceFault) (line : List ℕ)
+    → IsSourceFault source fault × (source_line source.texts fault ≡ Some line)
+    → SourceReplies source Replies line Refused
+refused source Replies fault line is = is_refused (fault, is.0, is.1)
 
-run_as : (source : Source) (scheme : Scheme) (rows : List ℕ) → IsScheme source scheme → (text : List ℕ) (own : Status)
-    → HouseholdReplies [] scheme rows text own → RunReplies source rows text own
-run_as source scheme rows valid text own (households.is_refused fault faulty line) = run.is_refused (households_are_refused scheme fault valid faulty line)
-run_as source scheme rows valid text own (households.is_reported pairs given) = run.is_reported scheme pairs valid given
-
-pub run_answered : (source : Source) (loaded : Loaded) (rows : List ℕ) (old new : OutputView) (status : Status) → (is : IsPreparedCode source loaded)
-    → IsAnswered (HouseholdReplies [] is.scheme rows) old new status → IsAnswered (RunReplies source rows) old new status
-run_answered source loaded rows old new status is a = answered_as (HouseholdReplies [] is.scheme rows) (RunReplies source rows) old new status
-    (run_as source is.scheme rows is.valid) a
-
--- ---- batches
-
-pub batch_refused : (source : Source) (table : List ℕ) (old new : OutputView) (status : Status)
-    → ReportsRefusal (Refuses source (λ inputs. table_of inputs table)) old new status
-    → IsWrittenInParts (BatchReplies source table) old new status
-batch_refused source table old new status (inl (line, refused, shown)) = parts.printed line Refused (batch.is_refused refused) tt shown
-batch_refused source table old new status (inr (same, memory)) = parts.no_memory same memory
-
-table_as : (source : Source) (scheme : Scheme) (table : List ℕ) → IsScheme source scheme → (text : List ℕ) (own : Status) → TableReplies scheme table text own
-    → BatchReplies source table text own
-table_as source scheme table valid text own (households.table_is_refused fault faulty line) = batch.is_refused
-    (households_are_refused scheme fault valid faulty line)
-table_as source scheme table valid text own (households.rows_are_answered rows given) = batch.is_reported scheme rows valid given
-
-pub batch_answered : (source : Source) (loaded : Loaded) (table : List ℕ) (old new : OutputView) (status : Status) → (is : IsPreparedCode source loaded)
-    → IsWrittenInParts (TableReplies is.scheme table) old new status → IsWrittenInParts (BatchReplies source table) old new status
-batch_answered source loaded table old new status is a = parts_as (TableReplies is.scheme table) (BatchReplies source table) old new status
-    (table_as source is.scheme table is.valid) a
-
--- ---- cases
-
-pub cases_refused : (source : Source) (table : List ℕ) (fault : SourceFault) (old new : OutputView) (status : Status)
+pub source_refused : (source : Source) (Replies : Scheme → List ℕ → Status → Type 0) (fault : SourceFault) (old new : OutputView) (status : Status)
     → ReportsRefusal (λ line. IsSourceFault source fault × (source_line source.texts fault ≡ Some line)) old new status
-    → IsWrittenInParts (CasesReplies source table) old new status
-cases_refused source table fault old new status (inl (line, is, shown)) = parts.printed line Refused (cases.source_is_refused fault is.0 is.1) tt shown
-cases_refused source table fault old new status (inr (same, memory)) = parts.no_memory same memory
+    → IsAnswered (SourceReplies source Replies) old new status
+source_refused source Replies fault old new status reported =
+    refused_as (λ line. IsSourceFault source fault × (source_line source.texts fault ≡ Some line)) (SourceReplies source Replies) old new status
+    (refused source Replies fault) reported
 
-pub cases_answered : (source : Source) (loaded : Loaded) (table : List ℕ) (old new : OutputView) (status : Status) → (is : IsPreparedCode source loaded)
-    → IsWrittenInParts (ComparedReplies is.scheme table) old new status → IsWrittenInParts (CasesReplies source table) old new status
-cases_answered source loaded table old new status is a =
-    parts_as (ComparedReplies is.scheme table) (CasesReplies source table) old new status (λ text own replied. cases.is_answered is.scheme is.valid replied) a
+pub source_refused_in_parts : (source : Source) (Replies : Scheme → List ℕ → Status → Type 0) (fault : SourceFault) (old new : OutputView) (status : Status)
+    → ReportsRefusal (λ line. IsSourceFault source fault × (source_line source.texts fault ≡ Some line)) old new status
+    → IsWrittenInParts (SourceReplies source Replies) old new status
+source_refused_in_parts source Replies fault old new status reported =
+    refused_in_parts (λ line. IsSourceFault source fault × (source_line source.texts fault ≡ Some line)) (SourceReplies source Replies) old new status
+    (refused source Replies fault) reported
+
+-- the answer by the scheme of a source's code is the source's
+pub source_answered : (source : Source) (loaded : Loaded) (Replies : Scheme → List ℕ → Status → Type 0) (old new : OutputView) (status : Status)
+    → (is : IsPreparedCode source loaded) → IsAnswered (Replies is.scheme) old new status → IsAnswered (SourceReplies source Replies) old new status
+source_answered source loaded Replies old new status is a =
+    answered_as (Replies is.scheme) (SourceReplies source Replies) old new status (λ text own replied. is_answered is.scheme is.valid replied) a
+
+pub source_in_parts : (source : Source) (loaded : Loaded) (Replies : Scheme → List ℕ → Status → Type 0) (old new : OutputView) (status : Status)
+    → (is : IsPreparedCode source loaded) → IsWrittenInParts (Replies is.scheme) old new status
+    → IsWrittenInParts (SourceReplies source Replies) old new status
+source_in_parts source loaded Replies old new status is a =
+    parts_as (Replies is.scheme) (SourceReplies source Replies) old new status (λ text own replied. is_answered is.scheme is.valid replied) a
 
 -- ---- sessions
 
-pub serve_refused : (source : Source) (rows : List ℕ) (heard : InputView) (old new : OutputView) (status : Status)
-    → ReportsRefusal (Refuses source (λ inputs. household_of inputs rows)) old new status
+pub serve_refused : (source : Source) (rows : List ℕ) (fault : SourceFault) (heard : InputView) (old new : OutputView) (status : Status)
+    → ReportsRefusal (λ line. IsSourceFault source fault × (source_line source.texts fault ≡ Some line)) old new status
     → IsServed source rows heard heard old new status
-serve_refused source rows heard old new status (inl (line, refused, shown)) = serve.refused line refused refl shown
-serve_refused source rows heard old new status (inr (same, memory)) = serve.no_memory refl same memory
+serve_refused source rows fault heard old new status (inl (line, is, shown)) = serve.refused line
+    (refused source (λ scheme. HouseholdReplies [] scheme rows) fault line is) refl shown
+serve_refused source rows fault heard old new status (inr (same, memory)) = serve.no_memory refl same memory
 
 pub session_refused : (scheme : Scheme) (explains : Explaining) (face : Face) (runs : List Value → Answer) (rows : List ℕ) (fault : HouseholdFault)
     (heard : InputView) (old new : OutputView) (status : Status) → Shows scheme face runs
@@ -135,7 +111,7 @@ pub serve_answered : (source : Source) (program : Program) (rows : List ℕ) (he
     (explains : Explaining) → (is : IsPrepared source program) → IsExplained source explains
     → IsServedBy is.scheme explains rows heard reported old new status → IsServed source rows heard reported old new status
 serve_answered source program rows heard reported old new status explains is reasons (prepared.refused line fault faulty stated same p) = serve.refused line
-    (households_are_refused is.scheme fault is.valid faulty stated) same p
+    (is_answered is.scheme is.valid (file_is_refused fault faulty stated)) same p
 serve_answered source program rows heard reported old new status explains is reasons (prepared.no_memory same none memory) = serve.no_memory same none memory
 serve_answered source program rows heard reported old new status explains is reasons (prepared.served pairs given s) = serve.served is.scheme explains pairs
     (record { valid = is.valid; explained = reasons; given = given }) s
@@ -246,8 +222,9 @@ runnable_outcome source (Err fault) is = tt
 pub compile_refused : (source : Source) (fault : SourceFault) (old new : OutputView) (status : Status)
     → ReportsRefusal (λ line. IsSourceFault source fault × (source_line source.texts fault ≡ Some line)) old new status
     → IsAnswered (CompileReplies source) old new status
-compile_refused source fault old new status (inl (line, refused, shown)) = printed line Refused (compile.is_refused fault refused.0 refused.1) tt shown
-compile_refused source fault old new status (inr (same, memory)) = no_memory same memory
+compile_refused source fault old new status reported =
+    refused_as (λ line. IsSourceFault source fault × (source_line source.texts fault ≡ Some line)) (CompileReplies source) old new status
+    (λ line is. compile.is_refused fault is.0 is.1) reported
 
 compile_as : (source : Source) (loaded : Loaded) → IsPreparedCode source loaded → (text : List ℕ) (own : Status) → IsFileOf loaded text own
     → CompileReplies source text own

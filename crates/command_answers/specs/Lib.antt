@@ -1,6 +1,5 @@
 pub mod Sources
 pub mod Runs
-pub mod Batches
 pub mod Sessions
 pub mod Serving
 pub mod Explained
@@ -8,5 +7,4 @@ pub mod Serves
 pub mod LargeAnswers
 pub mod Prepared
 pub mod Compiles
-pub mod Cases
 pub mod inner

@@ -11,7 +11,8 @@ use Rattle.command_plans.specs.declared.status.Status.TheVariants.{Done, Memory,
 use Rattle.why_session.specs.Explains.{Explaining}
 use Rattle.command_answers.specs.Explained.{IsExplained}
 use Rattle.code_answers.specs.Schemes.{Scheme}
-use Rattle.command_answers.specs.Sources.{IsScheme, Refuses}
+use Rattle.command_answers.specs.Runs.{RunReplies}
+use Rattle.command_answers.specs.Sources.{IsScheme}
 use Rattle.command_answers.specs.Sessions.{ended_replies, session_replies}
 use Rattle.command_answers.specs.Serving.{Served}
 
@@ -22,11 +23,11 @@ pub record IsSession (source : Source) (rows : List ℕ) (scheme : Scheme) (expl
   pub explained : IsExplained source explains
   pub given : household_of scheme.inputs rows ≡ Ok pairs
 
--- The answer to an input: an error line; or the replies to all its lines; or, where the input has `INPUT_BYTES` bytes
+-- The answer to an input: an error line of a run; or the replies to all its lines; or, where the input has `INPUT_BYTES` bytes
 -- or more, the replies to the lines that have their line feed among the first `INPUT_BYTES`, and then the line that
 -- the input is too long.
 pub data ServeReplies (source : Source) (rows typed : List ℕ) : List ℕ → Status → Type 0 where
-  is_refused : {line : List ℕ} → Refuses source (λ inputs. household_of inputs rows) line → ServeReplies source rows typed line Refused
+  is_refused : {line : List ℕ} → RunReplies source rows line Refused → ServeReplies source rows typed line Refused
   is_served : (scheme : Scheme) (explains : Explaining) (pairs : List (ℕ × ℤ)) → IsSession source rows scheme explains pairs → length typed < INPUT_BYTES
       → ServeReplies source rows typed (session_replies scheme explains pairs typed) Done
   is_too_long : (scheme : Scheme) (explains : Explaining) (pairs : List (ℕ × ℤ)) (taken rest : List ℕ) → IsSession source rows scheme explains pairs
@@ -42,7 +43,7 @@ pub data ServeCutOff (source : Source) (rows taken : List ℕ) : List ℕ → Ty
 -- How `serve` ended: with an error or out of memory before anything was read from the input, or the session started
 -- and ran over the input.
 pub data IsServed (source : Source) (rows : List ℕ) (heard reported : InputView) (old new : OutputView) (status : Status) : Type 0 where
-  refused : (line : List ℕ) → Refuses source (λ inputs. household_of inputs rows) line → reported ≡ heard → Prints line Refused old new status
+  refused : (line : List ℕ) → RunReplies source rows line Refused → reported ≡ heard → Prints line Refused old new status
       → IsServed source rows heard reported old new status
   no_memory : reported ≡ heard → new ≡ old → status ≡ Memory → IsServed source rows heard reported old new status
   served : (scheme : Scheme) (explains : Explaining) (pairs : List (ℕ × ℤ)) → IsSession source rows scheme explains pairs

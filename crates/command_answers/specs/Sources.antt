@@ -1,19 +1,18 @@
 -- The scheme of a source, and the line of its error.
-use Rattle.std.specs.Prelude.{◌≡◌, ℕ, List, Option, Some, Result, Err, map}
+use Rattle.std.specs.Prelude.{◌≡◌, ℕ, List, Option, Some, map}
 use Rattle.m_places.specs.declared.source.Source.{Source}
 use Rattle.m_symbols.specs.Declarations.{Declared}
 use Rattle.micro_m.specs.declared.base.Base.{Base}
 use Rattle.driver_core.specs.declared.program.Core.{Core}
 use Rattle.m_symbols.specs.Cells.{cell_name}
-use Rattle.observables.specs.declared.inputs.Coded.{Coded}
-use Rattle.household.specs.declared.fault.HouseholdFault.{HouseholdFault}
 use Rattle.m_compile.specs.Sources.{IsValid}
 use Rattle.m_compile.specs.Faults.{IsSourceFault}
 use Rattle.m_compile.specs.Lines.{source_line}
 use Rattle.m_compile.specs.Answers.{answer_to}
 use Rattle.driver_core.specs.Inputs.{inputs_declared}
 use Rattle.m_compile.specs.declared.fault.SourceFault.{SourceFault}
-use Rattle.code_answers.specs.Households.{household_fault_line}
+use Rattle.command_plans.specs.declared.status.Status.{Status}
+use Rattle.code_answers.specs.Replies.{RepliesBy}
 use Rattle.code_answers.specs.Schemes.{Scheme}
 
 -- the scheme of declarations, a base, the written driver and the requests: the inputs, the names of the requested
@@ -34,10 +33,6 @@ pub record IsScheme (source : Source) (scheme : Scheme) : Type 0 where
   pub valid : IsValid source declared base written requests
   pub stated : scheme ≡ source_scheme declared base written requests
 
--- The error line of a source or of the file of households after it, whose contents for given inputs are `stated`: the
--- source's fault, or for a valid source the fault of that file.
-pub data Refuses (source : Source) {Given : Type 0} (stated : List Coded → Result Given HouseholdFault) (line : List ℕ) : Type 0 where
-  source_is_refused : (fault : SourceFault) → IsSourceFault source fault → source_line source.texts fault ≡ Some line → Refuses source stated line
-  households_are_refused : (scheme : Scheme) (fault : HouseholdFault) → IsScheme source scheme → stated scheme.inputs ≡ Err fault
-      → household_fault_line fault ≡ Some line
-      → Refuses source stated line
+-- The answer of a source: the line of its fault, or for a valid source the answer by its scheme.
+abbrev pub SourceReplies : Source → (Scheme → List ℕ → Status → Type 0) → List ℕ → Status → Type 0
+SourceReplies source = RepliesBy (λ line. (fault : SourceFault) × IsSourceFault source fault × (source_line source.texts fault ≡ Some line)) (IsScheme source)

@@ -2,7 +2,8 @@
 ghost use Rattle.std.specs.Prelude.{Ok, Err};
 ghost use Rattle.m_places.specs.SourceLimits.{SourceKeepsLimits};
 ghost use Rattle.command_plans.specs.Views.{output_view};
-ghost use Rattle.command_answers.specs.Batches.{BatchReplies};
+ghost use Rattle.code_answers.specs.Shown.{TableReplies};
+ghost use Rattle.command_answers.specs.Sources.{SourceReplies};
 ghost use Rattle.code_answers.specs.Parts.{IsWrittenInParts};
 
 use crate::program::prepare_code;
@@ -25,7 +26,7 @@ pub fn batch_source<R: Threads + Sync, K: Sink>(
     out: &mut K,
 ) -> Status
     requires { SourceKeepsLimits source.now }
-    ensures { IsWrittenInParts (BatchReplies source.now table.now) (output_view K.written K.faults out.old) (output_view K.written K.faults out.new) result }
+    ensures { IsWrittenInParts (SourceReplies source.now (λ scheme. TableReplies scheme table.now)) (output_view K.written K.faults out.old) (output_view K.written K.faults out.new) result }
 {
     match prepare_code(rt, alloc, source) {
         Ok(loaded) => answer_batch(rt, alloc, &loaded, table, out),

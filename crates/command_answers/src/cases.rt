@@ -3,7 +3,8 @@ ghost use Rattle.std.specs.Prelude.{◌<◌, Ok, Err};
 ghost use Rattle.m_places.specs.SourceLimits.{SourceKeepsLimits};
 ghost use Rattle.command_plans.specs.Views.{output_view};
 ghost use Rattle.code_answers.specs.Parts.{IsWrittenInParts};
-ghost use Rattle.command_answers.specs.Cases.{CasesReplies};
+ghost use Rattle.code_answers.specs.Cases.{ComparedReplies};
+ghost use Rattle.command_answers.specs.Sources.{SourceReplies};
 
 use crate::program::prepare_code;
 use code_answers::answer_cases;
@@ -25,7 +26,7 @@ pub fn cases_source<R: Threads + Sync, K: Sink>(
     out: &mut K,
 ) -> Status
     requires { SourceKeepsLimits source.now }
-    ensures { IsWrittenInParts (CasesReplies source.now table.now) (output_view K.written K.faults out.old) (output_view K.written K.faults out.new) result }
+    ensures { IsWrittenInParts (SourceReplies source.now (λ scheme. ComparedReplies scheme table.now)) (output_view K.written K.faults out.old) (output_view K.written K.faults out.new) result }
 {
     match prepare_code(rt, alloc, source) {
         Ok(loaded) => answer_cases(rt, alloc, &loaded, table, out),

@@ -1,8 +1,9 @@
 //! A fact, and what follows from it.
 ghost use Rattle.std.specs.Prelude.{◌≡◌, ◌||◌, IsTrue, is_some};
 ghost use Rattle.definedness.specs.Facts.{Possible, IsFact, fact_of_value, fact_of_input, over_alone, one_value, is_number, lacks_zero};
+ghost use Rattle.definedness.specs.Ranges.{may_be_zero, may_be_other};
 
-use crate::range::{LEAST, MOST, Range, alone, amount, has_zero};
+use crate::range::{LEAST, MOST, Range, alone, amount, has_other, has_zero};
 use m_fixed::{Amount, Value};
 use std::marker::Model;
 
@@ -96,9 +97,26 @@ impl Fact {
     pub fn lacks_zero(self) -> bool
         ensures { result ≡ lacks_zero self }
     {
+        self.range.is_some() && !self.may_be_zero()
+    }
+
+    /// Whether 0 is possible.
+    pub fn may_be_zero(self) -> bool
+        ensures { result ≡ may_be_zero self.range }
+    {
         match self.numbers() {
             None => false,
-            Some(range) => !has_zero(range),
+            Some(range) => has_zero(range),
+        }
+    }
+
+    /// Whether a number other than 0 is possible.
+    pub fn may_be_other(self) -> bool
+        ensures { result ≡ may_be_other self.range }
+    {
+        match self.numbers() {
+            None => false,
+            Some(range) => has_other(range),
         }
     }
 }

@@ -8,8 +8,7 @@ ghost use Rattle.definedness.specs.inner.Limits.{limited};
 
 use crate::fact::{Fact, over_alone};
 use crate::range::{
-    Range, alone, amount, cut_to_amounts, has_other, has_zero, join, leaves_amounts, may_be_other,
-    may_be_zero,
+    Range, alone, amount, cut_to_amounts, has_other, has_zero, join, leaves_amounts,
 };
 use crate::results::{results_of, truths};
 use m_fixed::{Amount, Op};
@@ -210,8 +209,7 @@ fn truths_of(other: bool, range: Option<Range>) -> Range
 fn choice(c: Fact, a: Fact, b: Fact) -> Fact
     ensures { result ≡ choice c a b }
 {
-    let range = c.numbers();
-    match branches(may_be_other(range), may_be_zero(range), a, b) {
+    match branches(c.may_be_other(), c.may_be_zero(), a, b) {
         None => Fact::new(c.undef, c.over, None),
         Some(taken) => Fact::new(
             c.undef || taken.undef,

@@ -2,7 +2,7 @@
 ghost use Rattle.std.specs.Prelude.{◌≡◌, ◌≤ℤ◌};
 ghost use Rattle.std.specs.Int.{int_max, int_min};
 ghost use Rattle.m_fixed.specs.Amounts.{IsAmount};
-ghost use Rattle.definedness.specs.Ranges.{alone, has_zero, has_other, may_be_zero, may_be_other, hull, join, cut_to_amounts, leaves_amounts};
+ghost use Rattle.definedness.specs.Ranges.{alone, has_zero, has_other, hull, join, cut_to_amounts, leaves_amounts};
 ghost use Rattle.definedness.specs.inner.Limits.{limited};
 
 use m_fixed::Amount;
@@ -74,26 +74,6 @@ pub(crate) fn has_other(range: Range) -> bool
     ensures { result ≡ has_other range }
 {
     range.low.millionths() < 0 || 0 < range.high.millionths()
-}
-
-/// Whether there is an interval and it contains 0.
-pub(crate) fn may_be_zero(range: Option<Range>) -> bool
-    ensures { result ≡ may_be_zero range }
-{
-    match range {
-        Some(range) => has_zero(range),
-        None => false,
-    }
-}
-
-/// Whether there is an interval and it contains a number other than 0.
-pub(crate) fn may_be_other(range: Option<Range>) -> bool
-    ensures { result ≡ may_be_other range }
-{
-    match range {
-        Some(range) => has_other(range),
-        None => false,
-    }
 }
 
 /// The least interval that contains two.

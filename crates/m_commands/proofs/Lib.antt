@@ -1,9 +1,9 @@
 pub mod Bounds
-pub mod Cases
 pub mod Checks
 pub mod Clauses
 pub mod Codes
 pub mod Compiling
+pub mod Completes
 pub mod Ends
 pub mod Executed
 pub mod Faults

@@ -1,12 +1,11 @@
 -- The same words, files and input have one output.
-use Rattle.std.proofs.Common.{◌≡◌, ◌<◌, ℕ, ℤ, List, ◌++◌, length, Ok, refl, sym, ap, ◌∙◌, subst, arith, length-append}
+use Rattle.std.proofs.Common.{◌≡◌, ◌<◌, ℕ, ℤ, List, ◌++◌, length, Option, Result, Ok, refl, sym, ap, ◌∙◌, subst, arith, length-append}
 use Rattle.std.proofs.Common.{take}
 use Rattle.std.proofs.lemmas.List.{take-append-le, take_all}
 use Rattle.m_places.specs.declared.source.Source.{Source}
 use Rattle.tax_print.specs.FaultLines.{input_too_long_line, usage_line}
 use Rattle.household.specs.Household.{household_of}
 use Rattle.household.specs.Table.{table_of}
-use Rattle.household.specs.declared.table.Row.{Row}
 use Rattle.m_large.specs.Large.{household_text}
 use Rattle.m_places.specs.declared.limits.TheConstants.{INPUT_BYTES}
 use Rattle.large_validity.specs.Sources.{large_source}
@@ -16,70 +15,77 @@ use Rattle.command_plans.specs.declared.status.Status.TheVariants.{Done, Refused
 use Rattle.command_plans.proofs.ValidLemmas.{one_output as one}
 use Rattle.why_session.specs.Explains.{Explaining}
 use Rattle.tax_print.specs.Lines.{observation_lines}
-use Rattle.command_answers.specs.Batches as batch
-use Rattle.code_answers.specs.Households.{observation_status}
+use Rattle.command_answers.specs.Runs.{RunReplies}
+use Rattle.code_answers.specs.Cases.{ComparedReplies, cases_count, cases_fault_line, cases_text, count_status}
+use Rattle.code_answers.specs.Households.{household_fault_line, observation_status}
+use Rattle.code_answers.specs.Replies.{FileReplies}
+use Rattle.code_answers.specs.Shown.{TableReplies}
+use Rattle.code_answers.proofs.OneLaws.{one_file}
+use Rattle.m_cases.specs.Cases.{cases_of}
+use Rattle.m_cases.specs.declared.cases.Cases.{Cases}
 use Rattle.command_answers.specs.LargeAnswers as large
 use Rattle.code_answers.specs.Larges.{large_line}
-use Rattle.command_answers.specs.Runs as run
 use Rattle.code_answers.specs.Schemes.{Scheme, observation_for}
 use Rattle.command_answers.specs.Serves.{IsSession}
 use Rattle.command_answers.specs.Serves as serve
 use Rattle.command_answers.specs.Sessions.{ended_replies, session_replies}
-use Rattle.command_answers.specs.Sources.{IsScheme}
+use Rattle.command_answers.specs.Sources.{IsScheme, SourceReplies}
 use Rattle.code_answers.specs.Tables.{rows_lines}
 use Rattle.m_commands.specs.Answer.{Replies}
 use Rattle.m_commands.specs.Command.{command_of, plan_of}
 use Rattle.m_commands.specs.Output.{Output, AreOneOutput, both_served, both_too_long, the_same}
 use Rattle.m_commands.specs.declared.work.Work.{Work}
 use Rattle.m_commands.specs.declared.work.Work.TheVariants.{Run, Serve, Batch, Large, Compile, Exec, Check, Lint, Cases}
-use Rattle.m_commands.proofs.Cases.{one_cases}
 use Rattle.m_commands.proofs.Checks.{one_check}
 use Rattle.m_commands.proofs.Codes.{one_compile, one_exec}
 use Rattle.m_commands.proofs.Lints.{one_lint}
-use Rattle.command_answers.proofs.SchemeLaws.{one_scheme}
-use Rattle.m_commands.proofs.Schemes.{not_refused, one_refusal, stated_other}
+use Rattle.command_answers.proofs.SchemeLaws.{one_scheme, one_source}
+use Rattle.m_commands.proofs.Completes.{run_complete}
+use Rattle.m_commands.proofs.Schemes.{of_lines}
+
+-- ---- runs and tables
+
+-- a source has one answer, where a file has one by its scheme
+one_of_source : {Given Fault : Type 0} (source : Source) (stated : Scheme → Result Given Fault) (line_of : Fault → Option (List ℕ))
+    (text_of : Scheme → Given → List ℕ) (status_of : Scheme → Given → Status) (t u : List ℕ) (s r : Status)
+    → SourceReplies source (λ scheme. FileReplies (stated scheme) line_of (text_of scheme) (status_of scheme)) t s
+    → SourceReplies source (λ scheme. FileReplies (stated scheme) line_of (text_of scheme) (status_of scheme)) u r → AreOneOutput t s u r
+one_of_source source stated line_of text_of status_of t u s r a b =
+    one_source AreOneOutput source (λ scheme. FileReplies (stated scheme) line_of (text_of scheme) (status_of scheme)) t u s r of_lines
+    (λ scheme x y. let same = one_file (stated scheme) (stated scheme) line_of (text_of scheme) (text_of scheme) (status_of scheme) (status_of scheme) t u s r
+    refl (λ given g. (refl, refl)) x y in the_same same.0 same.1) a b
+
+one_run : (source : Source) (rows t u : List ℕ) (s r : Status) → RunReplies source rows t s → RunReplies source rows u r → AreOneOutput t s u r
+one_run source rows t u s r a b =
+    one_of_source source (λ (scheme : Scheme). household_of scheme.inputs rows) household_fault_line
+    (λ (scheme : Scheme) pairs. observation_lines scheme.names (observation_for scheme pairs)) (λ scheme pairs. observation_status (observation_for scheme pairs))
+    t u s r a b
+
+one_batch : (source : Source) (table t u : List ℕ) (s r : Status) → SourceReplies source (λ scheme. TableReplies scheme table) t s
+    → SourceReplies source (λ scheme. TableReplies scheme table) u r → AreOneOutput t s u r
+one_batch source table t u s r a b =
+    one_of_source source (λ (scheme : Scheme). table_of scheme.inputs table) household_fault_line rows_lines (λ scheme rows. Done) t u s r a b
+
+one_cases : (source : Source) (table t u : List ℕ) (s r : Status) → SourceReplies source (λ scheme. ComparedReplies scheme table) t s
+    → SourceReplies source (λ scheme. ComparedReplies scheme table) u r → AreOneOutput t s u r
+one_cases source table t u s r a b =
+    one_of_source source (λ (scheme : Scheme). cases_of scheme.inputs scheme.names table) cases_fault_line cases_text
+    (λ scheme (cases : Cases). count_status (cases_count scheme cases.rows cases.expected)) t u s r a b
+
+-- ---- `large N`
 
 -- the pairs of a household are the same for two schemes of a source
 one_pairs : (source : Source) (rows : List ℕ) (one other : Scheme) (pairs given : List (ℕ × ℤ)) → IsScheme source one → IsScheme source other
     → household_of one.inputs rows ≡ Ok pairs → household_of other.inputs rows ≡ Ok given → pairs ≡ given
-one_pairs source rows one other pairs given a b p q = let c = stated_other source (λ inputs. household_of inputs rows) (Ok pairs) one other a b p in cc (c, q)
-
-one_rows : (source : Source) (table : List ℕ) (one other : Scheme) (rows given : List Row) → IsScheme source one → IsScheme source other
-    → table_of one.inputs table ≡ Ok rows → table_of other.inputs table ≡ Ok given → rows ≡ given
-one_rows source table one other rows given a b p q = let c = stated_other source (λ inputs. table_of inputs table) (Ok rows) one other a b p in cc (c, q)
-
--- ---- runs and `large N`
-
-one_run : (source : Source) (rows t u : List ℕ) (s r : Status) → run.RunReplies source rows t s → run.RunReplies source rows u r → AreOneOutput t s u r
-one_run source rows t u s r (run.is_refused a) (run.is_refused b) = one_refusal source (λ inputs. household_of inputs rows) t u a b
-one_run source rows t u s r (run.is_refused a) (run.is_reported scheme pairs v g) = absurd
-    (not_refused source (λ inputs. household_of inputs rows) t scheme pairs v g a)
-one_run source rows t u s r (run.is_reported scheme pairs v g) (run.is_refused b) = absurd
-    (not_refused source (λ inputs. household_of inputs rows) u scheme pairs v g b)
-one_run source rows t u s r (run.is_reported one pairs v g) (run.is_reported other given w h) =
-    let e = one_scheme source one other v w in
-    let p = one_pairs source rows one other pairs given v w g h in
-    the_same (λ i. observation_lines (e i).names (observation_for (e i) (p i))) (λ i. observation_status (observation_for (e i) (p i)))
+one_pairs source rows one other pairs given a b p q =
+    let c = subst (λ (s : Scheme). household_of s.inputs rows ≡ Ok pairs) (one_scheme source one other a b) p in
+    cc (c, q)
 
 one_large : (n : ℕ) (t u : List ℕ) (s r : Status) → large.LargeReplies n t s → large.LargeReplies n u r → AreOneOutput t s u r
 one_large n t u s r (large.is_reported one pairs v g) (large.is_reported other given w h) =
     let e = one_scheme (large_source n) one other v w in
     let p = one_pairs (large_source n) (household_text n) one other pairs given v w g h in
     the_same (λ i. large_line n ++ observation_lines (e i).names (observation_for (e i) (p i))) (λ i. observation_status (observation_for (e i) (p i)))
-
--- ---- batches
-
-one_batch : (source : Source) (table t u : List ℕ) (s r : Status) → batch.BatchReplies source table t s → batch.BatchReplies source table u r
-    → AreOneOutput t s u r
-one_batch source table t u s r (batch.is_refused a) (batch.is_refused b) = one_refusal source (λ inputs. table_of inputs table) t u a b
-one_batch source table t u s r (batch.is_refused a) (batch.is_reported scheme rows v g) = absurd
-    (not_refused source (λ inputs. table_of inputs table) t scheme rows v g a)
-one_batch source table t u s r (batch.is_reported scheme rows v g) (batch.is_refused b) = absurd
-    (not_refused source (λ inputs. table_of inputs table) u scheme rows v g b)
-one_batch source table t u s r (batch.is_reported one rows v g) (batch.is_reported other given w h) =
-    let e = one_scheme source one other v w in
-    let p = one_rows source table one other rows given v w g h in
-    the_same (λ i. rows_lines (e i) (p i)) refl
 
 -- ---- sessions
 
@@ -93,6 +99,11 @@ one_front one other rest left e same = sym (take-append-le (length one) one rest
     ∙ ap (take (length one)) e ∙ ap (λ n. take n (other ++ left)) same ∙ take-append-le (length other) other left (omega arith)
     ∙ take_all (length other) other (omega arith)
 
+-- a household without a fault isn't refused
+not_refused : (source : Source) (rows line : List ℕ) (scheme : Scheme) (pairs : List (ℕ × ℤ)) → IsScheme source scheme → household_of scheme.inputs rows ≡ Ok pairs
+    → RunReplies source rows line Refused → ⊥
+not_refused source rows line scheme pairs v g a = run_complete source rows line Refused (record { own = scheme; has = v; given = pairs; is_given = g }) a
+
 -- the same session, possibly with other reasons
 same_session : (source : Source) (rows : List ℕ) (one other : Scheme) (explains reasons : Explaining) (pairs given : List (ℕ × ℤ))
     → IsSession source rows one explains pairs → IsSession source rows other reasons given
@@ -102,13 +113,13 @@ same_session source rows one other explains reasons pairs given v w =
 
 one_serve : (source : Source) (rows typed t u : List ℕ) (s r : Status) → serve.ServeReplies source rows typed t s → serve.ServeReplies source rows typed u r
     → AreOneOutput t s u r
-one_serve source rows typed t u s r (serve.is_refused a) (serve.is_refused b) = one_refusal source (λ inputs. household_of inputs rows) t u a b
+one_serve source rows typed t u s r (serve.is_refused a) (serve.is_refused b) = one_run source rows t u Refused Refused a b
 one_serve source rows typed t u s r (serve.is_refused a) (serve.is_served scheme explains pairs v few) = absurd
-    (not_refused source (λ inputs. household_of inputs rows) t scheme pairs v.valid v.given a)
+    (not_refused source rows t scheme pairs v.valid v.given a)
 one_serve source rows typed t u s r (serve.is_refused a) (serve.is_too_long scheme explains pairs taken rest v e full) = absurd
-    (not_refused source (λ inputs. household_of inputs rows) t scheme pairs v.valid v.given a)
+    (not_refused source rows t scheme pairs v.valid v.given a)
 one_serve source rows typed t u s r (serve.is_served scheme explains pairs v few) (serve.is_refused b) = absurd
-    (not_refused source (λ inputs. household_of inputs rows) u scheme pairs v.valid v.given b)
+    (not_refused source rows u scheme pairs v.valid v.given b)
 one_serve source rows typed t u s r (serve.is_served one explains pairs v few) (serve.is_served other reasons given w also) =
     let same = same_session source rows one other explains reasons pairs given v w in
     let text : session_replies other reasons given typed ≡ session_replies one reasons pairs typed = sym
@@ -118,7 +129,7 @@ one_serve source rows typed t u s r (serve.is_served one explains pairs v few) (
 one_serve source rows typed t u s r (serve.is_served one explains pairs v few) (serve.is_too_long other reasons given taken rest w e full) = absurd
     (not_both_lengths typed taken rest few e full)
 one_serve source rows typed t u s r (serve.is_too_long scheme explains pairs taken rest v e full) (serve.is_refused b) = absurd
-    (not_refused source (λ inputs. household_of inputs rows) u scheme pairs v.valid v.given b)
+    (not_refused source rows u scheme pairs v.valid v.given b)
 one_serve source rows typed t u s r (serve.is_too_long one explains pairs taken rest v e full) (serve.is_served other reasons given w few) = absurd
     (not_both_lengths typed taken rest few e full)
 one_serve source rows typed t u s r (serve.is_too_long one explains pairs taken rest v e full) (serve.is_too_long other reasons given also left w f most) =

@@ -3,21 +3,14 @@ use Rattle.std.proofs.Common.{◌≡◌, ℕ, List, [], ◌∷◌, ◌++◌, len
 use Rattle.m_places.specs.declared.limits.TheConstants.{INPUT_BYTES}
 use Rattle.m_ports.specs.Counts.{Rose}
 use Rattle.tax_print.specs.FaultLines.{usage_line}
-use Rattle.observables.specs.Answers.{Observation, values, stopped}
-use Rattle.household.specs.Household.{household_of}
-use Rattle.household.specs.Table.{table_of}
 use Rattle.command_plans.specs.Status.{IsComplete}
 use Rattle.command_plans.specs.Views.{FilesView, InputView, OutputView}
 use Rattle.command_plans.specs.declared.status.Status.{Status}
+use Rattle.command_plans.specs.declared.status.Status.TheVariants.{Refused}
 use Rattle.command_plans.proofs.PrintedLemmas.{complete_status}
 use Rattle.command_plans.proofs.ValidLemmas.{complete_of as complete}
-use Rattle.command_answers.specs.Batches as batch
 use Rattle.command_answers.specs.Compiles as compiles
-use Rattle.code_answers.specs.Execs as exec
-use Rattle.code_answers.specs.Households.{observation_status}
 use Rattle.command_answers.specs.LargeAnswers as large
-use Rattle.code_answers.specs.Shown as prepared
-use Rattle.command_answers.specs.Runs as run
 use Rattle.code_answers.specs.Schemes.{observation_for}
 use Rattle.command_answers.specs.Serves as serve
 use Rattle.m_commands.specs.Answer.{Replies, HasAnswer}
@@ -27,17 +20,11 @@ use Rattle.m_commands.specs.declared.command.Command.{Command}
 use Rattle.m_commands.specs.declared.work.Work.{Work}
 use Rattle.m_commands.specs.declared.work.Work.TheVariants.{Run, Serve, Batch, Large, Compile, Exec, Check, Lint, Cases}
 use Rattle.m_commands.specs.inner.Courses.{Course, IsWorkOf}
-use Rattle.m_commands.proofs.Cases.{compared_complete}
 use Rattle.m_commands.proofs.Checks.{checked_complete}
-use Rattle.m_commands.proofs.Codes.{compiled_not_refused, code_not_refused, rows_not_refused}
-use Rattle.m_commands.proofs.Schemes.{not_refused as refusal_none}
+use Rattle.m_commands.proofs.Codes.{compiled_not_refused}
+use Rattle.m_commands.proofs.Completes.{batch_complete, cases_complete, exec_complete, reported_complete, run_complete}
 use Rattle.m_commands.proofs.Lints.{linted_complete}
 use Rattle.m_commands.proofs.Ways.{Way, way_of, observe, lacks_memory, breaks_off, serves_all, serves_part, serves_most, serves_front, serve_reads}
-
--- an observation has the status of a command that did all of its work
-reported_complete : (reported : Observation) → IsComplete (observation_status reported)
-reported_complete (values notes vs) = tt
-reported_complete (stopped cause) = tt
 
 -- an empty input is below the limit
 nothing_full : (taken rest : List ℕ) → [] ≡ taken ++ rest → length taken ≡ INPUT_BYTES → ⊥
@@ -46,27 +33,18 @@ nothing_full (byte ∷ taken) rest e full = absurd (cc e)
 
 -- for an empty input, what has an answer is answered and not rejected
 replies_complete : (work : Work) (text : List ℕ) (status : Status) → HasAnswer work → Replies work [] text status → IsComplete status
-replies_complete (Run source rows) text status h (run.is_refused {line = line} r) = absurd
-    (refusal_none source (λ inputs. household_of inputs rows) line h.scheme h.pairs h.valid h.given r)
-replies_complete (Run source rows) text status h (run.is_reported scheme pairs v g) = reported_complete (observation_for scheme pairs)
-replies_complete (Serve source rows) text status h (serve.is_refused {line = line} r) = absurd
-    (refusal_none source (λ inputs. household_of inputs rows) line h.scheme h.pairs h.valid h.given r)
+replies_complete (Run source rows) text status h replies = run_complete source rows text status h replies
+replies_complete (Serve source rows) text status h (serve.is_refused {line = line} r) = absurd (run_complete source rows line Refused h r)
 replies_complete (Serve source rows) text status h (serve.is_served scheme explains pairs s few) = tt
 replies_complete (Serve source rows) text status h (serve.is_too_long scheme explains pairs taken rest s e full) = absurd (nothing_full taken rest e full)
-replies_complete (Batch source table) text status h (batch.is_refused {line = line} r) = absurd
-    (refusal_none source (λ inputs. table_of inputs table) line h.scheme h.rows h.valid h.given r)
-replies_complete (Batch source table) text status h (batch.is_reported scheme rows v g) = tt
+replies_complete (Batch source table) text status h replies = batch_complete source table text status h replies
 replies_complete (Large n) text status h (large.is_reported scheme pairs v g) = reported_complete (observation_for scheme pairs)
 replies_complete (Compile source) text status h (compiles.is_refused fault is reported) = absurd (compiled_not_refused source fault h is)
 replies_complete (Compile source) text status h (compiles.is_compiled compiled is form) = tt
-replies_complete (Exec code rows) text status h (exec.code_is_refused fault is reported) = absurd (code_not_refused code rows text fault h is reported)
-replies_complete (Exec code rows) text status h (exec.is_answered loaded scheme form shown (prepared.is_refused fault given reported)) = absurd
-    (rows_not_refused code rows loaded scheme fault h form shown given)
-replies_complete (Exec code rows) text status h (exec.is_answered loaded scheme form shown (prepared.is_reported pairs given)) = reported_complete
-    (observation_for scheme pairs)
+replies_complete (Exec code rows) text status h replies = exec_complete code rows text status h replies
 replies_complete (Check source rows report) text status h replies = checked_complete source rows report text status h replies
 replies_complete (Lint source) text status h replies = linted_complete source text status h replies
-replies_complete (Cases source table) text status h replies = compared_complete source table text status h replies
+replies_complete (Cases source table) text status h replies = cases_complete source table text status h replies
 
 -- a text cut short by a failed read of the input
 complete_way : (words : List (List ℕ)) (command : Command) (work : Work) (heard reported : InputView) (old new : OutputView) (status : Status)

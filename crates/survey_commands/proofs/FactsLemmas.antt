@@ -86,10 +86,10 @@ facts_answered source declared base program ranges old new status rules is a =
 
 pub facts_complete : (source : Source) (ranges : Option (List ℕ)) (text : List ℕ) (status : Status) → FactsHaveAnswer source ranges
     → FactsReplies source ranges text status → IsComplete status
-facts_complete source ranges text status h (source_is_refused fault f k) = absurd (no_scheme_and_fault source h.scheme fault h.valid f)
+facts_complete source ranges text status h (source_is_refused fault f k) = absurd (no_scheme_and_fault source h.own fault h.has f)
 facts_complete source ranges text status h (ranges_are_refused program fault is f k) =
-    let e : given_by h.scheme.inputs ranges ≡ Err fault = subst (λ inputs. given_by inputs ranges ≡ Err fault)
-    (scheme_inputs source h.scheme program h.valid is) f in
-    let g = h.given in
+    let e : given_by h.own.inputs ranges ≡ Err fault = subst (λ inputs. given_by inputs ranges ≡ Err fault)
+    (scheme_inputs source h.own program h.has is) f in
+    let g = h.is_given in
     cc (e, g)
 facts_complete source ranges text status h (facts_are_found declared base program given rules is g) = tt

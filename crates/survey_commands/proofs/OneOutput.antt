@@ -7,8 +7,6 @@ use Rattle.m_places.specs.declared.source.Text.{Text}
 use Rattle.observables.specs.Inputs.{AreValuesOf}
 use Rattle.observables.specs.declared.answer.Answer.{Answer}
 use Rattle.observables.specs.declared.face.Face.{Face}
-use Rattle.reg_machine.specs.Machine.{machine_run}
-use Rattle.code_file.proofs.EntryLaws.{one-fault}
 use Rattle.household.specs.Household.{values_of}
 use Rattle.household.specs.Table.{table_of}
 use Rattle.household.specs.declared.fault.HouseholdFault.{HouseholdFault}
@@ -31,7 +29,6 @@ use Rattle.command_plans.specs.Views.{Disk}
 use Rattle.command_plans.specs.declared.status.Status.{Status}
 use Rattle.command_plans.specs.declared.status.Status.TheVariants.{Done, Refused}
 use Rattle.command_plans.proofs.ValidLemmas.{one_output as one}
-use Rattle.code_answers.specs.Execs.{code_fault_line}
 use Rattle.code_answers.specs.Households.{household_fault_line}
 use Rattle.code_answers.specs.Schemes.{Scheme, observation_for}
 use Rattle.code_answers.specs.Shown.{Shows}
@@ -41,25 +38,23 @@ use Rattle.survey_commands.specs.Csv.{field_text}
 use Rattle.survey_commands.specs.Lines.{usage_line}
 use Rattle.survey_commands.specs.Output.{Output, AreOneOutput, both_cycles, both_found, both_recursions, the_same}
 use Rattle.survey_commands.specs.Records.{header, rows_records, table_text, observation_fields}
-use Rattle.survey_commands.specs.Tables.{CodeReplies, SchemeReplies, SourceReplies, code_answers, code_is_refused, rows_are_answered, source_answers}
-use Rattle.survey_commands.specs.Tables.{source_is_refused, table_is_refused}
+use Rattle.survey_commands.specs.Tables.{SchemeReplies}
 use Rattle.survey_commands.specs.declared.work.Work.{Work}
 use Rattle.survey_commands.specs.declared.work.Work.TheVariants.{Table, Facts, CodeTable, Version}
-use Rattle.code_file.proofs.FormLaws.{no-fault-of-form}
-use Rattle.code_answers.proofs.OneLaws.{one_inputs, one_loaded, shown_other}
+use Rattle.code_answers.proofs.OneLaws.{one_code, one_file, one_inputs}
 use Rattle.command_plans.proofs.PrintedLemmas.{one_line as one_line_of}
-use Rattle.command_answers.proofs.SchemeLaws.{no_scheme_and_fault, one_scheme}
+use Rattle.command_answers.proofs.SchemeLaws.{one_source}
 
 -- ---- two error lines
+
+of_lines : (t u : List ℕ) → AreOneLine t u → AreOneOutput t Refused u Refused
+of_lines _ _ (line_laws.the_same e) = the_same e refl
+of_lines _ _ (line_laws.both_cycles names others) = both_cycles names others
+of_lines _ _ (line_laws.both_rings names others) = both_recursions names others
 
 one_line : (texts : List Text) (fault other : SourceFault) (t u : List ℕ) → AreOneSourceFault fault other → source_line texts fault ≡ Some t
     → source_line texts other ≡ Some u → AreOneOutput t Refused u Refused
 one_line texts fault other t u same a b = of_lines t u (line_laws.one_line texts fault other t u same a b)
-  where
-    of_lines : (t u : List ℕ) → AreOneLine t u → AreOneOutput t Refused u Refused
-    of_lines _ _ (line_laws.the_same e) = the_same e refl
-    of_lines _ _ (line_laws.both_cycles names others) = both_cycles names others
-    of_lines _ _ (line_laws.both_rings names others) = both_recursions names others
 
 -- ---- tables
 
@@ -97,49 +92,22 @@ text_same face runs one other rows a b g h =
     λ i. header (names i) ++ rest i
 
 -- a table has one answer by the schemes that a program shows
-one_answer : (face : Face) (runs : List Value → Answer) (one other : Scheme) (table t u : List ℕ) (s r : Status) → Shows one face runs → Shows other face runs
+one_answer : (table t u : List ℕ) (s r : Status) (face : Face) (runs : List Value → Answer) (one other : Scheme) → Shows one face runs → Shows other face runs
     → SchemeReplies one table t s → SchemeReplies other table u r → AreOneOutput t s u r
-one_answer face runs one other table t u s r a b (table_is_refused fault g k) (table_is_refused also h l) =
-    let f : table_of other.inputs table ≡ Err fault = subst (λ inputs. table_of inputs table ≡ Err fault) (one_inputs face runs one other a b) g in
-    let e : fault ≡ also = cc (f, h) in
-    the_same (one_line_of household_fault_line fault also t u e k l) refl
-one_answer face runs one other table t u s r a b (table_is_refused fault g k) (rows_are_answered rows h) =
-    let f : table_of other.inputs table ≡ Err fault = subst (λ inputs. table_of inputs table ≡ Err fault) (one_inputs face runs one other a b) g in
-    cc (f, h)
-one_answer face runs one other table t u s r a b (rows_are_answered rows g) (table_is_refused fault h k) =
-    let f : table_of other.inputs table ≡ Ok rows = subst (λ inputs. table_of inputs table ≡ Ok rows) (one_inputs face runs one other a b) g in
-    cc (f, h)
-one_answer face runs one other table t u s r a b (rows_are_answered rows g) (rows_are_answered others h) =
-    let f : table_of other.inputs table ≡ Ok rows = subst (λ inputs. table_of inputs table ≡ Ok rows) (one_inputs face runs one other a b) g in
-    let p : rows ≡ others = cc (f, h) in
-    the_same (text_same face runs one other rows a b (table_gives one.inputs table rows g) (table_gives other.inputs table rows f) ∙ ap (table_text other) p)
-    refl
+one_answer table t u s r face runs one other a b x y =
+    let inputs = one_inputs face runs one other a b in
+    let same = one_file (table_of one.inputs table) (table_of other.inputs table) household_fault_line (table_text one) (table_text other) (λ rows. Done)
+    (λ rows. Done) t u s r (ap (λ inputs. table_of inputs table) inputs)
+    (λ rows g. (text_same face runs one other rows a b (table_gives one.inputs table rows g)
+    (table_gives other.inputs table rows (subst (λ inputs. table_of inputs table ≡ Ok rows) inputs g)), refl)) x y in
+    the_same same.0 same.1
 
 -- a scheme has one answer to a table
-one_reply_of : (scheme : Scheme) (table t u : List ℕ) (s r : Status) → SchemeReplies scheme table t s → SchemeReplies scheme table u r → AreOneOutput t s u r
-one_reply_of scheme table t u s r (table_is_refused fault g k) (table_is_refused other h l) =
-    the_same (one_line_of household_fault_line fault other t u (cc (g, h)) k l) refl
-one_reply_of scheme table t u s r (table_is_refused fault g k) (rows_are_answered rows h) = cc (g, h)
-one_reply_of scheme table t u s r (rows_are_answered rows g) (table_is_refused other h l) = cc (g, h)
-one_reply_of scheme table t u s r (rows_are_answered rows g) (rows_are_answered others h) =
-    let e : rows ≡ others = cc (g, h) in
-    the_same (ap (table_text scheme) e) refl
-
-one_source : (source : Source) (table t u : List ℕ) (s r : Status) → SourceReplies source table t s → SourceReplies source table u r → AreOneOutput t s u r
-one_source source table t u s r (source_is_refused fault f k) (source_is_refused other g l) = one_line source.texts fault other t u
-    (one_fault source fault other f g) k l
-one_source source table t u s r (source_is_refused fault f k) (source_answers scheme v b) = absurd (no_scheme_and_fault source scheme fault v f)
-one_source source table t u s r (source_answers scheme v a) (source_is_refused fault f k) = absurd (no_scheme_and_fault source scheme fault v f)
-one_source source table t u s r (source_answers one v a) (source_answers other w b) =
-    one_reply_of other table t u s r (subst (λ (x : Scheme). SchemeReplies x table t s) (one_scheme source one other v w) a) b
-
-one_code : (code table t u : List ℕ) (s r : Status) → CodeReplies code table t s → CodeReplies code table u r → AreOneOutput t s u r
-one_code code table t u s r (code_is_refused fault f k) (code_is_refused other g l) = the_same
-    (one_line_of code_fault_line fault other t u (one-fault code fault other f g) k l) refl
-one_code code table t u s r (code_is_refused fault f k) (code_answers loaded scheme form shown h) = absurd (no-fault-of-form code loaded fault form f)
-one_code code table t u s r (code_answers loaded scheme form shown h) (code_is_refused fault f k) = absurd (no-fault-of-form code loaded fault form f)
-one_code code table t u s r (code_answers one scheme form shown h) (code_answers other also part seen i) =
-    one_answer other.face (machine_run other.code) scheme also table t u s r (shown_other scheme one other (one_loaded code one other form part) shown) seen h i
+one_reply_of : (table t u : List ℕ) (s r : Status) (scheme : Scheme) → SchemeReplies scheme table t s → SchemeReplies scheme table u r → AreOneOutput t s u r
+one_reply_of table t u s r scheme x y =
+    let same = one_file (table_of scheme.inputs table) (table_of scheme.inputs table) household_fault_line (table_text scheme) (table_text scheme) (λ rows. Done)
+    (λ rows. Done) t u s r refl (λ rows g. (refl, refl)) x y in
+    the_same same.0 same.1
 
 -- ranges give the same facts for two compilations of a source
 given_again : (source : Source) (ranges : Option (List ℕ)) (one other : Program) (stated : Result (List Possible) HouseholdFault) → IsProgramOf source one
@@ -176,9 +144,11 @@ one_facts source ranges t u s r (facts_are_found declared base one given rules i
 
 -- a command has one answer to what it gathered
 one_reply : (work : Work) (t u : List ℕ) (s r : Status) → Replies work t s → Replies work u r → AreOneOutput t s u r
-one_reply (Table source table) t u s r a b = one_source source table t u s r a b
+one_reply (Table source table) t u s r a b = one_source AreOneOutput source (λ scheme. SchemeReplies scheme table) t u s r of_lines (one_reply_of table t u s r)
+    a b
 one_reply (Facts source ranges) t u s r a b = one_facts source ranges t u s r a b
-one_reply (CodeTable code table) t u s r a b = one_code code table t u s r a b
+one_reply (CodeTable code table) t u s r a b = one_code AreOneOutput code (λ scheme. SchemeReplies scheme table) t u s r (λ x y e. the_same e refl)
+    (one_answer table t u s r) a b
 one_reply Version t u s r a b = the_same (a.0 ∙ sym b.0) (a.1 ∙ sym b.1)
 
 -- The same words and files have one output.

@@ -1,45 +1,37 @@
 -- The clause that valid words and files are answered.
-use Rattle.std.proofs.Common.{◌≡◌, ℕ, List, Ok, sym, ◌∙◌, subst}
+use Rattle.std.proofs.Common.{◌≡◌, ℕ, List, sym, subst}
 use Rattle.m_ports.specs.Counts.{Rose}
 use Rattle.household.specs.Table.{table_of}
-use Rattle.household.specs.declared.table.Row.{Row}
+use Rattle.observables.specs.declared.inputs.Coded.{Coded}
 use Rattle.command_plans.specs.Status.{IsComplete}
 use Rattle.command_plans.specs.Views.{FilesView, OutputView}
 use Rattle.command_plans.specs.declared.status.Status.{Status}
 use Rattle.command_plans.proofs.PrintedLemmas.{complete_status}
 use Rattle.command_plans.proofs.ValidLemmas.{complete_of as complete}
+use Rattle.command_plans.specs.declared.status.Status.TheVariants.{Done}
+use Rattle.code_answers.specs.Households.{household_fault_line}
 use Rattle.code_answers.specs.Schemes.{Scheme}
 use Rattle.survey_commands.specs.Answer.{Replies, HasAnswer}
 use Rattle.survey_commands.specs.Command.{command_of, plan_of}
 use Rattle.survey_commands.specs.Clauses.{AnswersValid}
 use Rattle.survey_commands.specs.Lines.{usage_line}
-use Rattle.survey_commands.specs.Tables.{SchemeReplies, code_answers, code_is_refused, rows_are_answered, source_answers, source_is_refused, table_is_refused}
+use Rattle.survey_commands.specs.Records.{table_text}
 use Rattle.survey_commands.specs.declared.work.Work.{Work}
 use Rattle.survey_commands.specs.declared.work.Work.TheVariants.{Table, Facts, CodeTable, Version}
 use Rattle.survey_commands.specs.inner.Courses.{Course}
 use Rattle.survey_commands.proofs.FactsLemmas.{facts_complete}
-use Rattle.code_file.proofs.FormLaws.{no-fault-of-form}
-use Rattle.code_answers.proofs.OneLaws.{one_loaded}
-use Rattle.command_answers.proofs.SchemeLaws.{no_scheme_and_fault, one_scheme}
+use Rattle.code_answers.proofs.OneLaws.{code_complete}
+use Rattle.command_answers.proofs.SchemeLaws.{source_complete}
 use Rattle.survey_commands.proofs.Ways.{Way, way_of, observe, lacks_memory, breaks_off}
-
--- a table without a fault isn't rejected
-table_complete : (scheme : Scheme) (table text : List ℕ) (status : Status) (rows : List Row) → table_of scheme.inputs table ≡ Ok rows
-    → SchemeReplies scheme table text status → IsComplete status
-table_complete scheme table text status rows g (table_is_refused fault h k) = cc (g, h)
-table_complete scheme table text status rows g (rows_are_answered others h) = tt
 
 -- what has an answer is answered, and not rejected
 replies_complete : (work : Work) (text : List ℕ) (status : Status) → HasAnswer work → Replies work text status → IsComplete status
-replies_complete (Table source table) text status h (source_is_refused fault f k) = absurd (no_scheme_and_fault source h.scheme fault h.valid f)
-replies_complete (Table source table) text status h (source_answers scheme v a) =
-    table_complete h.scheme table text status h.rows h.given
-    (subst (λ (x : Scheme). SchemeReplies x table text status) (one_scheme source scheme h.scheme v h.valid) a)
+replies_complete (Table source table) text status h r =
+    source_complete source (λ (scheme : Scheme). table_of scheme.inputs table) household_fault_line table_text (λ scheme rows. Done) text status
+    (λ scheme rows. tt) h r
 replies_complete (Facts source ranges) text status h r = facts_complete source ranges text status h r
-replies_complete (CodeTable code table) text status h (code_is_refused fault f k) = absurd (no-fault-of-form code h.loaded fault h.form f)
-replies_complete (CodeTable code table) text status h (code_answers loaded scheme form shown a) =
-    table_complete scheme table text status h.rows (subst (λ inputs. table_of inputs table ≡ Ok h.rows) ((one_loaded code h.loaded loaded h.form form).inputs
-    ∙ shown.inputs) h.given) a
+replies_complete (CodeTable code table) text status h r =
+    code_complete code (λ (inputs : List Coded). table_of inputs table) household_fault_line table_text (λ scheme rows. Done) text status (λ scheme rows. tt) h r
 replies_complete Version text status h r = subst IsComplete (sym r.1) tt
 
 complete_way : (work : Work) (old new : OutputView) (status : Status) → HasAnswer work → (Rose old.faults new.faults → ⊥) → Way work old new status

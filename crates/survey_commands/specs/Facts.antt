@@ -18,6 +18,7 @@ use Rattle.m_compile.specs.declared.compiling.Program.{Program}
 use Rattle.m_compile.specs.declared.fault.SourceFault.{SourceFault}
 use Rattle.command_plans.specs.declared.status.Status.{Status}
 use Rattle.command_plans.specs.declared.status.Status.TheVariants.{Done, Refused}
+use Rattle.code_answers.specs.Replies.{HasGiven}
 use Rattle.code_answers.specs.Schemes.{Scheme}
 use Rattle.command_answers.specs.Sources.{IsScheme}
 
@@ -61,8 +62,5 @@ pub data FactsReplies (source : Source) (ranges : Option (List ℕ)) : List ℕ 
       → given_by program.face.inputs ranges ≡ Ok given → FactsReplies source ranges (facts_text base program.tidy program.face given) Done
 
 -- a valid source, and ranges without a fault for its inputs
-pub record FactsHaveAnswer (source : Source) (ranges : Option (List ℕ)) : Type 0 where
-  pub scheme : Scheme
-  pub valid : IsScheme source scheme
-  pub possible : List Possible
-  pub given : given_by scheme.inputs ranges ≡ Ok possible
+abbrev pub FactsHaveAnswer : Source → (ranges : Option (List ℕ)) → Type 0
+FactsHaveAnswer source ranges = HasGiven (IsScheme source) (λ (scheme : Scheme). given_by scheme.inputs ranges)

@@ -3,7 +3,8 @@ ghost use Rattle.std.specs.Prelude.{◌≤◌, length};
 ghost use Rattle.m_places.specs.declared.limits.TheConstants.{CODE_FILE_BYTES};
 ghost use Rattle.command_plans.specs.Views.{output_view};
 ghost use Rattle.code_answers.specs.Parts.{IsWrittenInParts};
-ghost use Rattle.survey_commands.specs.Tables.{CodeReplies};
+ghost use Rattle.code_answers.specs.Execs.{CodeReplies};
+ghost use Rattle.survey_commands.specs.Tables.{SchemeReplies};
 
 use crate::table::answer_table;
 use code_answers::{code_entry, report_refusal};
@@ -23,7 +24,7 @@ pub(crate) fn table_code<R: Threads + Sync, K: Sink>(
     out: &mut K,
 ) -> Status
     requires { length code.now ≤ CODE_FILE_BYTES }
-    ensures { IsWrittenInParts (CodeReplies code.now table.now) (output_view K.written K.faults out.old) (output_view K.written K.faults out.new) result }
+    ensures { IsWrittenInParts (CodeReplies code.now (λ scheme. SchemeReplies scheme table.now)) (output_view K.written K.faults out.old) (output_view K.written K.faults out.new) result }
 {
     match read_code(alloc, code) {
         Ok(loaded) => answer_table(rt, alloc, &loaded, table, out),

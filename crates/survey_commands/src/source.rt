@@ -2,7 +2,8 @@
 ghost use Rattle.m_places.specs.SourceLimits.{SourceKeepsLimits};
 ghost use Rattle.command_plans.specs.Views.{output_view};
 ghost use Rattle.code_answers.specs.Parts.{IsWrittenInParts};
-ghost use Rattle.survey_commands.specs.Tables.{SourceReplies};
+ghost use Rattle.command_answers.specs.Sources.{SourceReplies};
+ghost use Rattle.survey_commands.specs.Tables.{SchemeReplies};
 
 use crate::table::answer_table;
 use command_answers::prepare_code;
@@ -24,7 +25,7 @@ pub(crate) fn table_source<R: Threads + Sync, K: Sink>(
     out: &mut K,
 ) -> Status
     requires { SourceKeepsLimits source.now }
-    ensures { IsWrittenInParts (SourceReplies source.now table.now) (output_view K.written K.faults out.old) (output_view K.written K.faults out.new) result }
+    ensures { IsWrittenInParts (SourceReplies source.now (λ scheme. SchemeReplies scheme table.now)) (output_view K.written K.faults out.old) (output_view K.written K.faults out.new) result }
 {
     match prepare_code(rt, alloc, source) {
         Ok(loaded) => answer_table(rt, alloc, &loaded, table, out),

@@ -5,15 +5,16 @@ use Rattle.command_plans.specs.Courses as courses
 use Rattle.command_plans.specs.Printing.{IsAnswered}
 use Rattle.command_plans.specs.Views.{FilesView, InputView, OutputView}
 use Rattle.command_plans.specs.declared.status.Status.{Status}
-use Rattle.command_answers.specs.Batches.{BatchReplies}
 use Rattle.code_answers.specs.Parts.{IsWrittenInParts}
-use Rattle.command_answers.specs.Cases.{CasesReplies}
 use Rattle.rule_answers.specs.Checks.{CheckReplies}
 use Rattle.command_answers.specs.Compiles.{CompileReplies}
 use Rattle.code_answers.specs.Execs.{ExecReplies}
 use Rattle.command_answers.specs.LargeAnswers.{LargeReplies}
 use Rattle.rule_answers.specs.Lints.{LintReplies}
 use Rattle.command_answers.specs.Runs.{RunReplies}
+use Rattle.command_answers.specs.Sources.{SourceReplies}
+use Rattle.code_answers.specs.Cases.{ComparedReplies}
+use Rattle.code_answers.specs.Shown.{TableReplies}
 use Rattle.command_answers.specs.Serves.{IsServed}
 use Rattle.m_commands.specs.Command.{command_of, plan_of}
 use Rattle.m_commands.specs.declared.command.Command.{Command}
@@ -55,13 +56,15 @@ IsWorkOf wanted work = work_form work ≡ command_form wanted
 abbrev pub WorkIsAnswered : Work → (heard reported : InputView) (old new : OutputView) → Status → Type 0
 WorkIsAnswered (Run source rows) heard reported old new status = (reported ≡ heard) × IsAnswered (RunReplies source rows) old new status
 WorkIsAnswered (Serve source rows) heard reported old new status = IsServed source rows heard reported old new status
-WorkIsAnswered (Batch source table) heard reported old new status = (reported ≡ heard) × IsWrittenInParts (BatchReplies source table) old new status
+WorkIsAnswered (Batch source table) heard reported old new status =
+    (reported ≡ heard) × IsWrittenInParts (SourceReplies source (λ scheme. TableReplies scheme table)) old new status
 WorkIsAnswered (Large n) heard reported old new status = (reported ≡ heard) × IsAnswered (LargeReplies n) old new status
 WorkIsAnswered (Compile source) heard reported old new status = (reported ≡ heard) × IsAnswered (CompileReplies source) old new status
 WorkIsAnswered (Exec code rows) heard reported old new status = (reported ≡ heard) × IsAnswered (ExecReplies code rows) old new status
 WorkIsAnswered (Check source rows report) heard reported old new status = (reported ≡ heard) × IsAnswered (CheckReplies source rows report) old new status
 WorkIsAnswered (Lint source) heard reported old new status = (reported ≡ heard) × IsAnswered (LintReplies source) old new status
-WorkIsAnswered (Cases source table) heard reported old new status = (reported ≡ heard) × IsWrittenInParts (CasesReplies source table) old new status
+WorkIsAnswered (Cases source table) heard reported old new status =
+    (reported ≡ heard) × IsWrittenInParts (SourceReplies source (λ scheme. ComparedReplies scheme table)) old new status
 
 -- The course of a call: nothing was read from the input unless the command's work was answered.
 abbrev pub Course : List (List ℕ) → (before after : FilesView) → (heard reported : InputView) → (old new : OutputView) → Status → Type 0

@@ -9,7 +9,9 @@ use Rattle.code_answers.specs.Parts.{IsWrittenInParts}
 use Rattle.survey_commands.specs.Command.{command_of, plan_of, writes_in_parts}
 use Rattle.survey_commands.specs.Facts.{FactsReplies}
 use Rattle.survey_commands.specs.Lines.{usage_line, version_line}
-use Rattle.survey_commands.specs.Tables.{CodeReplies, SourceReplies}
+use Rattle.code_answers.specs.Execs.{CodeReplies}
+use Rattle.command_answers.specs.Sources.{SourceReplies}
+use Rattle.survey_commands.specs.Tables.{SchemeReplies}
 use Rattle.survey_commands.specs.declared.command.Command.{Command}
 use Rattle.survey_commands.specs.declared.work.Work.{Work}
 use Rattle.survey_commands.specs.declared.work.Work.TheVariants.{Table, Facts, CodeTable, Version}
@@ -27,9 +29,9 @@ IsWorkOf wanted work = work_in_parts work ≡ writes_in_parts wanted
 
 -- how the work was answered
 abbrev pub WorkIsAnswered : Work → OutputView → OutputView → Status → Type 0
-WorkIsAnswered (Table source table) old new status = IsWrittenInParts (SourceReplies source table) old new status
+WorkIsAnswered (Table source table) old new status = IsWrittenInParts (SourceReplies source (λ scheme. SchemeReplies scheme table)) old new status
 WorkIsAnswered (Facts source ranges) old new status = IsAnswered (FactsReplies source ranges) old new status
-WorkIsAnswered (CodeTable code table) old new status = IsWrittenInParts (CodeReplies code table) old new status
+WorkIsAnswered (CodeTable code table) old new status = IsWrittenInParts (CodeReplies code (λ scheme. SchemeReplies scheme table)) old new status
 WorkIsAnswered Version old new status = Prints version_line Done old new status
 
 -- The course of a call.

@@ -1,5 +1,6 @@
-use Rattle.command_answers.proofs.Ways.{cases_answered, cases_refused}
+use Rattle.code_answers.specs.Cases.{ComparedReplies}
 use Rattle.rule_answers.proofs.Refusals.{fault_reported}
+use Rattle.command_answers.proofs.Ways.{source_in_parts, source_refused_in_parts}
 use Rattle.command_answers.proofs.cases.cases_source.Goals as goal
 
 pub answer_cases-requires-clause-few : goal.answer_cases-requires-clause-few
@@ -7,10 +8,10 @@ answer_cases-requires-clause-few g c = λ κs held. c.in-Ok.ensures.outcome.comp
 
 pub returns-in-Ok : goal.returns-in-Ok
 returns-in-Ok g c =
-    cases_answered c.args.source.now c.in-Ok.loaded c.args.table.now _ _ _ c.in-Ok.ensures.outcome
+    source_in_parts c.args.source.now c.in-Ok.loaded (λ scheme. ComparedReplies scheme c.args.table.now) _ _ _ c.in-Ok.ensures.outcome
     (c.answer_cases.ensures c.in-Ok.ensures.outcome.scheme c.in-Ok.ensures.outcome.shows)
 
 pub returns-in-Err : goal.returns-in-Err
 returns-in-Err g c =
-    cases_refused c.args.source.now c.args.table.now c.in-Err.fault _ _ _
+    source_refused_in_parts c.args.source.now (λ scheme. ComparedReplies scheme c.args.table.now) c.in-Err.fault _ _ _
     (fault_reported c.args.source.now c.in-Err.fault _ _ _ c.in-Err.ensures.outcome c.report_source.ensures)

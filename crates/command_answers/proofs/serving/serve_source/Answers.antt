@@ -1,7 +1,6 @@
-use Rattle.household.specs.Household.{household_of}
 use Rattle.why_session.specs.Joined.{explains_by}
 use Rattle.command_answers.proofs.ExplainedLemmas.{as_many_inputs, is_explained}
-use Rattle.command_answers.proofs.Refusals.{source_reported}
+use Rattle.rule_answers.proofs.Refusals.{fault_reported}
 use Rattle.command_answers.proofs.Ways.{is_prepared, serve_answered, serve_refused}
 use Rattle.command_answers.proofs.serving.serve_source.Goals as goal
 
@@ -19,6 +18,5 @@ returns-in-Ok g c =
 
 pub returns-in-Err : goal.returns-in-Err
 returns-in-Err g c =
-    serve_refused c.args.source.now c.args.household.now _ _ _ _
-    (source_reported c.args.source.now (λ inputs. household_of inputs c.args.household.now) c.in-Err.fault _ _ _ c.in-Err.ensures.outcome
-    c.report_source.ensures)
+    serve_refused c.args.source.now c.args.household.now c.in-Err.fault _ _ _ _
+    (fault_reported c.args.source.now c.in-Err.fault _ _ _ c.in-Err.ensures.outcome c.report_source.ensures)

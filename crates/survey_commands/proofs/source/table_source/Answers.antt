@@ -1,13 +1,14 @@
 use Rattle.rule_answers.proofs.Refusals.{fault_reported}
-use Rattle.survey_commands.proofs.Ways.{source_answered, source_refused}
+use Rattle.command_answers.proofs.Ways.{source_in_parts, source_refused_in_parts}
+use Rattle.survey_commands.specs.Tables.{SchemeReplies}
 use Rattle.survey_commands.proofs.source.table_source.Goals as goal
 
 pub returns-in-Ok : goal.returns-in-Ok
 returns-in-Ok g c =
-    source_answered c.args.source.now c.in-Ok.loaded c.args.table.now _ _ _ c.in-Ok.ensures.outcome
+    source_in_parts c.args.source.now c.in-Ok.loaded (λ scheme. SchemeReplies scheme c.args.table.now) _ _ _ c.in-Ok.ensures.outcome
     (c.answer_table.ensures c.in-Ok.ensures.outcome.scheme c.in-Ok.ensures.outcome.shows)
 
 pub returns-in-Err : goal.returns-in-Err
 returns-in-Err g c =
-    source_refused c.args.source.now c.args.table.now c.in-Err.fault _ _ _
+    source_refused_in_parts c.args.source.now (λ scheme. SchemeReplies scheme c.args.table.now) c.in-Err.fault _ _ _
     (fault_reported c.args.source.now c.in-Err.fault _ _ _ c.in-Err.ensures.outcome c.report_source.ensures)
