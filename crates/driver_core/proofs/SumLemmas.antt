@@ -3,21 +3,21 @@ use Rattle.std.proofs.Common.{◌≡◌, ℕ, zero, suc, ◌+◌, ◌*◌, ◌<�
 use Rattle.std.specs.Prelude.{min, ◌^◌, ◌-◌}
 use Rattle.std.proofs.lemmas.List.{drop_more}
 use denote.Param.Weighed.{most}
-use Rattle.micro_m.specs.Trees.{Tree, lit, cell, pick, apply, chain}
+use Rattle.micro_m.specs.Trees.{Tree, lit, cell, pick, apply, chain, nodes_all, nodes_along}
+use Rattle.micro_m.specs.Views.{trees_of}
 use Rattle.driver_core.specs.declared.term.CStep.{CStep}
 use Rattle.driver_core.specs.declared.term.CTerm.TheDeep.{size-CStep, size-CTerm}
-use Rattle.driver_core.specs.Formulas.{Formula, nodes_of_formulas, nodes_of_steps}
-use Rattle.driver_core.specs.FormulaView.{formulas_of, steps_of}
+use Rattle.driver_core.specs.TermView.{then_present, any_present, steps_of}
 use Rattle.driver_core.specs.Actions.{Action, action_nodes, nodes_of_block}
 use Rattle.driver_core.specs.ActionView.{block_of}
-use Rattle.driver_core.specs.Weights.{read_weight}
+use Rattle.driver_core.specs.Weights.{read_weight, tree_weight, steps_weight}
 use Rattle.driver_core.specs.inner.Capped.{capped}
 
-pub sizes-fall : (all : List CStep) → most size-CStep all ≤ 3 * nodes_of_steps (steps_of all) + 1
+pub sizes-fall : (all : List CStep) → most size-CStep all ≤ 3 * nodes_along (steps_of all) + 1
 sizes-fall [] = omega arith
 sizes-fall (a ∷ rest) = omega (arith, sizes-fall rest)
 
-pub terms-fall : (all : List Formula) → most size-CTerm all ≤ 3 * nodes_of_formulas (formulas_of all) + 1
+pub terms-fall : (all : List Tree) → most size-CTerm all ≤ 3 * nodes_all (trees_of all) + 1
 terms-fall [] = omega arith
 terms-fall (a ∷ rest) = omega (arith, terms-fall rest)
 
@@ -43,3 +43,12 @@ read-capped size (cell c) weight = omega arith
 read-capped size (pick f s i) weight = omega arith
 read-capped size (apply o a) weight = omega arith
 read-capped size (chain f s) weight = omega arith
+
+-- `exists` weighs 1, and 2 for each cell
+then-weight : (cs : List ℕ) → steps_weight (then_present cs) ≡ 2 * length cs + 2
+then-weight [] = omega arith
+then-weight (c ∷ cs) = omega (arith, then-weight cs)
+
+pub present-weight : (cs : List ℕ) → tree_weight (any_present cs) ≡ 2 * length cs + 1
+present-weight [] = omega arith
+present-weight (c ∷ cs) = omega (arith, then-weight cs)

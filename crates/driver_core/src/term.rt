@@ -1,13 +1,13 @@
 //! Terms of drivers over cells.
 
 ghost use Rattle.std.specs.Prelude.{◌≡◌};
-ghost use Rattle.driver_core.specs.FormulaView.{formula_of};
+ghost use Rattle.driver_core.specs.TermView.{tree_of};
 
 use crate::kind_cells::KindCells;
 use m_fixed::{Op, Value};
 use std::marker::Model;
 
-/// A term of a driver. Contracts see it as a `Formula` of specs/, plain data.
+/// A term of a driver. Contracts see it as a `Tree` of micro_m.
 #[cycle(term)]
 #[derive(Drop)]
 pub struct CTerm {
@@ -40,20 +40,20 @@ pub struct CStep {
 }
 
 impl Model for CTerm {
-    ghost use Rattle.driver_core.specs.Formulas.{Formula, formula_nodes};
-    ghost use Rattle.driver_core.specs.inner.FormulaCoding.{coded_formula};
+    ghost use Rattle.micro_m.specs.Trees.{Tree, nodes};
+    ghost use Rattle.micro_m.specs.inner.Coding.{coded_tree};
 
-    ghost Value = { Formula };
+    ghost Value = { Tree };
 
-    ghost coded = { coded_formula };
+    ghost coded = { coded_tree };
 
-    ghost use Rattle.driver_core.specs.FormulaView.{formula_of};
+    ghost use Rattle.driver_core.specs.TermView.{tree_of};
 
-    ghost view = { λ t. formula_of t.node };
+    ghost view = { λ t. tree_of t.node };
 
-    ghost size = { formula_nodes };
+    ghost size = { nodes };
 
-    ghost use Rattle.driver_core.specs.inner.FormulaFalls.{falls};
+    ghost use Rattle.driver_core.specs.inner.TermFalls.{falls};
 
     ghost size_decreases = { λ a h. falls a.node };
 }
@@ -61,7 +61,7 @@ impl Model for CTerm {
 impl CTerm {
     /// The term with this node.
     pub fn new(node: CNode) -> CTerm
-        ensures { result ≡ formula_of node }
+        ensures { result ≡ tree_of node }
     {
         CTerm { node }
     }

@@ -1,9 +1,9 @@
 //! The weight of terms and of a base.
 
 ghost use Rattle.std.specs.Prelude.{◌≡◌, ◌+◌, ◌*◌};
-ghost use Rattle.driver_core.specs.FormulaView.{formulas_of, steps_of as formula_steps_of};
-ghost use Rattle.driver_core.specs.Weights.{tree_weight, trees_weight, tree_steps_weight, read_weight};
-ghost use Rattle.driver_core.specs.Weights.{definition_weight, check_weight, base_weight, formula_weight, formulas_weight, steps_weight};
+ghost use Rattle.driver_core.specs.TermView.{steps_of as driver_steps_of};
+ghost use Rattle.driver_core.specs.Weights.{tree_weight, trees_weight, steps_weight, read_weight};
+ghost use Rattle.driver_core.specs.Weights.{definition_weight, check_weight, base_weight};
 ghost use Rattle.std.specs.List.{sum_by};
 ghost use Rattle.micro_m.specs.Views.{trees_of, steps_of};
 ghost use Rattle.driver_core.specs.inner.Capped.{capped};
@@ -14,7 +14,7 @@ use micro_m::{Base, MNode, MTerm, Step};
 /// The weight of a term of the driver.
 #[cycle(formulas)]
 pub fn weigh_formula(term: &CTerm) -> u64
-    ensures { result ≡ capped (formula_weight term.now) }
+    ensures { result ≡ capped (tree_weight term.now) }
 {
     match &term.node {
         CNode::Lit(_) => 1,
@@ -27,7 +27,7 @@ pub fn weigh_formula(term: &CTerm) -> u64
 
 #[cycle(formulas)]
 fn weigh_formulas(arguments: &[CTerm]) -> u64
-    ensures { result ≡ capped (formulas_weight (formulas_of arguments.now)) }
+    ensures { result ≡ capped (trees_weight (trees_of arguments.now)) }
 {
     let mut total: u64 = 0;
     for argument in arguments {
@@ -38,7 +38,7 @@ fn weigh_formulas(arguments: &[CTerm]) -> u64
 
 #[cycle(formulas)]
 fn weigh_further(steps: &[CStep]) -> u64
-    ensures { result ≡ capped (steps_weight (formula_steps_of steps.now)) }
+    ensures { result ≡ capped (steps_weight (driver_steps_of steps.now)) }
 {
     let mut total: u64 = 0;
     for step in steps {
@@ -74,7 +74,7 @@ fn weigh_trees(arguments: &[MTerm]) -> u64
 
 #[cycle(trees)]
 fn weigh_steps(steps: &[Step]) -> u64
-    ensures { result ≡ capped (tree_steps_weight (steps_of steps.now)) }
+    ensures { result ≡ capped (steps_weight (steps_of steps.now)) }
 {
     let mut total: u64 = 0;
     for step in steps {

@@ -4,8 +4,9 @@ ghost use Rattle.std.specs.Prelude.{◌≡◌, Ok, Err, [], IfOk};
 ghost use Rattle.m_places.specs.Refusals.{Says};
 ghost use Rattle.m_symbols.specs.Placed.{IsPlaced};
 ghost use Rattle.mpp_parser.specs.TermView.{terms_of, links_of};
-ghost use Rattle.driver_core.specs.Formulas.{cell as cell_formula, apply, chain};
-ghost use Rattle.driver_core.specs.FormulaView.{formula_of, formulas_of, steps_of};
+ghost use Rattle.micro_m.specs.Trees.{cell as cell_tree, apply, chain};
+ghost use Rattle.micro_m.specs.Views.{trees_of};
+ghost use Rattle.driver_core.specs.TermView.{tree_of, steps_of};
 ghost use Rattle.mpp_core.specs.Names.{if_resolved, resolved_cell};
 ghost use Rattle.mpp_core.specs.Bodies.{resolved_term, resolved_terms, resolved_links};
 ghost use Rattle.mpp_core.specs.declared.fault.CoreFault.TheVariants.{Memory};
@@ -44,7 +45,7 @@ pub(crate) fn term(
 
 // Boxes a node.
 fn boxed(alloc: Global, node: CNode) -> Result<Box<CTerm>, AllocError>
-    ensures { IfOk result (λ t. t.value ≡ formula_of node) }
+    ensures { IfOk result (λ t. t.value ≡ tree_of node) }
 {
     Ok(Box::new(alloc, CTerm::new(node))?)
 }
@@ -57,7 +58,7 @@ fn named(
     scope: &Scope<'_>,
 ) -> Result<Box<CTerm>, CoreFault>
     requires { IsPlaced scope.now }
-    ensures { Says Memory result (λ t. t.value) (if_resolved (λ c. Ok (cell_formula c)) (resolved_cell scope.now line name.now)) }
+    ensures { Says Memory result (λ t. t.value) (if_resolved (λ c. Ok (cell_tree c)) (resolved_cell scope.now line name.now)) }
 {
     let cell = cell_of(alloc, scope.symbols(), line, name)?;
     Ok(boxed(alloc, CNode::Cell(cell))?)
@@ -74,7 +75,7 @@ fn applied(
 ) -> Result<Box<CTerm>, CoreFault>
     requires { IsPlaced scope.now }
     ensures { Says Memory result (λ t. t.value)
-        (if_resolved (λ all. Ok (apply op (formulas_of all))) (resolved_terms scope.now line [] (terms_of arguments.now))) }
+        (if_resolved (λ all. Ok (apply op (trees_of all))) (resolved_terms scope.now line [] (terms_of arguments.now))) }
 {
     let arguments = terms(alloc, arguments, line, scope)?;
     Ok(boxed(alloc, CNode::Apply(op, arguments))?)

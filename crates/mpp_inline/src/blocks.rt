@@ -12,7 +12,7 @@ ghost use Rattle.rule_order.specs.declared.ordered.Ordered.{Ordered};
 ghost use Rattle.driver_core.specs.Actions.{branch, partition, call};
 ghost use Rattle.driver_core.specs.ActionView.{block_of};
 ghost use Rattle.driver_core.specs.Meaning.{called};
-ghost use Rattle.driver_core.specs.Weights.{formula_weight, weight_of};
+ghost use Rattle.driver_core.specs.Weights.{tree_weight, weight_of};
 ghost use Rattle.mpp_inline.specs.declared.builder.Builder.{Builder};
 ghost use Rattle.mpp_inline.specs.inner.Growth.{Ready, calls, rules_in_turn};
 ghost use Rattle.mpp_inline.specs.inner.Work.{Standing, Kept, Moves, Step, Whole, ahead, block_ahead, done, point, does, whole_of, whole_by};
@@ -58,13 +58,13 @@ fn begin_if<'a>(
     frame: Frame,
     choice: &Choice<'a>,
 ) -> Result<u32, AllocError>
-    requires { load b.old + formula_weight choice.now.condition.now + 5 < 2 ^ 32 }
+    requires { load b.old + tree_weight choice.now.condition.now + 5 < 2 ^ 32 }
     ensures step { IfOk result (λ g. (whole : Whole) → Standing whole b.old env.now frame.guard left.old.items
         → Moves whole b.old b.new env.now g left.old.items left.new.items
         (λ inputs. ahead whole b.old inputs env.now frame.guard frame.depth
         (branch choice.now.line choice.now.condition.now (block_of choice.now.first.now) (block_of choice.now.second.now)))) }
     ensures size { OnOk result ((whole : Whole) → load b.new + 6 * left_weight whole left.new.items
-        ≤ load b.old + formula_weight choice.now.condition.now + 5 + 6 * (left_weight whole left.old.items
+        ≤ load b.old + tree_weight choice.now.condition.now + 5 + 6 * (left_weight whole left.old.items
         + block_size whole frame.depth (block_of choice.now.first.now) + block_size whole frame.depth (block_of choice.now.second.now))) }
     ensures turns { OnOk result ((whole : Whole) → left_turns whole left.new.items ≡ left_turns whole left.old.items
         + block_turns whole frame.depth (block_of choice.now.first.now) + block_turns whole frame.depth (block_of choice.now.second.now) + 2) }

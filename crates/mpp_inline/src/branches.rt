@@ -1,8 +1,8 @@
 //! Conditions of `if` commands.
 
 ghost use Rattle.std.specs.Prelude.{◌<◌, ◌≤◌, ◌+◌, ◌^◌, IfOk, OnOk};
-ghost use Rattle.driver_core.specs.Meaning.{formula_value};
-ghost use Rattle.driver_core.specs.Weights.{formula_weight};
+ghost use Rattle.micro_m.specs.Values.{term_value};
+ghost use Rattle.driver_core.specs.Weights.{tree_weight};
 ghost use Rattle.mpp_inline.specs.inner.Growth.{Placed, Opened};
 ghost use Rattle.mpp_inline.specs.inner.Sizes.{load};
 
@@ -31,10 +31,10 @@ pub fn open_branches(
     line: u32,
     condition: &CTerm,
 ) -> Result<Branches, AllocError>
-    requires { load b.old + formula_weight condition.now + 5 < 2 ^ 32 }
+    requires { load b.old + tree_weight condition.now + 5 < 2 ^ 32 }
     ensures step { IfOk result (λ r. Placed b.old env.now guard
-        → Opened b.old b.new env.now guard line (λ e. formula_value e condition.now) r) }
-    ensures size { OnOk result (load b.new ≤ load b.old + formula_weight condition.now + 5) }
+        → Opened b.old b.new env.now guard line (λ e. term_value e condition.now) r) }
+    ensures size { OnOk result (load b.new ≤ load b.old + tree_weight condition.now + 5) }
 {
     let value = emit_formula(alloc, b, env, condition)?;
     b.check_line(guard, value, line)?;

@@ -1,7 +1,7 @@
 //! Copies of parts of a driver.
 
 ghost use Rattle.std.specs.Prelude.{◌≡◌, IfOk};
-ghost use Rattle.driver_core.specs.FormulaView.{formula_of};
+ghost use Rattle.driver_core.specs.TermView.{tree_of};
 
 use driver_core::{CNode, CStep, CTerm};
 use m_places::{Name, Seq};
@@ -32,7 +32,7 @@ pub fn copied_cells(alloc: Global, cells: &[u32]) -> Result<Seq<u32>, AllocError
 
 // A node in a box.
 fn boxed(alloc: Global, node: CNode) -> Result<Box<CTerm>, AllocError>
-    ensures { IfOk result (λ t. t.value ≡ formula_of node) }
+    ensures { IfOk result (λ t. t.value ≡ tree_of node) }
 {
     Ok(Box::new(alloc, CTerm::new(node))?)
 }

@@ -2,10 +2,10 @@
 
 ghost use Rattle.std.specs.Prelude.{◌<◌, ◌≤◌, ◌+◌, ◌*◌, ◌^◌, map, length, IfOk, OnOk, slice_index_or};
 ghost use Rattle.m_fixed.specs.declared.amount.Value.TheVariants.{Undef};
-ghost use Rattle.micro_m.specs.Values.{environment, applied};
-ghost use Rattle.driver_core.specs.FormulaView.{formulas_of, steps_of};
-ghost use Rattle.driver_core.specs.Meaning.{formula_value, formula_values, steps_value, present_in, present_or, any_present};
-ghost use Rattle.driver_core.specs.Weights.{formula_weight, formulas_weight, steps_weight};
+ghost use Rattle.micro_m.specs.Views.{trees_of};
+ghost use Rattle.micro_m.specs.Values.{environment, term_value, argument_values, applied, folded};
+ghost use Rattle.driver_core.specs.TermView.{steps_of, then_present, any_present};
+ghost use Rattle.driver_core.specs.Weights.{tree_weight, trees_weight, steps_weight};
 ghost use Rattle.mpp_inline.specs.inner.Growth.{IsUsable, Sane, Known, Gives, TermStep, at, denoted};
 ghost use Rattle.mpp_inline.specs.inner.Sizes.{load};
 
@@ -24,10 +24,10 @@ pub fn emit_formula(
     env: &[u32],
     term: &CTerm,
 ) -> Result<u32, AllocError>
-    requires { load b.old + formula_weight term.now < 2 ^ 32 }
+    requires { load b.old + tree_weight term.now < 2 ^ 32 }
     ensures step { IfOk result (λ k. Sane b.old → Known b.old env.now
-        → TermStep b.old b.new env.now (λ e. formula_value e term.now) k) }
-    ensures size { OnOk result (load b.new ≤ load b.old + formula_weight term.now) }
+        → TermStep b.old b.new env.now (λ e. term_value e term.now) k) }
+    ensures size { OnOk result (load b.new ≤ load b.old + tree_weight term.now) }
 {
     match &term.node {
         CNode::Lit(value) => b.push(Node::Lit(*value)),
@@ -50,10 +50,10 @@ fn emit_applied(
     op: Op,
     arguments: &[CTerm],
 ) -> Result<u32, AllocError>
-    requires { load b.old + formulas_weight (formulas_of arguments.now) + 1 < 2 ^ 32 }
+    requires { load b.old + trees_weight (trees_of arguments.now) + 1 < 2 ^ 32 }
     ensures step { IfOk result (λ k. Sane b.old → Known b.old env.now
-        → TermStep b.old b.new env.now (λ e. applied op (formula_values e (formulas_of arguments.now))) k) }
-    ensures size { OnOk result (load b.new ≤ load b.old + formulas_weight (formulas_of arguments.now) + 1) }
+        → TermStep b.old b.new env.now (λ e. applied op (argument_values e (trees_of arguments.now))) k) }
+    ensures size { OnOk result (load b.new ≤ load b.old + trees_weight (trees_of arguments.now) + 1) }
 {
     let first = emit_argument(alloc, b, env, arguments, 0)?;
     let second = emit_argument(alloc, b, env, arguments, 1)?;
@@ -70,10 +70,10 @@ fn emit_argument(
     arguments: &[CTerm],
     place: usize,
 ) -> Result<u32, AllocError>
-    requires { load b.old + slice_index_or (map formula_weight arguments.now) place 0 < 2 ^ 32 }
+    requires { load b.old + slice_index_or (map tree_weight arguments.now) place 0 < 2 ^ 32 }
     ensures step { IfOk result (λ k. Sane b.old → Known b.old env.now
-        → TermStep b.old b.new env.now (λ e. slice_index_or (formula_values e (formulas_of arguments.now)) place Undef) k) }
-    ensures size { OnOk result (load b.new ≤ load b.old + slice_index_or (map formula_weight arguments.now) place 0) }
+        → TermStep b.old b.new env.now (λ e. slice_index_or (argument_values e (trees_of arguments.now)) place Undef) k) }
+    ensures size { OnOk result (load b.new ≤ load b.old + slice_index_or (map tree_weight arguments.now) place 0) }
 {
     match arguments.get(place) {
         Some(argument) => emit_formula(alloc, b, env, argument),
@@ -93,7 +93,7 @@ fn emit_steps(
     requires { load b.old + steps_weight (steps_of steps.now) < 2 ^ 32 }
     ensures step { IfOk result (λ k. Sane b.old → Known b.old env.now → IsUsable b.old so_far
         → Gives b.old b.new
-        (λ inputs. steps_value (environment (denoted b.old inputs env.now)) (at b.old inputs so_far) (steps_of steps.now)) k) }
+        (λ inputs. folded (environment (denoted b.old inputs env.now)) (at b.old inputs so_far) (steps_of steps.now)) k) }
     ensures size { OnOk result (load b.new ≤ load b.old + steps_weight (steps_of steps.now)) }
 {
     let mut number = so_far;
@@ -113,7 +113,7 @@ fn emit_exists(
 ) -> Result<u32, AllocError>
     requires { load b.old + 2 * length kind.now + 1 < 2 ^ 32 }
     ensures step { IfOk result (λ k. Sane b.old → Known b.old env.now
-        → TermStep b.old b.new env.now (λ e. any_present e kind.now) k) }
+        → TermStep b.old b.new env.now (λ e. term_value e (any_present kind.now)) k) }
     ensures size { OnOk result (load b.new ≤ load b.old + 2 * length kind.now + 1) }
 {
     let cells = kind.cells(alloc)?;
@@ -124,40 +124,26 @@ fn emit_exists(
 fn emit_any(b: &mut Builder, env: &[u32], cells: &[u32]) -> Result<u32, AllocError>
     requires { load b.old + 2 * length cells.now + 1 < 2 ^ 32 }
     ensures step { IfOk result (λ k. Sane b.old → Known b.old env.now
-        → TermStep b.old b.new env.now (λ e. any_present e cells.now) k) }
+        → TermStep b.old b.new env.now (λ e. term_value e (any_present cells.now)) k) }
     ensures size { OnOk result (load b.new ≤ load b.old + 2 * length cells.now + 1) }
 {
     match cells.split_first() {
-        Some((first, rest)) => {
-            let so_far = emit_present(b, env, *first)?;
-            emit_further(b, env, so_far, rest)
-        }
+        Some((first, rest)) => emit_present(b, env, look(env, *first as usize), rest),
         None => Ok(ZERO),
     }
 }
 
-/// Whether a cell is defined.
-fn emit_present(b: &mut Builder, env: &[u32], cell: u32) -> Result<u32, AllocError>
-    requires { load b.old < 2 ^ 32 }
-    ensures step { IfOk result (λ k. Sane b.old → Known b.old env.now
-        → TermStep b.old b.new env.now (λ e. present_in e cell) k) }
-    ensures size { OnOk result (load b.new ≤ load b.old + 1) }
-{
-    b.push(Node::Do(Op::Present, look(env, cell as usize), UNDEF, UNDEF))
-}
-
-/// The disjunction of `so_far` and whether one of these cells is defined.
-fn emit_further(b: &mut Builder, env: &[u32], so_far: u32, cells: &[u32]) -> Result<u32, AllocError>
-    requires { load b.old + 2 * length cells.now < 2 ^ 32 }
-    ensures size { OnOk result (load b.new ≤ load b.old + 2 * length cells.now) }
+/// Whether the node so far or one of these cells is defined.
+fn emit_present(b: &mut Builder, env: &[u32], so_far: u32, cells: &[u32]) -> Result<u32, AllocError>
+    requires { load b.old + length cells.now + 1 < 2 ^ 32 }
+    ensures size { OnOk result (load b.new ≤ load b.old + length cells.now + 1) }
     ensures step { IfOk result (λ k. Sane b.old → Known b.old env.now → IsUsable b.old so_far
         → Gives b.old b.new
-        (λ inputs. present_or (environment (denoted b.old inputs env.now)) (at b.old inputs so_far) cells.now) k) }
+        (λ inputs. folded (environment (denoted b.old inputs env.now)) (at b.old inputs so_far) (then_present cells.now)) k) }
 {
     let mut number = so_far;
     for cell in cells {
-        let present = emit_present(b, env, *cell)?;
-        number = b.push(Node::Do(Op::Or, number, present, UNDEF))?;
+        number = b.push(Node::Do(Op::Or, number, look(env, *cell as usize), UNDEF))?;
     }
-    Ok(number)
+    b.push(Node::Do(Op::Present, number, UNDEF, UNDEF))
 }

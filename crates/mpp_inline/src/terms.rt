@@ -4,7 +4,7 @@ ghost use Rattle.std.specs.Prelude.{◌<◌, ◌≤◌, ◌+◌, ◌*◌, ◌^�
 ghost use Rattle.m_fixed.specs.declared.amount.Value.TheVariants.{Undef};
 ghost use Rattle.micro_m.specs.Views.{trees_of, steps_of};
 ghost use Rattle.micro_m.specs.Values.{environment, term_value, argument_values, applied, folded, picked, picked_value};
-ghost use Rattle.driver_core.specs.Weights.{read_weight, tree_weight, trees_weight, tree_steps_weight};
+ghost use Rattle.driver_core.specs.Weights.{read_weight, tree_weight, trees_weight, steps_weight};
 ghost use Rattle.mpp_inline.specs.inner.Growth.{IsUsable, Sane, Known, Gives, TermStep, at, denoted};
 ghost use Rattle.mpp_inline.specs.inner.Sizes.{load};
 
@@ -100,8 +100,8 @@ fn emit_argument(
 /// A left fold over the remaining terms, starting from this node.
 #[cycle(terms)]
 fn emit_steps(b: &mut Builder, env: &[u32], so_far: u32, steps: &[Step]) -> Result<u32, AllocError>
-    requires { load b.old + 2 * tree_steps_weight (steps_of steps.now) < 2 ^ 32 }
-    ensures size { OnOk result (load b.new ≤ load b.old + 2 * tree_steps_weight (steps_of steps.now)) }
+    requires { load b.old + 2 * steps_weight (steps_of steps.now) < 2 ^ 32 }
+    ensures size { OnOk result (load b.new ≤ load b.old + 2 * steps_weight (steps_of steps.now)) }
     ensures step { IfOk result (λ k. Sane b.old → Known b.old env.now → IsUsable b.old so_far
         → Gives b.old b.new
         (λ inputs. folded (environment (denoted b.old inputs env.now)) (at b.old inputs so_far) (steps_of steps.now)) k) }

@@ -7,12 +7,12 @@ use Rattle.m_fixed.specs.contracts.amount.Value as value
 use Rattle.m_fixed.specs.contracts.operator.Op as op
 use Rattle.micro_m.specs.Trees.{Tree, lit, cell, pick, apply, chain, Trees, none, more, Steps, end, step}
 
-abbrev head : Gv → Gv
+abbrev pub head : Gv → Gv
 head gnil = gnil
 head (gnum n) = gnil
 head (gcons a b) = a
 
-abbrev tail : Gv → Gv
+abbrev pub tail : Gv → Gv
 tail gnil = gnil
 tail (gnum n) = gnil
 tail (gcons a b) = b

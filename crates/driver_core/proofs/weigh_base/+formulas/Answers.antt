@@ -1,10 +1,11 @@
 use Rattle.std.proofs.Common.{◌≡◌, ◌+◌, ◌∷◌, ℕ, List, drop, sym, ap, ◌∙◌, arith}
 use Rattle.driver_core.specs.declared.term.CStep.{CStep}
-use Rattle.driver_core.specs.Formulas.{Formula, formula_nodes}
-use Rattle.driver_core.specs.FormulaView.{formula_of, formulas_of, steps_of}
-use Rattle.driver_core.specs.Weights.{formula_weight, formulas_weight, steps_weight}
+use Rattle.micro_m.specs.Trees.{Tree, nodes}
+use Rattle.micro_m.specs.Views.{trees_of}
+use Rattle.driver_core.specs.TermView.{any_present, tree_of, steps_of}
+use Rattle.driver_core.specs.Weights.{tree_weight, trees_weight, steps_weight}
 use Rattle.driver_core.specs.inner.Capped.{capped}
-use Rattle.driver_core.proofs.SumLemmas.{sizes-fall, terms-fall, drop-next, sum-next}
+use Rattle.driver_core.proofs.SumLemmas.{sizes-fall, terms-fall, drop-next, sum-next, present-weight}
 use Rattle.driver_core.proofs.weigh_base.+formulas.Goals as goal
 
 pub weigh_formula-weigh_formulas-requires : goal.weigh_formula-weigh_formulas-requires
@@ -13,8 +14,8 @@ weigh_formula-weigh_formulas-requires t c =
       omega (
         arith,
         terms-fall c.in-Apply.arguments.items,
-        ap formula_nodes c.term.view_is,
-        ap (λ n. formula_nodes (formula_of n))
+        ap nodes c.term.view_is,
+        ap (λ n. nodes (tree_of n))
             c.in-Apply.is,
       ),
       tt,
@@ -26,9 +27,9 @@ weigh_formula-weigh_further-requires t c =
       omega (
         arith,
         sizes-fall c.in-Chain.steps.items,
-        ap formula_nodes c.term.view_is,
+        ap nodes c.term.view_is,
         ap
-            (λ n. formula_nodes (formula_of n)) c.in-Chain.is,
+            (λ n. nodes (tree_of n)) c.in-Chain.is,
       ),
       tt,
     )
@@ -38,10 +39,10 @@ weigh_formulas-loop-argument-preserved t c =
     let all = c.args.arguments.now in
     let i = c.loop-argument.argument-index in
     let a = c.argument-item.result in
-    let w : List Formula → ℕ = λ l. formulas_weight (formulas_of l) in
+    let w : List Tree → ℕ = λ l. trees_weight (trees_of l) in
     let next : drop i all ≡ a ∷ drop (i + 1) all = drop-next all i a c.loop-argument-test.true c.argument-item.is in
     record {
-      sum = sum-next c.loop-argument.total (formula_weight a) (w (drop (i + 1) all)) (w all) _ _ c.saturating_add-total.ensures (c.weigh_formula.ensures)
+      sum = sum-next c.loop-argument.total (tree_weight a) (w (drop (i + 1) all)) (w all) _ _ c.saturating_add-total.ensures (c.weigh_formula.ensures)
           (ap (λ n. capped (c.loop-argument.total + n)) (sym (ap w next)) ∙ c.loop-argument.invariant.sum);
       fits = omega (arith, c.saturating_add-total.ensures);
     }
@@ -54,8 +55,11 @@ weigh_further-loop-step-preserved t c =
     let w : List CStep → ℕ = λ l. steps_weight (steps_of l) in
     let next : drop i all ≡ a ∷ drop (i + 1) all = drop-next all i a c.loop-step-test.true c.step-item.is in
     record {
-      sum = sum-next c.loop-step.total (formula_weight a.term + 1) (w (drop (i + 1) all)) (w all) _ _ c.saturating_add-total.ensures
+      sum = sum-next c.loop-step.total (tree_weight a.term + 1) (w (drop (i + 1) all)) (w all) _ _ c.saturating_add-total.ensures
           (omega (arith, c.saturating_add.ensures, c.weigh_formula.ensures)) (ap (λ n. capped (c.loop-step.total + n)) (sym (ap w next))
           ∙ c.loop-step.invariant.sum);
       fits = omega (arith, c.saturating_add-total.ensures);
     }
+
+pub weigh_formula-returns-in-Exists : goal.weigh_formula-returns-in-Exists
+weigh_formula-returns-in-Exists t c = ?

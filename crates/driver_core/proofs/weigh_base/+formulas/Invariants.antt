@@ -1,12 +1,13 @@
 use Rattle.std.proofs.Common.{◌≡◌, ◌+◌, ◌<◌, ◌^◌, drop}
-use Rattle.driver_core.specs.FormulaView.{formulas_of, steps_of}
-use Rattle.driver_core.specs.Weights.{formulas_weight, steps_weight}
+use Rattle.micro_m.specs.Views.{trees_of}
+use Rattle.driver_core.specs.TermView.{steps_of}
+use Rattle.driver_core.specs.Weights.{trees_weight, steps_weight}
 use Rattle.driver_core.specs.inner.Capped.{capped}
 use Rattle.driver_core.proofs.weigh_base.+formulas.Given as goal
 
 abbrev pub invariant-weigh_formulas-loop-argument : goal.invariant-weigh_formulas-loop-argument
 invariant-weigh_formulas-loop-argument l = record {
-  sum : capped (l.total + formulas_weight (formulas_of (drop l.argument-index l.arguments))) ≡ capped (formulas_weight (formulas_of l.arguments));
+  sum : capped (l.total + trees_weight (trees_of (drop l.argument-index l.arguments))) ≡ capped (trees_weight (trees_of l.arguments));
   fits : l.total < 2 ^ 64;
 }
 

@@ -3,7 +3,7 @@ use Rattle.micro_m.specs.declared.term.Step.{Step}
 use Rattle.micro_m.specs.Trees.{Tree, nodes}
 use Rattle.micro_m.specs.Views.{tree_of, trees_of, steps_of}
 use Rattle.micro_m.specs.inner.Falls.{sizes_fall, terms_fall}
-use Rattle.driver_core.specs.Weights.{tree_weight, trees_weight, tree_steps_weight}
+use Rattle.driver_core.specs.Weights.{tree_weight, trees_weight, steps_weight}
 use Rattle.driver_core.specs.inner.Capped.{capped}
 use Rattle.driver_core.proofs.SumLemmas.{drop-next, sum-next}
 use Rattle.driver_core.proofs.weigh_base.+trees.Goals as goal
@@ -40,7 +40,7 @@ weigh_steps-loop-step-preserved t c =
     let all = c.args.steps.now in
     let i = c.loop-step.step-index in
     let a = c.step-item.result in
-    let w : List Step → ℕ = λ l. tree_steps_weight (steps_of l) in
+    let w : List Step → ℕ = λ l. steps_weight (steps_of l) in
     let next : drop i all ≡ a ∷ drop (i + 1) all = drop-next all i a c.loop-step-test.true c.step-item.is in
     record {
       sum = sum-next c.loop-step.total (tree_weight a.term + 1) (w (drop (i + 1) all)) (w all) _ _ c.saturating_add-total.ensures

@@ -1,6 +1,6 @@
 use Rattle.std.proofs.Common.{◌≡◌, ◌+◌, ◌<◌, ◌^◌, drop}
 use Rattle.micro_m.specs.Views.{trees_of, steps_of}
-use Rattle.driver_core.specs.Weights.{trees_weight, tree_steps_weight}
+use Rattle.driver_core.specs.Weights.{trees_weight, steps_weight}
 use Rattle.driver_core.specs.inner.Capped.{capped}
 use Rattle.driver_core.proofs.weigh_base.+trees.Given as goal
 
@@ -12,6 +12,6 @@ invariant-weigh_trees-loop-argument l = record {
 
 abbrev pub invariant-weigh_steps-loop-step : goal.invariant-weigh_steps-loop-step
 invariant-weigh_steps-loop-step l = record {
-  sum : capped (l.total + tree_steps_weight (steps_of (drop l.step-index l.steps))) ≡ capped (tree_steps_weight (steps_of l.steps));
+  sum : capped (l.total + steps_weight (steps_of (drop l.step-index l.steps))) ≡ capped (steps_weight (steps_of l.steps));
   fits : l.total < 2 ^ 64;
 }

@@ -1,6 +1,6 @@
 use Rattle.std.proofs.Common.{arith, ap}
-use Rattle.driver_core.specs.Formulas.{formula_nodes}
-use Rattle.driver_core.specs.FormulaView.{formula_of}
+use Rattle.micro_m.specs.Trees.{nodes}
+use Rattle.driver_core.specs.TermView.{tree_of}
 use Rattle.driver_core.proofs.SumLemmas.{sizes-fall, terms-fall}
 use Rattle.mpp_inline.proofs.copies.+copied.Goals as goal
 
@@ -10,8 +10,8 @@ copied-copied_terms-requires t c =
       omega (
         arith,
         terms-fall c.in-Apply.arguments.items,
-        ap formula_nodes c.term.view_is,
-        ap (λ n. formula_nodes (formula_of n))
+        ap nodes c.term.view_is,
+        ap (λ n. nodes (tree_of n))
             c.in-Apply.is,
       ),
       tt,
@@ -23,9 +23,9 @@ copied-copied_steps-requires t c =
       omega (
         arith,
         sizes-fall c.in-Chain.steps.items,
-        ap formula_nodes c.term.view_is,
+        ap nodes c.term.view_is,
         ap
-            (λ n. formula_nodes (formula_of n)) c.in-Chain.is,
+            (λ n. nodes (tree_of n)) c.in-Chain.is,
       ),
       tt,
     )

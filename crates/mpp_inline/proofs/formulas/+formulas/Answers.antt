@@ -2,15 +2,15 @@ use Rattle.std.proofs.Common.{◌≡◌, ℕ, ◌+◌, ◌≤◌, ◌∷◌, dro
 use Rattle.std.proofs.lemmas.Result.{IfOk-weaker}
 use Rattle.std.proofs.lemmas.List.{drop_all}
 use Rattle.micro_m.specs.Values.{environment}
-use Rattle.driver_core.specs.Formulas.{chain, formula_nodes}
-use Rattle.driver_core.specs.FormulaView.{formula_of, formulas_of, steps_of}
-use Rattle.driver_core.specs.Meaning.{formula_value, formula_values, steps_value}
-use Rattle.mpp_inline.proofs.TermLemmas.{formula_values-at, formula_values-past, sizes-fall, terms-fall}
-use Rattle.driver_core.specs.Weights.{formula_weight, formulas_weight, steps_weight}
+use Rattle.driver_core.specs.Formulas.{chain, nodes}
+use Rattle.driver_core.specs.FormulaView.{tree_of, formulas_of, steps_of}
+use Rattle.driver_core.specs.Meaning.{term_value, term_values, folded}
+use Rattle.mpp_inline.proofs.TermLemmas.{term_values-at, term_values-past, sizes-fall, terms-fall}
+use Rattle.driver_core.specs.Weights.{tree_weight, trees_weight, steps_weight}
 use Rattle.flat_code.specs.declared.program.Node.TheVariants.{Lit, Do}
 use Rattle.mpp_inline.specs.inner.Growth.{IsUsable, at, denoted, Sane, Known, Pushed, Along, Gives, TermStep}
 use Rattle.mpp_inline.specs.inner.Sizes.{load}
-use Rattle.mpp_inline.proofs.SizeLemmas.{three-formulas}
+use Rattle.mpp_inline.proofs.SizeLemmas.{three-trees}
 use Rattle.mpp_inline.proofs.ListLemmas.{drop_next}
 use Rattle.mpp_inline.proofs.CheckGrowth.{gives-lit, gives-same, pushed-load}
 use Rattle.mpp_inline.proofs.TermLemmas.{applied-step, undef-step, fold-first, fold-next, chain-step}
@@ -19,7 +19,7 @@ use Rattle.mpp_inline.proofs.formulas.+formulas.Goals as goal
 pub emit_applied-returns-clause-step : goal.emit_applied-returns-clause-step
 emit_applied-returns-clause-step t c =
     IfOk-weaker _ (λ k. Pushed c.emit_argument-3.new.b c.push.new.self _ k) _
-    (λ k p s kn. applied-step c.args.op (λ e. formula_values e (formulas_of c.args.arguments.now)) c.in_ok-first.ensures.step c.in_ok-second.ensures.step
+    (λ k p s kn. applied-step c.args.op (λ e. argument_values e (trees_of c.args.arguments.now)) c.in_ok-first.ensures.step c.in_ok-second.ensures.step
     c.in_ok-third.ensures.step p s kn)
     c.push.ensures
 
@@ -28,14 +28,14 @@ emit_argument-returns-in-Some-clause-step t c =
     let found = c.in-Some.ensures.lookup in
     let b = c.args.b.now in
     let e = c.args.env.now in
-    IfOk-weaker _ (λ k. Sane b → Known b e → TermStep b c.emit_formula.new.b e (λ x. formula_value x c.in-Some.argument.now) k) _
-    (λ k f s kn. gives-same (λ inputs. formula_values-at (environment (denoted b inputs e)) c.args.arguments.now c.args.place c.in-Some.argument.now found.3.0
+    IfOk-weaker _ (λ k. Sane b → Known b e → TermStep b c.emit_formula.new.b e (λ x. term_value x c.in-Some.argument.now) k) _
+    (λ k f s kn. gives-same (λ inputs. term_values-at (environment (denoted b inputs e)) c.args.arguments.now c.args.place c.in-Some.argument.now found.3.0
     found.1) (f s kn))
     c.emit_formula.ensures.step
 
 pub emit_argument-returns-in-None-clause-step : goal.emit_argument-returns-in-None-clause-step
 emit_argument-returns-in-None-clause-step t c =
-    λ s kn. undef-step _ (λ inputs. formula_values-past (environment (denoted c.args.b.now inputs c.args.env.now)) c.args.arguments.now c.args.place
+    λ s kn. undef-step _ (λ inputs. term_values-past (environment (denoted c.args.b.now inputs c.args.env.now)) c.args.arguments.now c.args.place
     c.in-None.ensures.lookup.3) s
 
 pub emit_formula-emit_applied-requires : goal.emit_formula-emit_applied-requires
@@ -44,11 +44,11 @@ emit_formula-emit_applied-requires t c =
       omega (
         arith,
         terms-fall c.in-Apply.arguments.items,
-        ap formula_nodes c.term.view_is,
-        ap (λ n. formula_nodes (formula_of n))
+        ap nodes c.term.view_is,
+        ap (λ n. nodes (tree_of n))
             c.in-Apply.is,
       ),
-      omega (arith, c.requires, ap formula_weight c.term.view_is, ap (λ n. formula_weight (formula_of n)) c.in-Apply.is),
+      omega (arith, c.requires, ap tree_weight c.term.view_is, ap (λ n. tree_weight (tree_of n)) c.in-Apply.is),
     )
 
 pub emit_formula-emit_steps-requires : goal.emit_formula-emit_steps-requires
@@ -57,18 +57,18 @@ emit_formula-emit_steps-requires t c =
       omega (
         arith,
         sizes-fall c.in-Chain.steps.items,
-        ap formula_nodes c.term.view_is,
+        ap nodes c.term.view_is,
         ap
-            (λ n. formula_nodes (formula_of n)) c.in-Chain.is,
+            (λ n. nodes (tree_of n)) c.in-Chain.is,
       ),
       omega (
         arith,
         c.requires,
         c.in_ok-so_far-in-Chain.ensures.size,
-        ap formula_weight
+        ap tree_weight
             c.deref-in-Chain.ensures,
-        ap formula_weight c.term.view_is,
-        ap (λ n. formula_weight (formula_of n)) c.in-Chain.is,
+        ap tree_weight c.term.view_is,
+        ap (λ n. tree_weight (tree_of n)) c.in-Chain.is,
       ),
     )
 
@@ -77,7 +77,7 @@ emit_formula-returns-in-Lit-clause-step t c =
     let b = c.args.b.now in
     let e = c.args.env.now in
     IfOk-weaker _ (λ k. Pushed b c.push.new.self (Lit c.in-Lit.value) k) _
-    (λ k p s kn. subst (λ f. TermStep b c.push.new.self e (λ x. formula_value x f) k) (sym (ap formula_of c.in-Lit.is) ∙ c.term.view_is)
+    (λ k p s kn. subst (λ f. TermStep b c.push.new.self e (λ x. term_value x f) k) (sym (ap tree_of c.in-Lit.is) ∙ c.term.view_is)
     (gives-lit c.in-Lit.value p s))
     c.push.ensures
 
@@ -88,18 +88,18 @@ emit_formula-returns-in_ok-so_far-in-Chain-clause-step t c =
     let e = c.args.env.now in
     let x = c.in_ok-so_far-in-Chain.so_far in
     let steps = c.deref-in-Chain-2.result.now in
-    let is = (λ i. chain (c.deref-in-Chain.ensures i) (steps_of (c.deref-in-Chain-2.ensures.value i))) ∙ sym (ap formula_of c.in-Chain.is) ∙ c.term.view_is in
+    let is = (λ i. chain (c.deref-in-Chain.ensures i) (steps_of (c.deref-in-Chain-2.ensures.value i))) ∙ sym (ap tree_of c.in-Chain.is) ∙ c.term.view_is in
     IfOk-weaker c.emit_steps.result (λ k. Sane d → Known d e → IsUsable d x
-    → Gives d c.emit_steps.new.b (λ inputs. steps_value (environment (denoted d inputs e)) (at d inputs x) (steps_of steps)) k) _
-    (λ k f s kn. subst (λ g. TermStep b c.emit_steps.new.b e (λ y. formula_value y g) k) is
-    (chain-step (λ y. formula_value y c.deref-in-Chain.result.now) (λ y v. steps_value y v (steps_of steps)) c.in_ok-so_far-in-Chain.ensures.step f s kn))
+    → Gives d c.emit_steps.new.b (λ inputs. folded (environment (denoted d inputs e)) (at d inputs x) (steps_of steps)) k) _
+    (λ k f s kn. subst (λ g. TermStep b c.emit_steps.new.b e (λ y. term_value y g) k) is
+    (chain-step (λ y. term_value y c.deref-in-Chain.result.now) (λ y v. folded y v (steps_of steps)) c.in_ok-so_far-in-Chain.ensures.step f s kn))
     c.emit_steps.ensures.step
 
 pub emit_steps-loop-step-init : goal.emit_steps-loop-step-init
 emit_steps-loop-step-init t c = record {
   size = omega arith;
   step = λ s kn h. fold-first
-      (λ inputs v. steps_value (environment (denoted c.args.b.now inputs c.args.env.now)) v (steps_of c.args.steps.now)) c.args.so_far s h;
+      (λ inputs v. folded (environment (denoted c.args.b.now inputs c.args.env.now)) v (steps_of c.args.steps.now)) c.args.so_far s h;
 }
 
 pub emit_steps-loop-step-preserved : goal.emit_steps-loop-step-preserved
@@ -119,9 +119,9 @@ emit_steps-loop-step-preserved t c =
         pushed-load
             c.in_ok-number.ensures,
       );
-      step = λ s kn h. fold-next (λ y. formula_value y d.term) (λ inputs v. steps_value (environment (denoted b inputs e)) v (steps_of (drop (i + 1) all)))
-          (subst (λ l. Along b c.loop-step.b (λ inputs v. steps_value (environment (denoted b inputs e)) v (steps_of l))
-          (λ inputs. steps_value (environment (denoted b inputs e)) (at b inputs c.args.so_far) (steps_of all)) c.loop-step.number) next
+      step = λ s kn h. fold-next (λ y. term_value y d.term) (λ inputs v. folded (environment (denoted b inputs e)) v (steps_of (drop (i + 1) all)))
+          (subst (λ l. Along b c.loop-step.b (λ inputs v. folded (environment (denoted b inputs e)) v (steps_of l))
+          (λ inputs. folded (environment (denoted b inputs e)) (at b inputs c.args.so_far) (steps_of all)) c.loop-step.number) next
           (c.loop-step.invariant.step s kn h))
           c.in_ok-operand.ensures.step c.in_ok-number.ensures kn;
     }
@@ -133,16 +133,16 @@ emit_steps-returns t c =
     let all = c.args.steps.now in
     record {
       size = omega (arith, c.loop-step.invariant.size);
-      step = λ s kn h. subst (λ l. Along b c.loop-step.b (λ inputs v. steps_value (environment (denoted b inputs e)) v (steps_of l))
-          (λ inputs. steps_value (environment (denoted b inputs e)) (at b inputs c.args.so_far) (steps_of all)) c.loop-step.number)
+      step = λ s kn h. subst (λ l. Along b c.loop-step.b (λ inputs v. folded (environment (denoted b inputs e)) v (steps_of l))
+          (λ inputs. folded (environment (denoted b inputs e)) (at b inputs c.args.so_far) (steps_of all)) c.loop-step.number)
           (drop_all c.loop-step.step-index all c.loop-step-test.false) (c.loop-step.invariant.step s kn h);
     }
 
 pub emit_applied-emit_argument-requires : goal.emit_applied-emit_argument-requires
-emit_applied-emit_argument-requires t c = (omega arith, omega (arith, c.requires, three-formulas c.args.arguments.now))
+emit_applied-emit_argument-requires t c = (omega arith, omega (arith, c.requires, three-trees c.args.arguments.now))
 
 pub emit_applied-emit_argument-requires-2 : goal.emit_applied-emit_argument-requires-2
-emit_applied-emit_argument-requires-2 t c = (omega arith, omega (arith, c.requires, three-formulas c.args.arguments.now, c.in_ok-first.ensures.size))
+emit_applied-emit_argument-requires-2 t c = (omega arith, omega (arith, c.requires, three-trees c.args.arguments.now, c.in_ok-first.ensures.size))
 
 pub emit_applied-emit_argument-requires-3 : goal.emit_applied-emit_argument-requires-3
 emit_applied-emit_argument-requires-3 t c = (
@@ -150,7 +150,7 @@ emit_applied-emit_argument-requires-3 t c = (
   omega (
     arith,
     c.requires,
-    three-formulas c.args.arguments.now,
+    three-trees c.args.arguments.now,
     c.in_ok-first.ensures.size,
     c.in_ok-second.ensures.size,
   ),
@@ -160,7 +160,7 @@ pub emit_applied-push-requires : goal.emit_applied-push-requires
 emit_applied-push-requires t c = omega (
   arith,
   c.requires,
-  three-formulas c.args.arguments.now,
+  three-trees c.args.arguments.now,
   c.in_ok-first.ensures.size,
   c.in_ok-second.ensures.size,
   c.in_ok-third.ensures.size,
@@ -170,9 +170,9 @@ pub emit_applied-returns-clause-size : goal.emit_applied-returns-clause-size
 emit_applied-returns-clause-size t c =
     IfOk-weaker c.push.result
     (λ (k : ℕ). Pushed c.emit_argument-3.new.b c.push.new.self (Do c.args.op c.in_ok-first.first c.in_ok-second.second c.in_ok-third.third) k)
-    (λ (k : ℕ). load c.push.new.self ≤ load c.args.b.now + formulas_weight (formulas_of c.args.arguments.now) + 1)
+    (λ (k : ℕ). load c.push.new.self ≤ load c.args.b.now + trees_weight (trees_of c.args.arguments.now) + 1)
     (λ (k : ℕ) p.
-    let goal' : load c.push.new.self ≤ load c.args.b.now + formulas_weight (formulas_of c.args.arguments.now) + 1 =
-    omega (arith, pushed-load p, three-formulas c.args.arguments.now, c.in_ok-first.ensures.size, c.in_ok-second.ensures.size, c.in_ok-third.ensures.size) in
+    let goal' : load c.push.new.self ≤ load c.args.b.now + trees_weight (trees_of c.args.arguments.now) + 1 =
+    omega (arith, pushed-load p, three-trees c.args.arguments.now, c.in_ok-first.ensures.size, c.in_ok-second.ensures.size, c.in_ok-third.ensures.size) in
     goal')
     c.push.ensures

@@ -1,7 +1,7 @@
 use Rattle.std.proofs.Common.{◌≤◌, ◌+◌, drop}
 use Rattle.micro_m.specs.Values.{environment}
-use Rattle.driver_core.specs.FormulaView.{steps_of}
-use Rattle.driver_core.specs.Meaning.{steps_value}
+use Rattle.micro_m.specs.Values.{folded}
+use Rattle.driver_core.specs.TermView.{steps_of}
 use Rattle.driver_core.specs.Weights.{steps_weight}
 use Rattle.mpp_inline.specs.inner.Sizes.{load}
 use Rattle.mpp_inline.specs.inner.Growth.{IsUsable, at, denoted, Sane, Known, Along}
@@ -10,7 +10,7 @@ use Rattle.mpp_inline.proofs.formulas.+formulas.Given as goal
 abbrev pub invariant-emit_steps-loop-step : goal.invariant-emit_steps-loop-step
 invariant-emit_steps-loop-step l = record {
   step : Sane l.fn.b → Known l.fn.b l.env → IsUsable l.fn.b l.fn.so_far
-      → Along l.fn.b l.b (λ inputs v. steps_value (environment (denoted l.fn.b inputs l.env)) v (steps_of (drop l.step-index l.steps)))
-      (λ inputs. steps_value (environment (denoted l.fn.b inputs l.env)) (at l.fn.b inputs l.fn.so_far) (steps_of l.steps)) l.number;
+      → Along l.fn.b l.b (λ inputs v. folded (environment (denoted l.fn.b inputs l.env)) v (steps_of (drop l.step-index l.steps)))
+      (λ inputs. folded (environment (denoted l.fn.b inputs l.env)) (at l.fn.b inputs l.fn.so_far) (steps_of l.steps)) l.number;
   size : load l.b + steps_weight (steps_of (drop l.step-index l.steps)) ≤ load l.fn.b + steps_weight (steps_of l.steps);
 }

@@ -7,7 +7,7 @@ use Rattle.micro_m.specs.Views.{tree_of, trees_of, steps_of}
 use Rattle.micro_m.specs.Values.{term_value, argument_values, folded, picked, picked_value}
 use Rattle.micro_m.specs.inner.Falls.{sizes_fall, terms_fall}
 use Rattle.micro_m.proofs.TermLemmas.{argument_values-at, argument_values-past}
-use Rattle.driver_core.specs.Weights.{tree_weight, trees_weight, tree_steps_weight}
+use Rattle.driver_core.specs.Weights.{tree_weight, trees_weight, steps_weight}
 use Rattle.flat_code.specs.declared.program.Node.TheVariants.{Lit, Do}
 use Rattle.mpp_inline.specs.inner.Growth.{IsUsable, at, denoted, Sane, Known, Pushed, Along, Gives, TermStep}
 use Rattle.mpp_inline.specs.inner.Sizes.{load}
@@ -103,7 +103,7 @@ emit_steps-loop-step-preserved t c =
       size = omega (
         arith,
         c.loop-step.invariant.size,
-        ap (λ l. tree_steps_weight (steps_of l)) next,
+        ap (λ l. steps_weight (steps_of l)) next,
         c.in_ok-operand.ensures.size,
         pushed-load
             c.in_ok-number.ensures,
