@@ -1,25 +1,14 @@
--- Sums that saturate, and parts that are smaller.
+-- Sums that saturate, and blocks whose parts are smaller.
 use Rattle.std.proofs.Common.{◌≡◌, ℕ, zero, suc, ◌+◌, ◌*◌, ◌<◌, ◌≤◌, List, [], ◌∷◌, length, get_or, drop, sym, ap, ◌∙◌, arith}
-use Rattle.std.specs.Prelude.{min, ◌^◌, ◌-◌}
+use Rattle.std.specs.Prelude.{min, ◌^◌, ◌-◌, Some, None}
 use Rattle.std.proofs.lemmas.List.{drop_more}
-use denote.Param.Weighed.{most}
-use Rattle.micro_m.specs.Trees.{Tree, lit, cell, pick, apply, chain, nodes_all, nodes_along}
-use Rattle.micro_m.specs.Views.{trees_of}
-use Rattle.driver_core.specs.declared.term.CStep.{CStep}
-use Rattle.driver_core.specs.declared.term.CTerm.TheDeep.{size-CStep, size-CTerm}
-use Rattle.driver_core.specs.TermView.{then_present, any_present, steps_of}
+use Rattle.m_fixed.specs.declared.amount.Value.{Value}
+use Rattle.micro_m.specs.Trees.{Tree, lit, cell, pick, apply, chain, literal_in}
+use Rattle.driver_core.specs.Leaves.{then_present, any_present}
 use Rattle.driver_core.specs.Actions.{Action, action_nodes, nodes_of_block}
 use Rattle.driver_core.specs.ActionView.{block_of}
 use Rattle.driver_core.specs.Weights.{read_weight, tree_weight, steps_weight}
 use Rattle.driver_core.specs.inner.Capped.{capped}
-
-pub sizes-fall : (all : List CStep) → most size-CStep all ≤ 3 * nodes_along (steps_of all) + 1
-sizes-fall [] = omega arith
-sizes-fall (a ∷ rest) = omega (arith, sizes-fall rest)
-
-pub terms-fall : (all : List Tree) → most size-CTerm all ≤ 3 * nodes_all (trees_of all) + 1
-terms-fall [] = omega arith
-terms-fall (a ∷ rest) = omega (arith, terms-fall rest)
 
 pub block-part : (all : List Action) (i : ℕ) (a : Action) → i < length all → a ≡ get_or all i a → action_nodes a < nodes_of_block (block_of all)
 block-part [] i a h e = absurd (omega arith)
@@ -52,3 +41,18 @@ then-weight (c ∷ cs) = omega (arith, then-weight cs)
 pub present-weight : (cs : List ℕ) → tree_weight (any_present cs) ≡ 2 * length cs + 1
 present-weight [] = omega arith
 present-weight (c ∷ cs) = omega (arith, then-weight cs)
+
+-- a table read at no constant
+pub read-none : (size : ℕ) (index : Tree) (weight : ℕ) → literal_in index ≡ None → read_weight size index weight ≡ weight + 2 * size + 2
+read-none size (lit v) weight e = absurd (cc)
+read-none size (cell c) weight e = omega arith
+read-none size (pick f s i) weight e = omega arith
+read-none size (apply o a) weight e = omega arith
+read-none size (chain f s) weight e = omega arith
+
+pub read-some : (size : ℕ) (index : Tree) (weight : ℕ) (v : Value) → literal_in index ≡ Some v → read_weight size index weight ≡ weight + 1
+read-some size (lit v) weight w e = omega arith
+read-some size (cell c) weight w e = absurd (cc)
+read-some size (pick f s i) weight w e = absurd (cc)
+read-some size (apply o a) weight w e = absurd (cc)
+read-some size (chain f s) weight w e = absurd (cc)

@@ -1,4 +1,4 @@
-pub mod TermView
+pub mod Leaves
 pub mod Actions
 pub mod ActionView
 pub mod Valid

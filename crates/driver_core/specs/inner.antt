@@ -1,6 +1,6 @@
 -- The logic's encoding of commands, and what only the contracts of inner functions use.
 -- The public contracts use none of it.
-pub mod TermFalls
+pub mod LeafLaws
 pub mod ActionCoding
 pub mod ActionFalls
 pub mod Numbers

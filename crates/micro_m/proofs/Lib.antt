@@ -1,4 +1,5 @@
 pub mod NumberLemmas
+pub mod PartLemmas
 pub mod PositionLemmas
 pub mod ReadTestLemmas
 pub mod SlowLemmas

@@ -1,7 +1,7 @@
 -- Terms after name resolution and expansion, as plain data. `REV - SEUIL` over the cells 0 and 1 is
 -- `chain (cell 0) (step Sub (cell 1) end)`, and `T[2]` of a table with the cells 5 to 8 is
 -- `pick 5 4 (lit (Num (pos 2000000)))`.
-use Rattle.std.specs.Prelude.{ℕ, ◌+◌}
+use Rattle.std.specs.Prelude.{ℕ, ◌+◌, Option, Some, None}
 use Rattle.m_fixed.specs.declared.amount.Value.{Value}
 use Rattle.m_fixed.specs.declared.operator.Op.{Op}
 
@@ -24,6 +24,11 @@ mutual
   pub data Steps : Type 0 where
     end : Steps
     step : Op → Tree → Steps → Steps
+
+-- the value of a term that is a constant
+abbrev pub literal_in : Tree → Option Value
+literal_in (lit value) = Some value
+literal_in _ = None
 
 abbrev mutual
   -- the number of nodes of a term

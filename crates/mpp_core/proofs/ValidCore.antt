@@ -29,9 +29,10 @@ use Rattle.mpp_parser.specs.declared.command.Driver.{Driver}
 use Rattle.driver_core.specs.declared.program.Core.{Core}
 use Rattle.micro_m.specs.Bases.{IsWithin, AreWithin, StepsAreWithin}
 use Rattle.micro_m.specs.Trees.{Tree, lit as lit_tree, cell as cell_tree, apply as apply_tree, chain as chain_tree}
-use Rattle.micro_m.specs.Views.{trees_of}
-use Rattle.driver_core.specs.TermView.{then_present, any_present, steps_of}
-use Rattle.driver_core.specs.declared.term.CStep.{CStep}
+use Rattle.micro_m.specs.Views.{trees_of, steps_of}
+use Rattle.micro_m.specs.declared.term.Step.{Step}
+use Rattle.driver_core.specs.Leaves.{then_present, any_present}
+use Rattle.driver_core.specs.declared.term.CLeaf.{CLeaf}
 use Rattle.driver_core.specs.Actions.{Action, assign, clear, branch, partition as partition_action, call as call_action, solve}
 use Rattle.driver_core.specs.ActionView.{block_of}
 use Rattle.driver_core.specs.Valid.{ActionIsWithin, BlockIsWithin, IsInRange}
@@ -178,10 +179,10 @@ trees_within : (n : ℕ) (ts : List Tree) → AllByRecursion (IsWithin n) ts →
 trees_within n [] h = tt
 trees_within n (t ∷ ts) h = (h.0, trees_within n ts h.1)
 
-abbrev StepIsWithin : ℕ → CStep → Type 0
+abbrev StepIsWithin : ℕ → Step CLeaf → Type 0
 StepIsWithin n s = IsWithin n s.term
 
-steps_within : (n : ℕ) (ss : List CStep) → AllByRecursion (StepIsWithin n) ss → StepsAreWithin n (steps_of ss)
+steps_within : (n : ℕ) (ss : List (Step CLeaf)) → AllByRecursion (StepIsWithin n) ss → StepsAreWithin n (steps_of ss)
 steps_within n [] h = tt
 steps_within n (s ∷ ss) h = (h.0, steps_within n ss h.1)
 
@@ -222,7 +223,7 @@ mutual
       let k = resolved_by (λ t. resolved_terms d line (before ++ t ∷ []) rest) (resolved_term d line a) ts e in
       terms_within d line (before ++ k.0 ∷ []) rest ts p (all_push _ before k.0 h (term_within d line a k.0 p k.1)) k.2
 
-  links_within : (d : Declared) (line : ℕ) (before : List CStep) (all : Links) (ss : List CStep) → IsPlaced d
+  links_within : (d : Declared) (line : ℕ) (before : List (Step CLeaf)) (all : Links) (ss : List (Step CLeaf)) → IsPlaced d
       → AllByRecursion (StepIsWithin (length (owners_from 0 d.variables))) before
       → resolved_links d line before all ≡ Ok ss → AllByRecursion (StepIsWithin (length (owners_from 0 d.variables))) ss
   links_within d line before no_links ss p h e = subst (AllByRecursion (StepIsWithin (length (owners_from 0 d.variables)))) (value_of_ok before ss e) h

@@ -8,9 +8,10 @@ use Rattle.mpp_parser.specs.Commands.{Act, set, del, when, partition, call, Acts
 use Rattle.mpp_parser.specs.CommandView.{block_of as acts_of}
 use Rattle.mpp_parser.specs.declared.command.Function.{Function}
 use Rattle.micro_m.specs.Trees.{Tree, lit as lit_tree, cell as cell_tree, apply as apply_tree, chain as chain_tree}
-use Rattle.micro_m.specs.Views.{trees_of}
-use Rattle.driver_core.specs.TermView.{any_present, steps_of}
-use Rattle.driver_core.specs.declared.term.CStep.{CStep}
+use Rattle.micro_m.specs.Views.{trees_of, steps_of}
+use Rattle.micro_m.specs.declared.term.Step.{Step}
+use Rattle.driver_core.specs.Leaves.{any_present}
+use Rattle.driver_core.specs.declared.term.CLeaf.{CLeaf}
 use Rattle.driver_core.specs.Actions.{Action, assign, clear, branch, partition as partition_action, call as call_action, solve}
 use Rattle.driver_core.specs.ActionView.{block_of}
 use Rattle.mpp_core.specs.Names.{if_resolved, resolved_cell, resolved_target, resolved_targets, each_once, kind_cells, rules_name, resolved_function}
@@ -35,7 +36,7 @@ abbrev mutual
   resolved_terms declared line before no_terms = Ok before
   resolved_terms declared line before (a_term a rest) = if_resolved (λ t. resolved_terms declared line (before ++ t ∷ []) rest) (resolved_term declared line a)
 
-  pub resolved_links : Declared → ℕ → List CStep → Links → Result (List CStep) CoreFault
+  pub resolved_links : Declared → ℕ → List (Step CLeaf) → Links → Result (List (Step CLeaf)) CoreFault
   resolved_links declared line before no_links = Ok before
   resolved_links declared line before (a_link op a rest) = if_resolved (λ t. resolved_links declared line (before ++ record { op = op; term = t } ∷ []) rest)
       (resolved_term declared line a)

@@ -1,4 +1,4 @@
-//! Terms of the rules: each becomes a node.
+//! Terms of the rules and of the driver: each becomes a node.
 
 ghost use Rattle.std.specs.Prelude.{◌<◌, ◌≤◌, ◌+◌, ◌*◌, ◌^◌, map, IfOk, OnOk, slice_index_or};
 ghost use Rattle.m_fixed.specs.declared.amount.Value.TheVariants.{Undef};
@@ -9,8 +9,8 @@ ghost use Rattle.mpp_inline.specs.inner.Growth.{IsUsable, Sane, Known, Gives, Te
 ghost use Rattle.mpp_inline.specs.inner.Sizes.{load};
 
 use crate::builder::{Builder, UNDEF};
-use crate::cells::look;
-use crate::tables::{emit_picked, emit_table, literal_of};
+use crate::leaves::Emitted;
+use crate::tables::{emit_picked, emit_table};
 use flat_code::Node;
 use m_fixed::Op;
 use micro_m::{MNode, MTerm, Step, pick};
@@ -18,15 +18,15 @@ use std::alloc::AllocError;
 
 /// The node with the value of a term.
 #[cycle(terms)]
-pub fn emit_term(b: &mut Builder, env: &[u32], term: &MTerm) -> Result<u32, AllocError>
-    requires { load b.old + 2 * tree_weight term.now < 2 ^ 32 }
+pub fn emit_term<L: Emitted>(b: &mut Builder, env: &[u32], term: &MTerm<L>) -> Result<u32, AllocError>
+    requires { load b.old + 2 * tree_weight term.now ≤ 2 ^ 32 }
     ensures step { IfOk result (λ k. Sane b.old → Known b.old env.now
         → TermStep b.old b.new env.now (λ e. term_value e term.now) k) }
-    ensures size { OnOk result (load b.new ≤ load b.old + 2 * tree_weight term.now) }
+    ensures size { OnOk result (load b.new < load b.old + 2 * tree_weight term.now) }
 {
     match &term.node {
         MNode::Lit(value) => b.push(Node::Lit(*value)),
-        MNode::Cell(cell) => Ok(look(env, *cell as usize)),
+        MNode::Cell(leaf) => leaf.emit(b, env),
         MNode::Pick(first, size, index) => emit_read(b, env, *first, *size, index),
         MNode::Apply(op, arguments) => emit_applied(b, env, *op, arguments),
         MNode::Chain(first, steps) => {
@@ -38,19 +38,19 @@ pub fn emit_term(b: &mut Builder, env: &[u32], term: &MTerm) -> Result<u32, Allo
 
 /// A table read at an index.
 #[cycle(terms)]
-fn emit_read(
+fn emit_read<L: Emitted>(
     b: &mut Builder,
     env: &[u32],
     first: u32,
     size: u32,
-    index: &MTerm,
+    index: &MTerm<L>,
 ) -> Result<u32, AllocError>
-    requires { load b.old + 2 * read_weight size index.now (tree_weight index.now) < 2 ^ 32 }
+    requires { load b.old + 2 * read_weight size index.now (tree_weight index.now) ≤ 2 ^ 32 }
     ensures step { IfOk result (λ k. Sane b.old → Known b.old env.now
         → TermStep b.old b.new env.now (λ e. picked_value e (picked first size (term_value e index.now))) k) }
-    ensures size { OnOk result (load b.new ≤ load b.old + 2 * read_weight size index.now (tree_weight index.now)) }
+    ensures size { OnOk result (load b.new < load b.old + 2 * read_weight size index.now (tree_weight index.now)) }
 {
-    match literal_of(index) {
+    match index.literal() {
         Some(value) => emit_picked(b, env, pick(first, size, value)),
         None => {
             let place = emit_term(b, env, index)?;
@@ -61,11 +61,11 @@ fn emit_read(
 
 /// An operator applied to its arguments. A missing argument is undefined.
 #[cycle(terms)]
-fn emit_applied(
+fn emit_applied<L: Emitted>(
     b: &mut Builder,
     env: &[u32],
     op: Op,
-    arguments: &[MTerm],
+    arguments: &[MTerm<L>],
 ) -> Result<u32, AllocError>
     requires { load b.old + 2 * trees_weight (trees_of arguments.now) + 1 < 2 ^ 32 }
     ensures step { IfOk result (λ k. Sane b.old → Known b.old env.now
@@ -80,10 +80,10 @@ fn emit_applied(
 
 /// The argument at a place, undefined if it is missing.
 #[cycle(terms)]
-fn emit_argument(
+fn emit_argument<L: Emitted>(
     b: &mut Builder,
     env: &[u32],
-    arguments: &[MTerm],
+    arguments: &[MTerm<L>],
     place: usize,
 ) -> Result<u32, AllocError>
     requires { load b.old + 2 * slice_index_or (map tree_weight arguments.now) place 0 < 2 ^ 32 }
@@ -99,7 +99,12 @@ fn emit_argument(
 
 /// A left fold over the remaining terms, starting from this node.
 #[cycle(terms)]
-fn emit_steps(b: &mut Builder, env: &[u32], so_far: u32, steps: &[Step]) -> Result<u32, AllocError>
+fn emit_steps<L: Emitted>(
+    b: &mut Builder,
+    env: &[u32],
+    so_far: u32,
+    steps: &[Step<L>],
+) -> Result<u32, AllocError>
     requires { load b.old + 2 * steps_weight (steps_of steps.now) < 2 ^ 32 }
     ensures size { OnOk result (load b.new ≤ load b.old + 2 * steps_weight (steps_of steps.now)) }
     ensures step { IfOk result (λ k. Sane b.old → Known b.old env.now → IsUsable b.old so_far

@@ -39,7 +39,7 @@ weigh_command-returns-in-If t c =
     let sum : c.saturating_add-in-If-3.result ≡ capped (tree_weight c.in-If.condition + w first + w second + n first + n second) =
     omega (
       arith,
-      c.weigh_formula-in-If.ensures,
+      c.weigh_tree-in-If.ensures,
       c.weigh_block.ensures,
       c.saturating_add.ensures,
       c.weigh_block-in-If.ensures,

@@ -3,7 +3,8 @@ use Rattle.std.specs.Option.{option_map_or}
 use Rattle.micro_m.specs.declared.base.Base.{Base}
 use Rattle.micro_m.specs.Bases.{definition_of}
 use Rattle.micro_m.specs.Values.{Environment, environment, term_value, value_in}
-use Rattle.micro_m.proofs.SlowLemmas.{reach-less, nodes-argument, nodes-step}
+use Rattle.micro_m.proofs.PartLemmas.{nodes-argument, nodes-step}
+use Rattle.micro_m.proofs.SlowLemmas.{reach-less}
 use Rattle.micro_m.proofs.TermLemmas.{argument_values-at, argument_values-past}
 use Rattle.micro_m.proofs.slow.+slow.Goals as goal
 

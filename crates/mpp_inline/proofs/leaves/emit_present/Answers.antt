@@ -3,12 +3,12 @@ use Rattle.std.proofs.lemmas.List.{drop_all, drop_more}
 use Rattle.std.proofs.lemmas.Result.{IfOk-weaker}
 use Rattle.m_fixed.specs.declared.operator.Op.TheVariants.{Or, Present}
 use Rattle.micro_m.specs.Values.{environment, folded}
-use Rattle.driver_core.specs.TermView.{then_present}
+use Rattle.driver_core.specs.Leaves.{then_present}
 use Rattle.flat_code.specs.declared.program.Node.TheVariants.{Do}
 use Rattle.mpp_inline.specs.inner.Growth.{at, denoted, Along, Pushed}
 use Rattle.mpp_inline.proofs.CheckGrowth.{pushed-load, cell-step}
 use Rattle.mpp_inline.proofs.TermLemmas.{fold-first, fold-next, fold-last}
-use Rattle.mpp_inline.proofs.formulas.emit_present.Goals as goal
+use Rattle.mpp_inline.proofs.leaves.emit_present.Goals as goal
 
 pub loop-cell-init : goal.loop-cell-init
 loop-cell-init c = record {

@@ -1,9 +1,9 @@
 use Rattle.std.proofs.Common.{length, ap, ◌∙◌, subst, arith}
 use Rattle.std.specs.Prelude.{IfOk}
 use Rattle.micro_m.specs.Values.{term_value}
-use Rattle.driver_core.specs.TermView.{any_present}
+use Rattle.driver_core.specs.Leaves.{any_present}
 use Rattle.mpp_inline.specs.inner.Growth.{Sane, Known, TermStep}
-use Rattle.mpp_inline.proofs.formulas.emit_exists.Goals as goal
+use Rattle.mpp_inline.proofs.leaves.emit_exists.Goals as goal
 
 pub emit_any-requires : goal.emit_any-requires
 emit_any-requires c = omega (arith, c.requires, ap length c.deref.ensures.value, ap length c.in_ok-cells.ensures)

@@ -1,9 +1,9 @@
 use Rattle.std.proofs.Common.{◌≤◌, ◌+◌, length, drop}
 use Rattle.micro_m.specs.Values.{environment, folded}
-use Rattle.driver_core.specs.TermView.{then_present}
+use Rattle.driver_core.specs.Leaves.{then_present}
 use Rattle.mpp_inline.specs.inner.Sizes.{load}
 use Rattle.mpp_inline.specs.inner.Growth.{IsUsable, at, denoted, Sane, Known, Along}
-use Rattle.mpp_inline.proofs.formulas.emit_present.Given as goal
+use Rattle.mpp_inline.proofs.leaves.emit_present.Given as goal
 
 abbrev pub invariant-loop-cell : goal.invariant-loop-cell
 invariant-loop-cell l = record {

@@ -1,11 +1,11 @@
 use Rattle.std.proofs.Common.{◌≡◌, ◌∷◌, sym, subst}
 use Rattle.std.proofs.lemmas.Result.{IfOk-weaker}
 use Rattle.micro_m.specs.Values.{environment, term_value, folded}
-use Rattle.driver_core.specs.TermView.{then_present, any_present}
+use Rattle.driver_core.specs.Leaves.{then_present, any_present}
 use Rattle.mpp_inline.specs.inner.Growth.{IsUsable, at, denoted, Sane, Known, Gives, TermStep}
 use Rattle.mpp_inline.proofs.CheckGrowth.{cell-step}
 use Rattle.mpp_inline.proofs.TermLemmas.{chain-step}
-use Rattle.mpp_inline.proofs.formulas.emit_any.Goals as goal
+use Rattle.mpp_inline.proofs.leaves.emit_any.Goals as goal
 
 pub returns-in-Some-clause-step : goal.returns-in-Some-clause-step
 returns-in-Some-clause-step c =
