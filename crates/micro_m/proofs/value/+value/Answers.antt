@@ -1,8 +1,35 @@
 use Rattle.std.proofs.Common.{arith, ap, ◌∙◌}
+use Rattle.micro_m.specs.Trees.{cell, nodes}
+use Rattle.micro_m.specs.Views.{tree_of}
 use Rattle.micro_m.specs.Values.{environment}
 use Rattle.micro_m.proofs.PartLemmas.{nodes-argument, nodes-step}
 use Rattle.micro_m.proofs.TermLemmas.{argument_values-at, argument_values-past}
 use Rattle.micro_m.proofs.value.+value.Goals as goal
+
+pub term_value-term_value-requires : goal.term_value-term_value-requires
+term_value-term_value-requires t c =
+    (omega (arith, ap nodes c.deref.ensures, ap nodes c.term.view_is, ap (λ n. nodes (tree_of cell n)) c.in-Pick.is), tt)
+
+pub term_value-applied-requires : goal.term_value-applied-requires
+term_value-applied-requires t c =
+    rw c.deref-in-Apply.ensures.value (omega (arith, ap nodes c.term.view_is, ap (λ n. nodes (tree_of cell n)) c.in-Apply.is), tt)
+
+pub term_value-term_value-requires-in-Chain : goal.term_value-term_value-requires-in-Chain
+term_value-term_value-requires-in-Chain t c =
+    (omega (arith, ap nodes c.deref-in-Chain.ensures, ap nodes c.term.view_is, ap (λ n. nodes (tree_of cell n)) c.in-Chain.is), tt)
+
+pub term_value-folded-requires : goal.term_value-folded-requires
+term_value-folded-requires t c =
+    rw c.deref-in-Chain-2.ensures.value (omega (arith, ap nodes c.term.view_is, ap (λ n. nodes (tree_of cell n)) c.in-Chain.is), tt)
+
+pub applied-argument_value-first-requires : goal.applied-argument_value-first-requires
+applied-argument_value-first-requires t c = (omega arith, tt)
+
+pub applied-argument_value-second-requires : goal.applied-argument_value-second-requires
+applied-argument_value-second-requires t c = (omega arith, tt)
+
+pub applied-argument_value-third-requires : goal.applied-argument_value-third-requires
+applied-argument_value-third-requires t c = (omega arith, tt)
 
 pub argument_value-returns-in-Some : goal.argument_value-returns-in-Some
 argument_value-returns-in-Some t c =

@@ -1,4 +1,4 @@
-use Rattle.std.proofs.Common.{◌≡◌, drop}
+use Rattle.std.proofs.Common.{◌≡◌, ◌+◌, ◌*◌, drop}
 use Rattle.micro_m.specs.Trees.{nodes, nodes_all, nodes_along}
 use Rattle.micro_m.specs.Views.{trees_of, steps_of}
 use Rattle.micro_m.specs.Values.{environment, folded}
