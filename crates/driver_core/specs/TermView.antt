@@ -1,8 +1,8 @@
 -- The terms of drivers as terms of rules, with `exists` written out.
-use Rattle.std.specs.Prelude.{ℕ, pos, List, [], ◌∷◌}
-use Rattle.m_fixed.specs.declared.amount.Value.TheVariants.{Undef, Num}
+use Rattle.std.specs.Prelude.{ℕ, List, [], ◌∷◌}
+use Rattle.m_fixed.specs.declared.amount.Value.TheVariants.{Undef}
 use Rattle.m_fixed.specs.declared.operator.Op.TheVariants.{Or, Present}
-use Rattle.micro_m.specs.Trees.{Tree, lit, cell, apply, chain, Steps, end, step}
+use Rattle.micro_m.specs.Trees.{Tree, lit, cell, apply, chain, none, Steps, end, step}
 use Rattle.micro_m.specs.Views.{trees_of}
 use Rattle.driver_core.specs.declared.term.CNode.{CNode}
 use Rattle.driver_core.specs.declared.term.CNode.TheVariants.{Lit, Cell, Apply, Chain, Exists}
@@ -13,10 +13,10 @@ abbrev pub then_present : List ℕ → Steps
 then_present [] = step Present (lit Undef) end
 then_present (c ∷ cs) = step Or (cell c) (then_present cs)
 
--- Whether one of these cells is defined: 0 without cells, else `present` of `A ou B ou C`, as a left
--- fold. It weighs 1, and 2 for each cell.
+-- Whether one of these cells is defined: `present` of nothing, which is 0, or of `A ou B ou C`, as a
+-- left fold. It weighs 1, and 2 for each cell.
 abbrev pub any_present : List ℕ → Tree
-any_present [] = lit (Num (pos 0))
+any_present [] = apply Present none
 any_present (c ∷ cs) = chain (cell c) (then_present cs)
 
 abbrev pub steps_of : List CStep → Steps
