@@ -7,7 +7,7 @@ use Rattle.std.specs.Str.Parse.{AllDigits, IsNumeral, digits_value, digits_value
 use Rattle.std.specs.Char.{digit_value}
 use Rattle.std.specs.Int.{IsInRange}
 use Rattle.std.proofs.lemmas.Str.{digit_value_digit}
-use Rattle.std.proofs.lemmas.Str.Parse.{digit_from_value, numerals_by_value, holds_digits}
+use Rattle.std.proofs.lemmas.Str.Parse.{digit_from_value, numerals_by_value, tells_digits}
 use Rattle.std.proofs.lemmas.Fmt.{decimal-digits_value, decimal_is_IsNumeral, decimal_digit, first_decimal}
 use Rattle.reg_machine.proofs.TableLemmas.{none≢some, some-is}
 use Rattle.m_text.specs.Bytes.{is_digit}
@@ -67,7 +67,7 @@ number-found : (below n b : ℕ) (bs : List ℕ) → 0 < below → below ≤ 2 ^
 number-found below n b bs some few lead h =
     let k = after-sound below 0 n (b ∷ bs) some h in
     let small : digits_value 10 (b ∷ bs) < 2 ^ 64 = omega (arith, k.1, k.2, few) in
-    (sym (decimal-digits_value (numerals_by_value _ holds_digits) (b ∷ bs) k.0 (omega arith) lead small) ∙ ap decimal (sym k.1), k.2)
+    (sym (decimal-digits_value (numerals_by_value _ tells_digits) (b ∷ bs) k.0 (omega arith) lead small) ∙ ap decimal (sym k.1), k.2)
 
 number-by : (below n b : ℕ) (bs : List ℕ) (z l : Bool) → (b == 48) ≡ z → nat_lt 0 (length bs) ≡ l → 0 < below → below ≤ 2 ^ 64
     → cond (z && l) None (number_after below 0 (b ∷ bs)) ≡ Some n → (b ∷ bs ≡ decimal n) × (n < below)

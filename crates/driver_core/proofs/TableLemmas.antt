@@ -3,7 +3,7 @@ use Rattle.std.proofs.Common.{◌≡◌, ℕ, zero, suc, ◌+◌, ◌<◌, ◌�
 use Rattle.std.proofs.Common.{arith, ◌⊎◌, inl, inr, eqb}
 use Rattle.std.proofs.lemmas.List.{length-set, get_or-set_same, get_or-set_other}
 use Rattle.std.proofs.lemmas.Option.{slice_get-get_or}
-use Rattle.std.proofs.lemmas.Bool.Decides.{eqb_holds}
+use Rattle.std.proofs.lemmas.Bool.Decides.{eqb_tells}
 use Rattle.micro_m.specs.declared.base.Base.{Base}
 use Rattle.driver_core.specs.declared.program.Core.{Core}
 use Rattle.driver_core.specs.Actions.{Action, assign, clear, branch, partition, call, solve, Block, no_actions, an_action}
@@ -59,7 +59,7 @@ pub table-next : (core : Core) (base : Base) (weights : List ℕ) (done : List B
     → IsTable core base (set weights f w) (set done f true) (count + 1)
 table-next core base weights done count f rules w low er calls ew t = record {
   size = length-set weights f w ∙ t.size ∙ sym (length-set done f true);
-  weighed = λ g h turns l. by g h turns l (eqb_holds g f);
+  weighed = λ g h turns l. by g h turns l (eqb_tells g f);
 }
   where
     here : (turns : ℕ) → count + 1 ≤ turns → w ≡ capped (weight_in core base turns f)

@@ -5,7 +5,7 @@ use Rattle.code_file.specs.Reading.{IsFormOf}
 use Rattle.code_file.specs.declared.loaded.Loaded.{Loaded}
 use Rattle.tax_print.specs.FaultLines.{too_long_line}
 use Rattle.m_places.specs.declared.source.Source.{Source}
-use Rattle.command_plans.specs.Plan.{Plan, End, done, refuses, fetches, and_then, wanted, end_of, gathered, refused}
+use Rattle.command_plans.specs.Plan.{Plan, End, done, refuses, fetches, and_then, fetched_end, end_of, gathered, refused}
 use Rattle.command_plans.specs.Views.{Disk, FilesView, InputView, OutputView}
 use Rattle.command_plans.specs.declared.status.Status.{Status}
 use Rattle.command_plans.specs.declared.status.Status.TheVariants.{Done}
@@ -34,7 +34,7 @@ of_test name f w one other false h e = absurd (cc e)
 
 of_file : {A B : Type 0} (name : List ℕ) (limit : ℕ) (f : A → B) (w : B) (one : List ℕ → End B) (other : List ℕ → End A) (found : Option (List ℕ))
     → ((bytes : List ℕ) → one bytes ≡ gathered w → (a : A) × (w ≡ f a) × (other bytes ≡ gathered a))
-    → wanted name limit one found ≡ gathered w → (a : A) × (w ≡ f a) × (wanted name limit other found ≡ gathered a)
+    → fetched_end name limit one found ≡ gathered w → (a : A) × (w ≡ f a) × (fetched_end name limit other found ≡ gathered a)
 of_file name limit f w one other None h e = absurd (cc e)
 of_file name limit f w one other (Some bytes) h e = of_test name f w (one bytes) (other bytes) (nat_le (length bytes) limit) (h bytes) e
 

@@ -19,7 +19,8 @@ use Rattle.m_lexer.specs.inner.Chains.{◌>>=◌}
 use Rattle.m_terms.specs.inner.Reading.{begins_by, header_at, expr_at, inner_at}
 use Rattle.m_lexer.proofs.ChainComplete.{open_complete}
 use Rattle.m_terms.proofs.HeaderLaws.{grip_of, Loose, header_complete}
-use Rattle.m_terms.proofs.TermLaws.{tightness, Below, expr_complete}
+use Rattle.m_terms.proofs.TermCompletes.{expr_complete}
+use Rattle.m_terms.proofs.TermLaws.{tightness, Below}
 use Rattle.m_terms.proofs.TermCompletes.{inner_passes, inner_complete}
 use Rattle.m_terms.proofs.Answered.{term_is_marked, header_found}
 use Rattle.m_items.specs.inner.DeclarationReading.{Fails}

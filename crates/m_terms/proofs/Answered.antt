@@ -25,7 +25,8 @@ use Rattle.m_lexer.proofs.ChainSound.{Each, absent, here}
 use Rattle.m_terms.proofs.Passes.{Behind, behind_drop, behind_shorter}
 use Rattle.m_lexer.proofs.ChainComplete.{open_complete}
 use Rattle.m_terms.proofs.HeaderLaws.{grip_of, Loose, header_sound, header_passes, header_complete}
-use Rattle.m_terms.proofs.TermLaws.{tightness, Below, expr_sound, expr_complete}
+use Rattle.m_terms.proofs.TermCompletes.{expr_complete}
+use Rattle.m_terms.proofs.TermLaws.{tightness, Below, expr_sound}
 use Rattle.m_terms.proofs.TermCompletes.{inner_sound, inner_passes, inner_complete, expr_passes}
 
 -- an error of the inner reader, propagated

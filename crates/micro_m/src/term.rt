@@ -55,7 +55,7 @@ impl<L: Leaf> Model for MTerm<L> {
 
     ghost use Rattle.micro_m.specs.inner.Falls.{falls};
 
-    ghost size_decreases = { λ a h. falls _ a.node };
+    ghost size_decreases = { λ a h. falls (record { leaf_tree = L.leaf_tree; leaf_reads = L.leaf_reads }) a.node };
 }
 
 impl<L: Leaf> MTerm<L> {

@@ -3,7 +3,7 @@ use Rattle.std.proofs.Common.{◌≡◌, ◌<◌, ◌≤◌, ◌+◌, ℕ, zero,
 use Rattle.std.proofs.Common.{subst, arith}
 use Rattle.std.specs.Prelude.{nat_lt, ◌==◌, if◌then◌else◌}
 use Rattle.std.specs.List.{AllByRecursion, AllPairs, Contains}
-use Rattle.std.proofs.lemmas.Bool.Decides.{leb_holds, eqb_holds}
+use Rattle.std.proofs.lemmas.Bool.Decides.{leb_tells, eqb_tells}
 use Rattle.std.proofs.lemmas.List.{set-set}
 use Rattle.m_fixed.specs.declared.amount.Value.{Value}
 use Rattle.micro_m.specs.Values.{Environment}
@@ -27,10 +27,10 @@ not-below c d h e (inr k) = above (strictly c d h k.1) e k.0
 
 by-order : (c d : ℕ) → ((nat_lt c d ≡ true) × (suc c ≤ d)) ⊎ ((nat_lt c d ≡ false) × (d < suc c)) → Lies c d
 by-order c d (inl h) = below (omega (arith, h.1)) h.0
-by-order c d (inr h) = not-below c d h.1 h.0 (eqb_holds c d)
+by-order c d (inr h) = not-below c d h.1 h.0 (eqb_tells c d)
 
 lies : (c d : ℕ) → Lies c d
-lies c d = by-order c d (leb_holds (suc c) d)
+lies c d = by-order c d (leb_tells (suc c) d)
 
 abbrev placed : ℕ → ℕ → List ℕ → Bool → Bool → List ℕ
 placed c d ds less same = if less then c ∷ d ∷ ds else if same then d ∷ ds else d ∷ with_cell c ds

@@ -7,7 +7,7 @@ use Rattle.std.specs.Str.{bytes_eq}
 use Rattle.std.specs.Str.Parse.{AllDigits, digits_value}
 use Rattle.std.specs.List.{AllByRecursion, flat_map, range_with_len}
 use Rattle.std.proofs.lemmas.Int.{ints}
-use Rattle.std.proofs.lemmas.Str.Parse.{digits_value_short, numerals_by_value, holds_digits}
+use Rattle.std.proofs.lemmas.Str.Parse.{digits_value_short, numerals_by_value, tells_digits}
 use Rattle.m_places.specs.declared.place.Place.{Place}
 use Rattle.m_places.specs.declared.limits.TheConstants.{TABLE_CELLS}
 use Rattle.m_fixed.specs.Amounts.{IsAmount, unit}
@@ -48,7 +48,7 @@ digit_word (d ∷ ds) h =
 word_value : (word : List ℕ) → is_number_word word ≡ true → digits_value 10 word < 1_000_000_000_000
 word_value word h =
     let p = both (is_digits word) (nat_le (length word) 12) h in
-    digits_value_short (numerals_by_value (AllDigits 10) holds_digits) word 12 (digit_word word (both (only_digits word) _ p.0).0)
+    digits_value_short (numerals_by_value (AllDigits 10) tells_digits) word 12 (digit_word word (both (only_digits word) _ p.0).0)
     (leb-true (length word) 12 p.1)
 
 word_meaning : (word : List ℕ) (place : Place) (b : Bool) → is_number_word word ≡ b

@@ -51,6 +51,6 @@ loop-i-preserved c =
       carried = subst (IsCarried nodes (i + 1) new.nodes) (sym pushed)
           (carried-step c.args.inputs nodes i old new numbers number (are-valid c.args.inputs nodes c.requires.valid) lt c.loop-i.invariant.carried
           c.in_ok-number.ensures.grows
-          (subst (λ n. Denotes new.nodes n number) node c.in_ok-number.ensures.stands));
+          (subst (λ n. Denotes new.nodes n number) node c.in_ok-number.ensures.denoted));
       inputs = grows-inputs old new c.in_ok-number.ensures.grows ∙ c.loop-i.invariant.inputs;
     }
