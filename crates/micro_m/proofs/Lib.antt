@@ -1,5 +1,4 @@
 pub mod NumberLemmas
-pub mod PartLemmas
 pub mod PositionLemmas
 pub mod ReadTestLemmas
 pub mod SlowLemmas

@@ -1,8 +1,10 @@
 -- Termination of the direct evaluator: a turn adds more to the measure than the nodes of any term.
-use Rattle.std.proofs.Common.{◌≡◌, ℕ, zero, suc, ◌+◌, ◌*◌, ◌-◌, ◌<◌, ◌≤◌, max, true, false, cond, nat_eq, List, [], ◌∷◌, Some, ap, sym, ◌∙◌}
+use Rattle.std.proofs.Common.{◌≡◌, ℕ, zero, suc, ◌+◌, ◌*◌, ◌-◌, ◌<◌, ◌≤◌, max, true, false, cond, nat_eq, List, [], ◌∷◌, length, get_or, Some, ap, sym, ◌∙◌}
 use Rattle.std.proofs.Common.{arith}
-use Rattle.micro_m.specs.Trees.{Tree, nodes}
+use Rattle.micro_m.specs.Trees.{Tree, nodes, nodes_all, nodes_along}
+use Rattle.micro_m.specs.Views.{trees_of, steps_of}
 use Rattle.micro_m.specs.declared.base.Base.{Base}
+use Rattle.micro_m.specs.declared.term.Step.{Step}
 use Rattle.micro_m.specs.Bases.{Definition, definition_among, definition_of}
 use Rattle.micro_m.proofs.NumberLemmas.{cases}
 
@@ -31,3 +33,13 @@ reach-less base c (suc turns) t h e =
     let low = nodes-greatest-among base.definitions c t e in
     let is : suc turns - 1 ≡ turns = omega arith in
     rw is (grind arith)
+
+pub nodes-argument : (all : List Tree) (at : ℕ) (x : Tree) → at < length all → x ≡ get_or all at x → nodes x < nodes_all (trees_of all)
+nodes-argument [] at x h e = absurd (omega arith)
+nodes-argument (a ∷ all) zero x h e = let n : nodes x ≡ nodes a = ap nodes e in omega arith
+nodes-argument (a ∷ all) (suc at) x h e = let low = nodes-argument all at x (omega arith) e in omega arith
+
+pub nodes-step : (all : List (Step ℕ)) (at : ℕ) (x : Step ℕ) → at < length all → x ≡ get_or all at x → nodes x.term < nodes_along (steps_of all)
+nodes-step [] at x h e = absurd (omega arith)
+nodes-step (a ∷ all) zero x h e = let n : nodes x.term ≡ nodes a.term = ap (λ (s : Step ℕ). nodes s.term) e in omega arith
+nodes-step (a ∷ all) (suc at) x h e = let low = nodes-step all at x (omega arith) e in omega arith

@@ -2,11 +2,8 @@ use Rattle.std.proofs.Common.{◌≡◌, ℕ, zero, suc, ◌≤◌, None, ap, sy
 use Rattle.std.specs.Option.{option_map_or}
 use Rattle.micro_m.specs.declared.base.Base.{Base}
 use Rattle.micro_m.specs.Bases.{definition_of}
-use Rattle.micro_m.specs.Trees.{cell, nodes}
-use Rattle.micro_m.specs.Views.{tree_of}
 use Rattle.micro_m.specs.Values.{Environment, environment, term_value, value_in}
-use Rattle.micro_m.proofs.PartLemmas.{nodes-argument, nodes-step}
-use Rattle.micro_m.proofs.SlowLemmas.{reach-less}
+use Rattle.micro_m.proofs.SlowLemmas.{reach-less, nodes-argument, nodes-step}
 use Rattle.micro_m.proofs.TermLemmas.{argument_values-at, argument_values-past}
 use Rattle.micro_m.proofs.slow.+slow.Goals as goal
 
@@ -41,33 +38,3 @@ slow_cell-returns-in-None t c =
 pub slow_fold-slow_term-requires : goal.slow_fold-slow_term-requires
 slow_fold-slow_term-requires t c =
     (omega (arith, nodes-step c.args.steps.now c.loop-step.step-index c.step-item.result c.loop-step-test.true c.step-item.is), tt)
-
-pub slow_term-slow_cell-requires : goal.slow_term-slow_cell-requires
-slow_term-slow_cell-requires t c = (omega (arith, ap nodes c.term.view_is, ap (λ n. nodes (tree_of cell n)) c.in-Cell.is), tt)
-
-pub slow_term-slow_term-requires : goal.slow_term-slow_term-requires
-slow_term-slow_term-requires t c =
-    (omega (arith, ap nodes c.deref.ensures, ap nodes c.term.view_is, ap (λ n. nodes (tree_of cell n)) c.in-Pick.is), tt)
-
-pub slow_term-slow_cell-requires-in-Cell-pick : goal.slow_term-slow_cell-requires-in-Cell-pick
-slow_term-slow_cell-requires-in-Cell-pick t c = (omega (arith, ap nodes c.term.view_is, ap (λ n. nodes (tree_of cell n)) c.in-Pick.is), tt)
-
-pub slow_term-slow_argument-requires : goal.slow_term-slow_argument-requires
-slow_term-slow_argument-requires t c =
-    rw c.deref-in-Apply.ensures.value (omega (arith, ap nodes c.term.view_is, ap (λ n. nodes (tree_of cell n)) c.in-Apply.is), tt)
-
-pub slow_term-slow_argument-requires-in-Apply : goal.slow_term-slow_argument-requires-in-Apply
-slow_term-slow_argument-requires-in-Apply t c =
-    rw c.deref-in-Apply-2.ensures.value (omega (arith, ap nodes c.term.view_is, ap (λ n. nodes (tree_of cell n)) c.in-Apply.is), tt)
-
-pub slow_term-slow_argument-requires-in-Apply-2 : goal.slow_term-slow_argument-requires-in-Apply-2
-slow_term-slow_argument-requires-in-Apply-2 t c =
-    rw c.deref-in-Apply-3.ensures.value (omega (arith, ap nodes c.term.view_is, ap (λ n. nodes (tree_of cell n)) c.in-Apply.is), tt)
-
-pub slow_term-slow_term-so_far-requires : goal.slow_term-slow_term-so_far-requires
-slow_term-slow_term-so_far-requires t c =
-    (omega (arith, ap nodes c.deref-in-Chain.ensures, ap nodes c.term.view_is, ap (λ n. nodes (tree_of cell n)) c.in-Chain.is), tt)
-
-pub slow_term-slow_fold-requires : goal.slow_term-slow_fold-requires
-slow_term-slow_fold-requires t c =
-    rw c.deref-in-Chain-2.ensures.value (omega (arith, ap nodes c.term.view_is, ap (λ n. nodes (tree_of cell n)) c.in-Chain.is), tt)

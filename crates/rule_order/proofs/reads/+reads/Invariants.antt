@@ -1,17 +1,7 @@
 use Rattle.std.proofs.Common.{◌≡◌, ◌++◌, drop}
-use Rattle.micro_m.specs.Trees.{nodes, nodes_all, nodes_along}
 use Rattle.micro_m.specs.Views.{trees_of, steps_of}
 use Rattle.rule_order.specs.inner.Runs.{runs_among, runs_along}
 use Rattle.rule_order.proofs.reads.+reads.Given as goal
-
-abbrev pub decreases-add_reads : goal.decreases-add_reads
-decreases-add_reads l = nodes l.term.now
-
-abbrev pub decreases-add_all : goal.decreases-add_all
-decreases-add_all l = nodes_all (trees_of l.arguments.now)
-
-abbrev pub decreases-add_along : goal.decreases-add_along
-decreases-add_along l = nodes_along (steps_of l.steps.now)
 
 abbrev pub invariant-add_all-loop-argument : goal.invariant-add_all-loop-argument
 invariant-add_all-loop-argument l = l.runs.items ++ runs_among (trees_of (drop l.argument-index l.arguments)) ≡ l.initial.runs.items

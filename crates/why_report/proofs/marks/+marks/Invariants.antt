@@ -1,20 +1,10 @@
 use Rattle.std.proofs.Common.{length, drop}
-use Rattle.micro_m.specs.Trees.{nodes, nodes_all, nodes_along}
 use Rattle.micro_m.specs.Views.{trees_of, steps_of}
 use Rattle.micro_m.specs.Bases.{AreWithin, StepsAreWithin}
 use Rattle.micro_m.specs.ReadTests.{arguments_read, steps_read}
 use Rattle.why_report.specs.inner.Plans.{IsMarking}
 use Rattle.why_report.proofs.MarkLemmas.{MarksOn}
 use Rattle.why_report.proofs.marks.+marks.Given as goal
-
-abbrev pub decreases-mark_term : goal.decreases-mark_term
-decreases-mark_term l = nodes l.term.now
-
-abbrev pub decreases-mark_arguments : goal.decreases-mark_arguments
-decreases-mark_arguments l = nodes_all (trees_of l.arguments.now)
-
-abbrev pub decreases-mark_steps : goal.decreases-mark_steps
-decreases-mark_steps l = nodes_along (steps_of l.steps.now)
 
 abbrev pub invariant-mark_arguments-loop-argument : goal.invariant-mark_arguments-loop-argument
 invariant-mark_arguments-loop-argument l =
