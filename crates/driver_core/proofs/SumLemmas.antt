@@ -3,7 +3,8 @@ use Rattle.std.proofs.Common.{◌≡◌, ℕ, zero, suc, ◌+◌, ◌*◌, ◌<�
 use Rattle.std.specs.Prelude.{min, ◌^◌, ◌-◌, Some, None}
 use Rattle.std.proofs.lemmas.List.{drop_more}
 use Rattle.m_fixed.specs.declared.amount.Value.{Value}
-use Rattle.micro_m.specs.Trees.{Tree, lit, cell, pick, apply, chain, literal_in}
+use Rattle.micro_m.specs.Trees.{TreeOf, Tree, lit, cell, pick, apply, chain}
+use Rattle.micro_m.specs.Leaves.{literal_in, written}
 use Rattle.driver_core.specs.Leaves.{then_present, any_present}
 use Rattle.driver_core.specs.Actions.{Action, action_nodes, nodes_of_block}
 use Rattle.driver_core.specs.ActionView.{block_of}
@@ -42,17 +43,26 @@ pub present-weight : (cs : List ℕ) → tree_weight (any_present cs) ≡ 2 * le
 present-weight [] = omega arith
 present-weight (c ∷ cs) = omega (arith, then-weight cs)
 
--- a table read at no constant
-pub read-none : (size : ℕ) (index : Tree) (weight : ℕ) → literal_in index ≡ None → read_weight size index weight ≡ weight + 2 * size + 2
-read-none size (lit v) weight e = absurd (cc)
-read-none size (cell c) weight e = omega arith
-read-none size (pick f s i) weight e = omega arith
-read-none size (apply o a) weight e = omega arith
-read-none size (chain f s) weight e = omega arith
+-- a table read, at a constant or at no constant
+pub read-some : {L : Type 0} (leaf : L → Tree) (size : ℕ) (index : TreeOf L) (n : ℕ) (v : Value) → literal_in index ≡ Some v
+    → read_weight size (written leaf index) n ≡ n + 1
+read-some leaf size (lit w) n v e = omega arith
+read-some leaf size (cell c) n v e = absurd (cc)
+read-some leaf size (pick f s i) n v e = absurd (cc)
+read-some leaf size (apply o a) n v e = absurd (cc)
+read-some leaf size (chain f s) n v e = absurd (cc)
 
-pub read-some : (size : ℕ) (index : Tree) (weight : ℕ) (v : Value) → literal_in index ≡ Some v → read_weight size index weight ≡ weight + 1
-read-some size (lit v) weight w e = omega arith
-read-some size (cell c) weight w e = absurd (cc)
-read-some size (pick f s i) weight w e = absurd (cc)
-read-some size (apply o a) weight w e = absurd (cc)
-read-some size (chain f s) weight w e = absurd (cc)
+whole-table : (size : ℕ) (t : Tree) (n : ℕ) → literal_in t ≡ None → read_weight size t n ≡ n + 2 * size + 2
+whole-table size (lit v) n e = absurd (cc)
+whole-table size (cell c) n e = omega arith
+whole-table size (pick f s i) n e = omega arith
+whole-table size (apply o a) n e = omega arith
+whole-table size (chain f s) n e = omega arith
+
+pub read-none : {L : Type 0} (leaf : L → Tree) → ((l : L) → literal_in (leaf l) ≡ None) → (size : ℕ) (index : TreeOf L) (n : ℕ) → literal_in index ≡ None
+    → read_weight size (written leaf index) n ≡ n + 2 * size + 2
+read-none leaf reads size (lit v) n e = absurd (cc)
+read-none leaf reads size (cell l) n e = whole-table size (leaf l) n (reads l)
+read-none leaf reads size (pick f s i) n e = omega arith
+read-none leaf reads size (apply o a) n e = omega arith
+read-none leaf reads size (chain f s) n e = omega arith

@@ -1,8 +1,9 @@
--- The leaves of a driver's terms, as terms of rules.
+-- The terms of drivers, as terms of rules.
 use Rattle.std.specs.Prelude.{ℕ, List, [], ◌∷◌}
 use Rattle.m_fixed.specs.declared.amount.Value.TheVariants.{Undef}
 use Rattle.m_fixed.specs.declared.operator.Op.TheVariants.{Or, Present}
-use Rattle.micro_m.specs.Trees.{Tree, lit, cell, apply, chain, none, Steps, end, step}
+use Rattle.micro_m.specs.Trees.{TreeOf, Tree, lit, cell, apply, chain, none, Steps, end, step}
+use Rattle.micro_m.specs.Leaves.{written}
 use Rattle.driver_core.specs.declared.term.CLeaf.{CLeaf}
 use Rattle.driver_core.specs.declared.term.CLeaf.TheVariants.{Cell, Exists}
 
@@ -20,3 +21,10 @@ any_present (c ∷ cs) = chain (cell c) (then_present cs)
 abbrev pub leaf_tree : CLeaf → Tree
 leaf_tree (Cell c) = cell c
 leaf_tree (Exists cells) = any_present cells
+
+abbrev pub CTree : Type 0
+CTree = TreeOf CLeaf
+
+-- a term of a driver as a term of rules
+abbrev pub rule_term : CTree → Tree
+rule_term = written leaf_tree

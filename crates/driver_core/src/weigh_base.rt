@@ -4,6 +4,7 @@ ghost use Rattle.std.specs.Prelude.{◌≡◌, ◌+◌, ◌*◌};
 ghost use Rattle.driver_core.specs.Weights.{tree_weight, trees_weight, steps_weight, read_weight};
 ghost use Rattle.driver_core.specs.Weights.{definition_weight, check_weight, base_weight};
 ghost use Rattle.std.specs.List.{sum_by};
+ghost use Rattle.micro_m.specs.Leaves.{written, all_written, along_written};
 ghost use Rattle.micro_m.specs.Views.{trees_of, steps_of};
 ghost use Rattle.driver_core.specs.inner.Capped.{capped};
 
@@ -35,7 +36,7 @@ impl Weighed for CLeaf {
 /// The weight of a term.
 #[cycle(trees)]
 pub fn weigh_tree<L: Weighed>(term: &MTerm<L>) -> u64
-    ensures { result ≡ capped (tree_weight term.now) }
+    ensures { result ≡ capped (tree_weight (written L.leaf_tree term.now)) }
 {
     match &term.node {
         MNode::Lit(_) => 1,
@@ -48,7 +49,7 @@ pub fn weigh_tree<L: Weighed>(term: &MTerm<L>) -> u64
 
 #[cycle(trees)]
 fn weigh_trees<L: Weighed>(arguments: &[MTerm<L>]) -> u64
-    ensures { result ≡ capped (trees_weight (trees_of arguments.now)) }
+    ensures { result ≡ capped (trees_weight (all_written L.leaf_tree (trees_of arguments.now))) }
 {
     let mut total: u64 = 0;
     for argument in arguments {
@@ -59,7 +60,7 @@ fn weigh_trees<L: Weighed>(arguments: &[MTerm<L>]) -> u64
 
 #[cycle(trees)]
 fn weigh_steps<L: Weighed>(steps: &[Step<L>]) -> u64
-    ensures { result ≡ capped (steps_weight (steps_of steps.now)) }
+    ensures { result ≡ capped (steps_weight (along_written L.leaf_tree (steps_of steps.now))) }
 {
     let mut total: u64 = 0;
     for step in steps {
@@ -68,9 +69,16 @@ fn weigh_steps<L: Weighed>(steps: &[Step<L>]) -> u64
     total
 }
 
+/// The weight of a term of the base.
+fn weigh_rule(term: &MTerm) -> u64
+    ensures { result ≡ capped (tree_weight term.now) }
+{
+    weigh_tree(term)
+}
+
 /// The weight of a read of a table of this size at an index of this weight.
 fn read_at<L: Leaf>(size: u32, index: &MTerm<L>, weight: u64) -> u64
-    ensures { result ≡ capped (read_weight size index.now weight) }
+    ensures { result ≡ capped (read_weight size (written L.leaf_tree index.now) weight) }
 {
     match index.literal() {
         Some(_) => weight.saturating_add(1),
@@ -92,7 +100,7 @@ fn weigh_definitions(base: &Base) -> u64
 {
     let mut total: u64 = 0;
     for (_, term, _) in base.definitions.as_slice() {
-        total = total.saturating_add(weigh_tree(term).saturating_add(1));
+        total = total.saturating_add(weigh_rule(term).saturating_add(1));
     }
     total
 }
@@ -102,7 +110,7 @@ fn weigh_checks(base: &Base) -> u64
 {
     let mut total: u64 = 0;
     for (condition, _, _) in base.checks.as_slice() {
-        total = total.saturating_add(weigh_tree(condition).saturating_add(1));
+        total = total.saturating_add(weigh_rule(condition).saturating_add(1));
     }
     total
 }

@@ -1,6 +1,7 @@
 //! Terms after name resolution and expansion: each name is a cell, and there are no loops.
 
 ghost use Rattle.std.specs.Prelude.{◌≡◌};
+ghost use Rattle.micro_m.specs.Leaves.{literal_in};
 ghost use Rattle.micro_m.specs.Views.{tree_of};
 
 use m_fixed::{Op, Value};
@@ -63,5 +64,18 @@ impl<L: Drop> MTerm<L> {
         ensures { result ≡ tree_of node }
     {
         MTerm { node }
+    }
+
+    /// The value of a term that is a constant.
+    pub fn literal(&self) -> Option<Value>
+        ensures { result ≡ literal_in self.now }
+    {
+        match &self.node {
+            MNode::Lit(value) => Some(*value),
+            MNode::Cell(_) => None,
+            MNode::Pick(_, _, _) => None,
+            MNode::Apply(_, _) => None,
+            MNode::Chain(_, _) => None,
+        }
     }
 }

@@ -6,7 +6,7 @@ ghost use Rattle.m_symbols.specs.Placed.{IsPlaced};
 ghost use Rattle.mpp_parser.specs.TermView.{terms_of, links_of};
 ghost use Rattle.micro_m.specs.Trees.{cell as cell_tree, apply, chain};
 ghost use Rattle.micro_m.specs.Views.{tree_of, trees_of, steps_of};
-ghost use Rattle.driver_core.specs.Leaves.{leaf_tree};
+ghost use Rattle.driver_core.specs.declared.term.CLeaf.TheVariants.{Cell};
 ghost use Rattle.mpp_core.specs.Names.{if_resolved, resolved_cell};
 ghost use Rattle.mpp_core.specs.Bodies.{resolved_term, resolved_terms, resolved_links};
 ghost use Rattle.mpp_core.specs.declared.fault.CoreFault.TheVariants.{Memory};
@@ -46,7 +46,7 @@ pub(crate) fn term(
 
 // Boxes a node.
 fn boxed(alloc: Global, node: MNode<CLeaf>) -> Result<Box<CTerm>, AllocError>
-    ensures { IfOk result (λ t. t.value ≡ tree_of leaf_tree node) }
+    ensures { IfOk result (λ t. t.value ≡ tree_of node) }
 {
     Ok(Box::new(alloc, MTerm::new(node))?)
 }
@@ -59,7 +59,7 @@ fn named(
     scope: &Scope<'_>,
 ) -> Result<Box<CTerm>, CoreFault>
     requires { IsPlaced scope.now }
-    ensures { Says Memory result (λ t. t.value) (if_resolved (λ c. Ok (cell_tree c)) (resolved_cell scope.now line name.now)) }
+    ensures { Says Memory result (λ t. t.value) (if_resolved (λ c. Ok (cell_tree (Cell c))) (resolved_cell scope.now line name.now)) }
 {
     let cell = cell_of(alloc, scope.symbols(), line, name)?;
     Ok(boxed(alloc, MNode::Cell(CLeaf::Cell(cell)))?)

@@ -12,7 +12,8 @@ use Rattle.m_ast.specs.Items.{variable_cells}
 use Rattle.m_symbols.specs.declared.variable.Variable.{Variable}
 use Rattle.m_symbols.specs.Declarations.{placed_from, owners_from}
 use Rattle.micro_m.specs.declared.base.Base.{Base}
-use Rattle.micro_m.specs.Trees.{Tree, lit, cell, pick, apply, chain}
+use Rattle.micro_m.specs.Trees.{TreeOf, Tree, lit, cell, pick, apply, chain}
+use Rattle.micro_m.specs.Leaves.{written, all_written}
 use Rattle.micro_m.specs.Views.{trees_of}
 use Rattle.micro_m.specs.Bases.{Definition, is_among, AreDistinctCells}
 use Rattle.rule_order.specs.Orders.{IsOrder}
@@ -50,12 +51,12 @@ weight-at w (y ∷ xs) zero x h e = ap w (sym e)
 weight-at w (y ∷ xs) (suc n) x h e = weight-at w xs n x (omega (arith, h)) e
 
 -- three arguments weigh at most as much as all
-pub three-trees : (ts : List Tree) → get_or (map tree_weight ts) 0 0 + get_or (map tree_weight ts) 1 0 + get_or (map tree_weight ts) 2 0 ≤ trees_weight
-    (trees_of ts)
-three-trees [] = omega arith
-three-trees (a ∷ []) = omega arith
-three-trees (a ∷ b ∷ []) = omega arith
-three-trees (a ∷ b ∷ c ∷ ts) = omega arith
+pub three-trees : {L : Type 0} (leaf : L → Tree) (ts : List (TreeOf L)) → let w = map (λ t. tree_weight (written leaf t)) ts in
+    get_or w 0 0 + get_or w 1 0 + get_or w 2 0 ≤ trees_weight (all_written leaf (trees_of ts))
+three-trees leaf [] = omega arith
+three-trees leaf (a ∷ []) = omega arith
+three-trees leaf (a ∷ b ∷ []) = omega arith
+three-trees leaf (a ∷ b ∷ c ∷ ts) = omega arith
 
 -- ---- positions
 

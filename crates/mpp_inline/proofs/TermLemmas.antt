@@ -4,7 +4,11 @@ use Rattle.m_fixed.specs.declared.amount.Value.{Value}
 use Rattle.m_fixed.specs.declared.amount.Value.TheVariants.{Undef}
 use Rattle.m_fixed.specs.declared.operator.Op.{Op}
 use Rattle.m_fixed.specs.Operators.{op_value}
-use Rattle.micro_m.specs.Values.{Environment, environment, applied}
+use Rattle.std.specs.Prelude.{Some}
+use Rattle.micro_m.specs.Trees.{TreeOf, Tree, lit, cell, pick, apply, chain}
+use Rattle.micro_m.specs.Leaves.{written, all_written, literal_in}
+use Rattle.micro_m.specs.Views.{trees_of}
+use Rattle.micro_m.specs.Values.{Environment, environment, term_value, argument_values, applied}
 use Rattle.flat_code.specs.declared.program.Node.TheVariants.{Do}
 use Rattle.mpp_inline.specs.declared.builder.Builder.{Builder}
 use Rattle.mpp_inline.specs.inner.Growth.{at, denoted, IsUsable, Sane, Known, Pushed, Along, Gives, TermStep}
@@ -98,3 +102,23 @@ chain-step {b} {c} {d} {env} {x} {k} t f first next s kn =
       within = n.within;
       value = λ inputs. n.value inputs ∙ (λ i. f (environment (denoted-on inputs l kn i)) (a.value inputs i));
     }
+
+-- the arguments of an operator, and a constant
+pub argument-at : {L : Type 0} (leaf : L → Tree) (values : Environment) (all : List (TreeOf L)) (place : ℕ) (x : TreeOf L) → place < length all
+    → x ≡ get_or all place x → term_value values (written leaf x) ≡ get_or (argument_values values (all_written leaf (trees_of all))) place Undef
+argument-at leaf values [] place x h e = absurd (omega arith)
+argument-at leaf values (a ∷ all) zero x h e = ap (λ y. term_value values (written leaf y)) e
+argument-at leaf values (a ∷ all) (suc place) x h e = argument-at leaf values all place x (omega arith) e
+
+pub argument-past : {L : Type 0} (leaf : L → Tree) (values : Environment) (all : List (TreeOf L)) (place : ℕ) → length all ≤ place
+    → Undef ≡ get_or (argument_values values (all_written leaf (trees_of all))) place Undef
+argument-past leaf values [] place h = refl
+argument-past leaf values (a ∷ all) zero h = absurd (omega arith)
+argument-past leaf values (a ∷ all) (suc place) h = argument-past leaf values all place (omega arith)
+
+pub literal-is : {L : Type 0} (t : TreeOf L) (v : Value) → literal_in t ≡ Some v → t ≡ lit v
+literal-is (lit w) v e = let same : w ≡ v = cc in ap lit same
+literal-is (cell l) v e = absurd (cc)
+literal-is (pick f s i) v e = absurd (cc)
+literal-is (apply o all) v e = absurd (cc)
+literal-is (chain a ss) v e = absurd (cc)

@@ -9,6 +9,7 @@ ghost use Rattle.std.specs.Prelude.{◌≡◌, ℕ, ◌<◌, ◌≤◌, ◌-◌,
 ghost use Rattle.micro_m.specs.Bases.{IsValidBase};
 ghost use Rattle.rule_order.specs.Orders.{IsOrder};
 ghost use Rattle.rule_order.specs.declared.ordered.Ordered.{Ordered};
+ghost use Rattle.driver_core.specs.Leaves.{rule_term};
 ghost use Rattle.driver_core.specs.Actions.{branch, partition, call};
 ghost use Rattle.driver_core.specs.ActionView.{block_of};
 ghost use Rattle.driver_core.specs.Meaning.{called};
@@ -23,7 +24,7 @@ use crate::branches::open_branches;
 use crate::builder::{Builder, ONE, UNDEF};
 use crate::cells::{blank, pick_cells, write};
 use crate::rules::emit_rules;
-use crate::terms::emit_term;
+use crate::terms::emit_tree;
 use crate::work::{Choice, Driver, Frame, Work};
 use crate::writes::assign_under;
 use driver_core::{CCommand, CCommandNode, Core, KindCells};
@@ -57,13 +58,13 @@ fn begin_if<'a>(
     frame: Frame,
     choice: &Choice<'a>,
 ) -> Result<u32, AllocError>
-    requires { load b.old + 2 * tree_weight choice.now.condition.now + 4 < 2 ^ 32 }
+    requires { load b.old + 2 * tree_weight (rule_term choice.now.condition.now) + 4 < 2 ^ 32 }
     ensures step { IfOk result (λ g. (whole : Whole) → Standing whole b.old env.now frame.guard left.old.items
         → Moves whole b.old b.new env.now g left.old.items left.new.items
         (λ inputs. ahead whole b.old inputs env.now frame.guard frame.depth
-        (branch choice.now.line choice.now.condition.now (block_of choice.now.first.now) (block_of choice.now.second.now)))) }
+        (branch choice.now.line (rule_term choice.now.condition.now) (block_of choice.now.first.now) (block_of choice.now.second.now)))) }
     ensures size { OnOk result ((whole : Whole) → load b.new + 6 * left_weight whole left.new.items
-        ≤ load b.old + 2 * tree_weight choice.now.condition.now + 4 + 6 * (left_weight whole left.old.items
+        ≤ load b.old + 2 * tree_weight (rule_term choice.now.condition.now) + 4 + 6 * (left_weight whole left.old.items
         + block_size whole frame.depth (block_of choice.now.first.now) + block_size whole frame.depth (block_of choice.now.second.now))) }
     ensures turns { OnOk result ((whole : Whole) → left_turns whole left.new.items ≡ left_turns whole left.old.items
         + block_turns whole frame.depth (block_of choice.now.first.now) + block_turns whole frame.depth (block_of choice.now.second.now) + 2) }
@@ -176,7 +177,7 @@ fn begin_command<'a>(
 {
     match &command.node {
         CCommandNode::Set(_, cell, term) => {
-            let number = emit_term(b, env, term)?;
+            let number = emit_tree(b, env, term)?;
             assign_under(b, env, frame.guard, *cell, number)?;
             Ok(frame.guard)
         }

@@ -2,12 +2,13 @@
 
 ghost use Rattle.std.specs.Prelude.{◌<◌, ◌≤◌, ◌+◌, ◌^◌, IfOk, OnOk};
 ghost use Rattle.micro_m.specs.Values.{term_value};
+ghost use Rattle.driver_core.specs.Leaves.{rule_term};
 ghost use Rattle.driver_core.specs.Weights.{tree_weight};
 ghost use Rattle.mpp_inline.specs.inner.Growth.{Placed, Opened};
 ghost use Rattle.mpp_inline.specs.inner.Sizes.{load};
 
 use crate::builder::{Builder, ZERO};
-use crate::terms::emit_term;
+use crate::terms::emit_tree;
 use driver_core::CTerm;
 use flat_code::Node;
 use m_fixed::Op;
@@ -30,12 +31,12 @@ pub fn open_branches(
     line: u32,
     condition: &CTerm,
 ) -> Result<Branches, AllocError>
-    requires { load b.old + 2 * tree_weight condition.now + 4 < 2 ^ 32 }
+    requires { load b.old + 2 * tree_weight (rule_term condition.now) + 4 < 2 ^ 32 }
     ensures step { IfOk result (λ r. Placed b.old env.now guard
-        → Opened b.old b.new env.now guard line (λ e. term_value e condition.now) r) }
-    ensures size { OnOk result (load b.new ≤ load b.old + 2 * tree_weight condition.now + 4) }
+        → Opened b.old b.new env.now guard line (λ e. term_value e (rule_term condition.now)) r) }
+    ensures size { OnOk result (load b.new ≤ load b.old + 2 * tree_weight (rule_term condition.now) + 4) }
 {
-    let value = emit_term(b, env, condition)?;
+    let value = emit_tree(b, env, condition)?;
     b.check_line(guard, value, line)?;
     let truth = b.push(Node::Do(Op::Truth, value, value, value))?;
     let first = b.push(Node::Do(Op::Choose, truth, guard, ZERO))?;

@@ -2,7 +2,6 @@
 
 ghost use Rattle.std.specs.Prelude.{◌≡◌, IfOk};
 ghost use Rattle.micro_m.specs.Views.{tree_of};
-ghost use Rattle.driver_core.specs.Leaves.{leaf_tree};
 
 use driver_core::{CLeaf, CTerm};
 use m_places::{Name, Seq};
@@ -34,7 +33,7 @@ pub fn copied_cells(alloc: Global, cells: &[u32]) -> Result<Seq<u32>, AllocError
 
 // A node in a box.
 fn boxed(alloc: Global, node: MNode<CLeaf>) -> Result<Box<CTerm>, AllocError>
-    ensures { IfOk result (λ t. t.value ≡ tree_of leaf_tree node) }
+    ensures { IfOk result (λ t. t.value ≡ tree_of node) }
 {
     Ok(Box::new(alloc, MTerm::new(node))?)
 }

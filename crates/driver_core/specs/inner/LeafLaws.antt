@@ -1,6 +1,6 @@
 -- No leaf of a driver's term is a constant.
 use Rattle.std.specs.Prelude.{◌≡◌, None, [], ◌∷◌, refl}
-use Rattle.micro_m.specs.Trees.{literal_in}
+use Rattle.micro_m.specs.Leaves.{literal_in}
 use Rattle.driver_core.specs.declared.term.CLeaf.{CLeaf}
 use Rattle.driver_core.specs.declared.term.CLeaf.TheVariants.{Cell, Exists}
 use Rattle.driver_core.specs.Leaves.{leaf_tree}

@@ -1,7 +1,7 @@
 use Rattle.std.proofs.Common.{arith, ap}
 use Rattle.micro_m.specs.Trees.{nodes}
-use Rattle.driver_core.specs.TermView.{tree_of}
-use Rattle.driver_core.proofs.SumLemmas.{sizes-fall, terms-fall}
+use Rattle.micro_m.specs.Views.{tree_of}
+use Rattle.micro_m.specs.inner.Falls.{sizes_fall, terms_fall}
 use Rattle.mpp_inline.proofs.copies.+copied.Goals as goal
 
 pub copied-copied_terms-requires : goal.copied-copied_terms-requires
@@ -9,7 +9,7 @@ copied-copied_terms-requires t c =
     rw c.deref.ensures.value (
       omega (
         arith,
-        terms-fall c.in-Apply.arguments.items,
+        terms_fall c.in-Apply.arguments.items,
         ap nodes c.term.view_is,
         ap (λ n. nodes (tree_of n))
             c.in-Apply.is,
@@ -22,7 +22,7 @@ copied-copied_steps-requires t c =
     rw c.deref-in-Chain-2.ensures.value (
       omega (
         arith,
-        sizes-fall c.in-Chain.steps.items,
+        sizes_fall c.in-Chain.steps.items,
         ap nodes c.term.view_is,
         ap
             (λ n. nodes (tree_of n)) c.in-Chain.is,

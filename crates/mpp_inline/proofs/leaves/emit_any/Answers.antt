@@ -1,4 +1,4 @@
-use Rattle.std.proofs.Common.{◌≡◌, ◌∷◌, sym, subst}
+use Rattle.std.proofs.Common.{◌≡◌, ◌∷◌, length, sym, ap, subst, arith}
 use Rattle.std.proofs.lemmas.Result.{IfOk-weaker}
 use Rattle.micro_m.specs.Values.{environment, term_value, folded}
 use Rattle.driver_core.specs.Leaves.{then_present, any_present}
@@ -20,3 +20,9 @@ returns-in-Some-clause-step c =
     (chain-step (λ y. y first) (λ y v. folded y v (then_present rest))
     (λ s' kn'. subst (λ x. TermStep b b e (λ y. y first) x) (sym c.look.ensures) (cell-step first s' kn')) f s kn))
     c.emit_present.ensures.step
+
+pub emit_present-requires : goal.emit_present-requires
+emit_present-requires c = omega (arith, c.requires, ap length c.in-Some.ensures.cases.0)
+
+pub returns-in-Some-clause-size : goal.returns-in-Some-clause-size
+returns-in-Some-clause-size c = ?
