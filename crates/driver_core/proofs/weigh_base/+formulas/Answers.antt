@@ -2,7 +2,7 @@ use Rattle.std.proofs.Common.{◌≡◌, ◌+◌, ◌∷◌, ℕ, List, drop, sy
 use Rattle.driver_core.specs.declared.term.CStep.{CStep}
 use Rattle.micro_m.specs.Trees.{Tree, nodes}
 use Rattle.micro_m.specs.Views.{trees_of}
-use Rattle.driver_core.specs.TermView.{any_present, tree_of, steps_of}
+use Rattle.driver_core.specs.TermView.{tree_of, steps_of}
 use Rattle.driver_core.specs.Weights.{tree_weight, trees_weight, steps_weight}
 use Rattle.driver_core.specs.inner.Capped.{capped}
 use Rattle.driver_core.proofs.SumLemmas.{sizes-fall, terms-fall, drop-next, sum-next, present-weight}
@@ -62,4 +62,12 @@ weigh_further-loop-step-preserved t c =
     }
 
 pub weigh_formula-returns-in-Exists : goal.weigh_formula-returns-in-Exists
-weigh_formula-returns-in-Exists t c = ?
+weigh_formula-returns-in-Exists t c = omega (
+  arith,
+  c.saturating_add-in-Exists.ensures,
+  c.saturating_mul.ensures,
+  c.len.ensures,
+  present-weight c.in-Exists.cells,
+  ap tree_weight c.term.view_is,
+  ap (λ n. tree_weight (tree_of n)) c.in-Exists.is,
+)
