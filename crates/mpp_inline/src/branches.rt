@@ -1,6 +1,6 @@
 //! Conditions of `if` commands.
 
-ghost use Rattle.std.specs.Prelude.{◌<◌, ◌≤◌, ◌+◌, ◌^◌, IfOk, OnOk};
+ghost use Rattle.std.specs.Prelude.{◌<◌, ◌≤◌, ◌+◌, ◌*◌, ◌^◌, IfOk, OnOk};
 ghost use Rattle.micro_m.specs.Values.{term_value};
 ghost use Rattle.driver_core.specs.Leaves.{rule_term};
 ghost use Rattle.driver_core.specs.Weights.{tree_weight};
