@@ -34,7 +34,7 @@ read-capped size (pick f s i) weight = omega arith
 read-capped size (apply o a) weight = omega arith
 read-capped size (chain f s) weight = omega arith
 
--- `exists` weighs 1, and 2 for each cell
+-- the weight of `exists` is 1, and 2 for each cell
 then-weight : (cs : List ℕ) → steps_weight (then_present cs) ≡ 2 * length cs + 2
 then-weight [] = omega arith
 then-weight (c ∷ cs) = omega (arith, then-weight cs)

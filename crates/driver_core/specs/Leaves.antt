@@ -13,7 +13,7 @@ then_present [] = step Present (lit Undef) end
 then_present (c ∷ cs) = step Or (cell c) (then_present cs)
 
 -- Whether one of these cells is defined: `present` of nothing, which is 0, or of `A ou B ou C`, as a
--- left fold. It weighs 1, and 2 for each cell.
+-- left fold. Its weight is 1, and 2 for each cell.
 abbrev pub any_present : List ℕ → Tree
 any_present [] = apply Present none
 any_present (c ∷ cs) = chain (cell c) (then_present cs)

@@ -1,8 +1,9 @@
-use Rattle.std.proofs.Common.{◌≡◌, ◌∷◌, length, sym, ap, subst, arith}
-use Rattle.std.proofs.lemmas.Result.{IfOk-weaker}
+use Rattle.std.proofs.Common.{◌≡◌, ◌+◌, ◌≤◌, ◌∷◌, length, sym, ap, subst, arith}
+use Rattle.std.proofs.lemmas.Result.{IfOk-weaker, on_ok_weaker}
 use Rattle.micro_m.specs.Values.{environment, term_value, folded}
 use Rattle.driver_core.specs.Leaves.{then_present, any_present}
 use Rattle.mpp_inline.specs.inner.Growth.{IsUsable, at, denoted, Sane, Known, Gives, TermStep}
+use Rattle.mpp_inline.specs.inner.Sizes.{load}
 use Rattle.mpp_inline.proofs.CheckGrowth.{cell-step}
 use Rattle.mpp_inline.proofs.TermLemmas.{chain-step}
 use Rattle.mpp_inline.proofs.leaves.emit_any.Goals as goal
@@ -25,4 +26,10 @@ pub emit_present-requires : goal.emit_present-requires
 emit_present-requires c = omega (arith, c.requires, ap length c.in-Some.ensures.cases.0)
 
 pub returns-in-Some-clause-size : goal.returns-in-Some-clause-size
-returns-in-Some-clause-size c = ?
+returns-in-Some-clause-size c =
+    let b = load c.args.b.now in
+    let d = load c.emit_present.new.b in
+    on_ok_weaker c.emit_present.result
+    (λ (m : d ≤ b + length c.in-Some.rest.now + 1).
+    let goal' : d ≤ b + length c.args.cells.now = omega (arith, m, ap length c.in-Some.ensures.cases.0) in goal')
+    c.emit_present.ensures.size

@@ -45,13 +45,15 @@ emit_tree-emit_applied-requires g t c κs within =
     let leaf = g.L.Leaf.leaf_tree in
     rw c.deref-in-Apply.ensures.value (
       omega (arith, terms_fall c.in-Apply.arguments.items, ap nodes c.term.view_is, ap (λ n. nodes (tree_of n)) c.in-Apply.is),
-      omega (
-        arith,
-        c.requires,
-        ap (λ x. tree_weight (written leaf x)) c.term.view_is,
-        ap (λ n. tree_weight (written leaf (tree_of n))) c.in-Apply.is,
+      (
+        within,
+        omega (
+          arith,
+          c.requires,
+          ap (λ x. tree_weight (written leaf x)) c.term.view_is,
+          ap (λ n. tree_weight (written leaf (tree_of n))) c.in-Apply.is,
+        ),
       ),
-      within,
     )
 
 pub emit_tree-emit_steps-requires : goal.emit_tree-emit_steps-requires
@@ -59,15 +61,17 @@ emit_tree-emit_steps-requires g t c κs within =
     let leaf = g.L.Leaf.leaf_tree in
     rw c.deref-in-Chain-2.ensures.value (
       omega (arith, sizes_fall c.in-Chain.steps.items, ap nodes c.term.view_is, ap (λ n. nodes (tree_of n)) c.in-Chain.is),
-      omega (
-        arith,
-        c.requires,
-        c.in_ok-so_far-in-Chain.ensures.size,
-        ap (λ x. tree_weight (written leaf x)) c.deref-in-Chain.ensures,
-        ap (λ x. tree_weight (written leaf x)) c.term.view_is,
-        ap (λ n. tree_weight (written leaf (tree_of n))) c.in-Chain.is,
+      (
+        within,
+        omega (
+          arith,
+          c.requires,
+          c.in_ok-so_far-in-Chain.ensures.size,
+          ap (λ x. tree_weight (written leaf x)) c.deref-in-Chain.ensures,
+          ap (λ x. tree_weight (written leaf x)) c.term.view_is,
+          ap (λ n. tree_weight (written leaf (tree_of n))) c.in-Chain.is,
+        ),
       ),
-      within,
     )
 
 pub emit_tree-returns-in-Lit-clause-step : goal.emit_tree-returns-in-Lit-clause-step
@@ -156,23 +160,25 @@ emit_read-returns-in_ok-place-in-None-clause-step g t c =
     c.emit_table.ensures.step
 
 pub emit_applied-emit_argument-requires : goal.emit_applied-emit_argument-requires
-emit_applied-emit_argument-requires g t c κs within = (omega arith, omega (arith, c.requires, three-trees g.L.Leaf.leaf_tree c.args.arguments.now), within)
+emit_applied-emit_argument-requires g t c κs within = (omega arith, (within, omega (arith, c.requires, three-trees g.L.Leaf.leaf_tree c.args.arguments.now)))
 
 pub emit_applied-emit_argument-requires-2 : goal.emit_applied-emit_argument-requires-2
 emit_applied-emit_argument-requires-2 g t c κs within =
-    (omega arith, omega (arith, c.requires, three-trees g.L.Leaf.leaf_tree c.args.arguments.now, c.in_ok-first.ensures.size), within)
+    (omega arith, (within, omega (arith, c.requires, three-trees g.L.Leaf.leaf_tree c.args.arguments.now, c.in_ok-first.ensures.size)))
 
 pub emit_applied-emit_argument-requires-3 : goal.emit_applied-emit_argument-requires-3
 emit_applied-emit_argument-requires-3 g t c κs within = (
   omega arith,
-  omega (
-    arith,
-    c.requires,
-    three-trees g.L.Leaf.leaf_tree c.args.arguments.now,
-    c.in_ok-first.ensures.size,
-    c.in_ok-second.ensures.size,
+  (
+    within,
+    omega (
+      arith,
+      c.requires,
+      three-trees g.L.Leaf.leaf_tree c.args.arguments.now,
+      c.in_ok-first.ensures.size,
+      c.in_ok-second.ensures.size,
+    ),
   ),
-  within,
 )
 
 pub emit_applied-push-requires : goal.emit_applied-push-requires
