@@ -6,7 +6,7 @@ use Rattle.m_fixed.specs.declared.amount.Value.{Value}
 use Rattle.m_fixed.specs.declared.amount.Value.TheVariants.{Undef, Num}
 use Rattle.m_fixed.specs.Operators.{truth_of, chosen}
 use Rattle.m_places.specs.declared.verification.Label.{Label}
-use Rattle.micro_m.specs.Values.{Environment, environment}
+use Rattle.micro_m.specs.Values.{Environment, environment, term_value}
 use Rattle.flat_code.specs.Runs.{is_one}
 use Rattle.driver_core.specs.Actions.{Action, branch, partition, call}
 use Rattle.driver_core.specs.ActionView.{block_of}

@@ -1,5 +1,5 @@
 -- Terms as nodes: operators, folds and arguments.
-use Rattle.std.proofs.Common.{◌≡◌, ℕ, zero, suc, ◌+◌, ◌*◌, ◌<◌, ◌≤◌, List, [], ◌∷◌, length, get_or, refl, ap, ◌∙◌, arith}
+use Rattle.std.proofs.Common.{◌≡◌, ℕ, zero, suc, ◌+◌, ◌*◌, ◌<◌, ◌≤◌, List, [], ◌∷◌, length, get_or, refl, ap, ◌∙◌, subst, arith}
 use Rattle.m_fixed.specs.declared.amount.Value.{Value}
 use Rattle.m_fixed.specs.declared.amount.Value.TheVariants.{Undef}
 use Rattle.m_fixed.specs.declared.operator.Op.{Op}
@@ -75,6 +75,9 @@ fold-next {b} {c} {d} {e} {env} {x} {k} {n} {op} {whole} t rest a step p kn =
           (ld.sane.undef inputs i)))
           ∙ a.value inputs;
     }
+
+pub pushed-right : {b c : Builder} {op : Op} {i y z k : ℕ} → y ≡ z → Pushed b c (Do op i y 0) k → Pushed b c (Do op i z 0) k
+pushed-right {b} {c} {op} {i} {y} {z} {k} e p = subst (λ x. Pushed b c (Do op i x 0) k) e p
 
 -- the last step, whose right operand has no meaning
 pub fold-last : {b c d : Builder} {x k : ℕ} {op : Op} {whole : List Value → Value} → Along b c (λ inputs v. op_value op v Undef Undef) whole x

@@ -6,7 +6,7 @@ use Rattle.mpp_inline.proofs.copies.+copied.Goals as goal
 
 pub copied-copied_terms-requires : goal.copied-copied_terms-requires
 copied-copied_terms-requires t c =
-    rw c.deref.ensures.value (
+    rw c.deref-in-Apply.ensures.value (
       omega (
         arith,
         terms_fall c.in-Apply.arguments.items,

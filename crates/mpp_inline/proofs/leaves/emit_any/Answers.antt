@@ -33,3 +33,6 @@ returns-in-Some-clause-size c =
     (λ (m : d ≤ b + length c.in-Some.rest.now + 1).
     let goal' : d ≤ b + length c.args.cells.now = omega (arith, m, ap length c.in-Some.ensures.cases.0) in goal')
     c.emit_present.ensures.size
+
+pub returns-in-None-clause-step : goal.returns-in-None-clause-step
+returns-in-None-clause-step c = ?

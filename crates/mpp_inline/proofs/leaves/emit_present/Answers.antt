@@ -7,7 +7,7 @@ use Rattle.driver_core.specs.Leaves.{then_present}
 use Rattle.flat_code.specs.declared.program.Node.TheVariants.{Do}
 use Rattle.mpp_inline.specs.inner.Growth.{at, denoted, Along, Pushed}
 use Rattle.mpp_inline.proofs.CheckGrowth.{pushed-load, cell-step}
-use Rattle.mpp_inline.proofs.TermLemmas.{fold-first, fold-next, fold-last}
+use Rattle.mpp_inline.proofs.TermLemmas.{pushed-right, fold-first, fold-next, fold-last}
 use Rattle.mpp_inline.proofs.leaves.emit_present.Goals as goal
 
 pub loop-cell-init : goal.loop-cell-init
@@ -31,5 +31,5 @@ loop-cell-preserved c =
           (subst (λ l. Along b c.loop-cell.b (λ inputs v. folded (environment (denoted b inputs e)) v (then_present l))
           (λ inputs. folded (environment (denoted b inputs e)) (at b inputs c.args.so_far) (then_present all)) c.loop-cell.number) next
           (c.loop-cell.invariant.step s kn h))
-          (cell-step x) (subst (λ y. Pushed c.loop-cell.b _ (Do Or c.loop-cell.number y 0) _) c.look.ensures c.in_ok-number.ensures) kn;
+          (cell-step x) (pushed-right c.look.ensures c.in_ok-number.ensures) kn;
     }

@@ -1,7 +1,8 @@
 use Rattle.std.proofs.Common.{◌≡◌, ℕ, ◌+◌, ◌*◌, ◌≤◌, ◌∷◌, drop, sym, ap, ◌∙◌, subst, arith}
+use Rattle.std.specs.Prelude.{IfOk}
 use Rattle.std.proofs.lemmas.Result.{IfOk-weaker}
 use Rattle.std.proofs.lemmas.List.{drop_all}
-use Rattle.micro_m.specs.Trees.{nodes, pick, chain}
+use Rattle.micro_m.specs.Trees.{nodes, apply, chain}
 use Rattle.micro_m.specs.Leaves.{written, all_written, along_written}
 use Rattle.micro_m.specs.Views.{tree_of, trees_of, steps_of}
 use Rattle.micro_m.specs.Values.{environment, term_value, argument_values, folded, picked, picked_value}
@@ -82,6 +83,21 @@ emit_tree-returns-in-Lit-clause-step g t c =
     (λ k p s kn. subst (λ f. TermStep b c.push.new.self e (λ x. term_value x (written g.L.Leaf.leaf_tree f)) k)
     (sym (ap tree_of c.in-Lit.is) ∙ c.term.view_is) (gives-lit c.in-Lit.value p s))
     c.push.ensures
+
+pub emit_tree-returns-in-Cell-clause-step : goal.emit_tree-returns-in-Cell-clause-step
+emit_tree-returns-in-Cell-clause-step g t c =
+    let b = c.args.b.now in
+    let e = c.args.env.now in
+    subst (λ f. IfOk c.emit.result (λ k. Sane b → Known b e → TermStep b c.emit.new.b e (λ x. term_value x (written g.L.Leaf.leaf_tree f)) k))
+    (sym (ap tree_of c.in-Cell.is) ∙ c.term.view_is) c.emit.ensures.step
+
+pub emit_tree-returns-in-Apply-clause-step : goal.emit_tree-returns-in-Apply-clause-step
+emit_tree-returns-in-Apply-clause-step g t c =
+    let b = c.args.b.now in
+    let e = c.args.env.now in
+    let is = (λ i. apply c.in-Apply.op (trees_of (c.deref-in-Apply.ensures.value i))) ∙ sym (ap tree_of c.in-Apply.is) ∙ c.term.view_is in
+    subst (λ f. IfOk c.emit_applied.result (λ k. Sane b → Known b e → TermStep b c.emit_applied.new.b e (λ x. term_value x (written g.L.Leaf.leaf_tree f)) k))
+    is c.emit_applied.ensures.step
 
 pub emit_tree-returns-in_ok-so_far-in-Chain-clause-step : goal.emit_tree-returns-in_ok-so_far-in-Chain-clause-step
 emit_tree-returns-in_ok-so_far-in-Chain-clause-step g t c =
