@@ -28,13 +28,10 @@ use Rattle.mpp_parser.specs.declared.command.Function.{Function}
 use Rattle.mpp_parser.specs.declared.command.Driver.{Driver}
 use Rattle.driver_core.specs.declared.program.Core.{Core}
 use Rattle.micro_m.specs.Bases.{IsWithin, AreWithin, StepsAreWithin}
-use Rattle.micro_m.specs.Leaves.{all_written, along_written}
-use Rattle.micro_m.specs.Trees.{lit as lit_tree, cell as cell_tree, apply as apply_tree, chain as chain_tree}
+use Rattle.micro_m.specs.Trees.{Tree, lit as lit_tree, cell as cell_tree, apply as apply_tree, chain as chain_tree}
 use Rattle.micro_m.specs.Views.{trees_of, steps_of}
 use Rattle.micro_m.specs.declared.term.Step.{Step}
-use Rattle.driver_core.specs.Leaves.{CTree, then_present, any_present, leaf_tree, rule_term}
-use Rattle.driver_core.specs.declared.term.CLeaf.{CLeaf}
-use Rattle.driver_core.specs.declared.term.CLeaf.TheVariants.{Cell, Exists}
+use Rattle.driver_core.specs.Leaves.{then_present, any_present}
 use Rattle.driver_core.specs.Actions.{Action, assign, clear, branch, partition as partition_action, call as call_action, solve}
 use Rattle.driver_core.specs.ActionView.{block_of}
 use Rattle.driver_core.specs.Valid.{ActionIsWithin, BlockIsWithin, IsInRange}
@@ -177,17 +174,14 @@ kind_within d (Attribute attribute values) p = kinds_within (length (owners_from
 
 -- ---- terms
 
-abbrev TermIsWithin : ℕ → CTree → Type 0
-TermIsWithin n t = IsWithin n (rule_term t)
-
-trees_within : (n : ℕ) (ts : List CTree) → AllByRecursion (TermIsWithin n) ts → AreWithin n (all_written leaf_tree (trees_of ts))
+trees_within : (n : ℕ) (ts : List Tree) → AllByRecursion (IsWithin n) ts → AreWithin n (trees_of ts)
 trees_within n [] h = tt
 trees_within n (t ∷ ts) h = (h.0, trees_within n ts h.1)
 
-abbrev StepIsWithin : ℕ → Step CLeaf → Type 0
-StepIsWithin n s = TermIsWithin n s.term
+abbrev StepIsWithin : ℕ → Step ℕ → Type 0
+StepIsWithin n s = IsWithin n s.term
 
-steps_within : (n : ℕ) (ss : List (Step CLeaf)) → AllByRecursion (StepIsWithin n) ss → StepsAreWithin n (along_written leaf_tree (steps_of ss))
+steps_within : (n : ℕ) (ss : List (Step ℕ)) → AllByRecursion (StepIsWithin n) ss → StepsAreWithin n (steps_of ss)
 steps_within n [] h = tt
 steps_within n (s ∷ ss) h = (h.0, steps_within n ss h.1)
 
@@ -200,35 +194,35 @@ present_within n [] h = tt
 present_within n (c ∷ cs) h = (h.0, then_within n cs h.1)
 
 mutual
-  term_within : (d : Declared) (line : ℕ) (s : Term) (t : CTree) → IsPlaced d → resolved_term d line s ≡ Ok t
-      → TermIsWithin (length (owners_from 0 d.variables)) t
-  term_within d line (lit value) t p e = subst (TermIsWithin (length (owners_from 0 d.variables))) (value_of_ok (lit_tree value) t e) tt
+  term_within : (d : Declared) (line : ℕ) (s : Term) (t : Tree) → IsPlaced d → resolved_term d line s ≡ Ok t
+      → IsWithin (length (owners_from 0 d.variables)) t
+  term_within d line (lit value) t p e = subst (IsWithin (length (owners_from 0 d.variables))) (value_of_ok (lit_tree value) t e) tt
   term_within d line (named cell) t p e =
-      let k = resolved_by (λ c. Ok (cell_tree (Cell c))) (resolved_cell d line cell) t e in
-      subst (TermIsWithin (length (owners_from 0 d.variables))) (value_of_ok (cell_tree (Cell k.0)) t k.2) (cell_within d line k.0 cell p k.1)
+      let k = resolved_by (λ c. Ok (cell_tree c)) (resolved_cell d line cell) t e in
+      subst (IsWithin (length (owners_from 0 d.variables))) (value_of_ok (cell_tree k.0) t k.2) (cell_within d line k.0 cell p k.1)
   term_within d line (apply op all) t p e =
       let k = resolved_by (λ arguments. Ok (apply_tree op (trees_of arguments))) (resolved_terms d line [] all) t e in
-      subst (TermIsWithin (length (owners_from 0 d.variables))) (value_of_ok (apply_tree op (trees_of k.0)) t k.2)
+      subst (IsWithin (length (owners_from 0 d.variables))) (value_of_ok (apply_tree op (trees_of k.0)) t k.2)
       (trees_within _ k.0 (terms_within d line [] all k.0 p tt k.1))
   term_within d line (chain first links) t p e =
       let k = resolved_by (λ f. if_resolved (λ steps. Ok (chain_tree f (steps_of steps))) (resolved_links d line [] links)) (resolved_term d line first) t
       e in
       let m = resolved_by (λ steps. Ok (chain_tree k.0 (steps_of steps))) (resolved_links d line [] links) t k.2 in
-      subst (TermIsWithin (length (owners_from 0 d.variables))) (value_of_ok (chain_tree k.0 (steps_of m.0)) t m.2)
+      subst (IsWithin (length (owners_from 0 d.variables))) (value_of_ok (chain_tree k.0 (steps_of m.0)) t m.2)
       (term_within d line first k.0 p k.1, steps_within _ m.0 (links_within d line [] links m.0 p tt m.1))
   term_within d line (exists kind) t p e =
-      subst (TermIsWithin (length (owners_from 0 d.variables))) (value_of_ok (cell_tree (Exists (kind_cells d kind))) t e)
+      subst (IsWithin (length (owners_from 0 d.variables))) (value_of_ok (any_present (kind_cells d kind)) t e)
       (present_within (length (owners_from 0 d.variables)) (kind_cells d kind) (kind_within d kind p))
 
-  terms_within : (d : Declared) (line : ℕ) (before : List CTree) (all : Terms) (ts : List CTree) → IsPlaced d
-      → AllByRecursion (TermIsWithin (length (owners_from 0 d.variables))) before
-      → resolved_terms d line before all ≡ Ok ts → AllByRecursion (TermIsWithin (length (owners_from 0 d.variables))) ts
-  terms_within d line before no_terms ts p h e = subst (AllByRecursion (TermIsWithin (length (owners_from 0 d.variables)))) (value_of_ok before ts e) h
+  terms_within : (d : Declared) (line : ℕ) (before : List Tree) (all : Terms) (ts : List Tree) → IsPlaced d
+      → AllByRecursion (IsWithin (length (owners_from 0 d.variables))) before
+      → resolved_terms d line before all ≡ Ok ts → AllByRecursion (IsWithin (length (owners_from 0 d.variables))) ts
+  terms_within d line before no_terms ts p h e = subst (AllByRecursion (IsWithin (length (owners_from 0 d.variables)))) (value_of_ok before ts e) h
   terms_within d line before (a_term a rest) ts p h e =
       let k = resolved_by (λ t. resolved_terms d line (before ++ t ∷ []) rest) (resolved_term d line a) ts e in
       terms_within d line (before ++ k.0 ∷ []) rest ts p (all_push _ before k.0 h (term_within d line a k.0 p k.1)) k.2
 
-  links_within : (d : Declared) (line : ℕ) (before : List (Step CLeaf)) (all : Links) (ss : List (Step CLeaf)) → IsPlaced d
+  links_within : (d : Declared) (line : ℕ) (before : List (Step ℕ)) (all : Links) (ss : List (Step ℕ)) → IsPlaced d
       → AllByRecursion (StepIsWithin (length (owners_from 0 d.variables))) before
       → resolved_links d line before all ≡ Ok ss → AllByRecursion (StepIsWithin (length (owners_from 0 d.variables))) ss
   links_within d line before no_links ss p h e = subst (AllByRecursion (StepIsWithin (length (owners_from 0 d.variables)))) (value_of_ok before ss e) h
@@ -277,20 +271,20 @@ mutual
   act_within : (d : Declared) (names : List (List ℕ)) (a : Act) (action : Action) → IsPlaced d → resolved_act d names a ≡ Ok action
       → ActionIsWithin (length (owners_from 0 d.variables)) (length names) action
   act_within d names (set line c term) action p e =
-      let k = resolved_by (λ cell. if_resolved (λ t. Ok (assign line cell (rule_term t))) (resolved_term d line term)) (resolved_target d line c) action e in
-      let m = resolved_by (λ t. Ok (assign line k.0 (rule_term t))) (resolved_term d line term) action k.2 in
-      subst (ActionIsWithin (length (owners_from 0 d.variables)) (length names)) (value_of_ok (assign line k.0 (rule_term m.0)) action m.2)
+      let k = resolved_by (λ cell. if_resolved (λ t. Ok (assign line cell t)) (resolved_term d line term)) (resolved_target d line c) action e in
+      let m = resolved_by (λ t. Ok (assign line k.0 t)) (resolved_term d line term) action k.2 in
+      subst (ActionIsWithin (length (owners_from 0 d.variables)) (length names)) (value_of_ok (assign line k.0 m.0) action m.2)
       (target_within d line k.0 c p k.1, term_within d line term m.0 p m.1)
   act_within d names (del line c) action p e =
       let k = resolved_by (λ cell. Ok (clear line cell)) (resolved_target d line c) action e in
       subst (ActionIsWithin (length (owners_from 0 d.variables)) (length names)) (value_of_ok (clear line k.0) action k.2) (target_within d line k.0 c p k.1)
   act_within d names (when line condition first second) action p e =
-      let k = resolved_by (λ t. if_resolved (λ a. if_resolved (λ b. Ok (branch line (rule_term t) (block_of a) (block_of b))) (resolved_acts d names [] second))
+      let k = resolved_by (λ t. if_resolved (λ a. if_resolved (λ b. Ok (branch line t (block_of a) (block_of b))) (resolved_acts d names [] second))
       (resolved_acts d names [] first)) (resolved_term d line condition) action e in
-      let m = resolved_by (λ a. if_resolved (λ b. Ok (branch line (rule_term k.0) (block_of a) (block_of b))) (resolved_acts d names [] second))
+      let m = resolved_by (λ a. if_resolved (λ b. Ok (branch line k.0 (block_of a) (block_of b))) (resolved_acts d names [] second))
       (resolved_acts d names [] first) action k.2 in
-      let q = resolved_by (λ b. Ok (branch line (rule_term k.0) (block_of m.0) (block_of b))) (resolved_acts d names [] second) action m.2 in
-      subst (ActionIsWithin (length (owners_from 0 d.variables)) (length names)) (value_of_ok (branch line (rule_term k.0) (block_of m.0) (block_of q.0)) action q.2) (
+      let q = resolved_by (λ b. Ok (branch line k.0 (block_of m.0) (block_of b))) (resolved_acts d names [] second) action m.2 in
+      subst (ActionIsWithin (length (owners_from 0 d.variables)) (length names)) (value_of_ok (branch line k.0 (block_of m.0) (block_of q.0)) action q.2) (
         term_within d line condition k.0 p k.1,
         block_within _ _ m.0 (acts_within d names [] first m.0 p tt m.1),
         block_within _ _ q.0

@@ -4,7 +4,6 @@ ghost use Rattle.std.specs.Prelude.{◌≡◌, ◌<◌, ◌^◌, Ok, Err, [], If
 ghost use Rattle.m_places.specs.Refusals.{Says};
 ghost use Rattle.m_symbols.specs.Placed.{IsPlaced};
 ghost use Rattle.mpp_parser.specs.CommandView.{block_of as acts_of};
-ghost use Rattle.driver_core.specs.Leaves.{rule_term};
 ghost use Rattle.driver_core.specs.Actions.{assign, clear, branch, partition};
 ghost use Rattle.driver_core.specs.ActionView.{action_of, block_of};
 ghost use Rattle.mpp_core.specs.Names.{if_resolved, resolved_target, resolved_targets, kind_cells, resolved_function, rules_name};
@@ -58,7 +57,7 @@ fn assigned(
 ) -> Result<CCommand, CoreFault>
     requires { IsPlaced scope.now }
     ensures { Says Memory result (λ c. c)
-        (if_resolved (λ cell. if_resolved (λ t. Ok (assign line cell (rule_term t))) (resolved_term scope.now line value.now)) (resolved_target scope.now line cell.now)) }
+        (if_resolved (λ cell. if_resolved (λ t. Ok (assign line cell t)) (resolved_term scope.now line value.now)) (resolved_target scope.now line cell.now)) }
 {
     let cell = target_of(alloc, scope.symbols(), line, cell)?;
     let value = term(alloc, value, line, scope)?;
@@ -92,7 +91,7 @@ fn branched(
 ) -> Result<CCommand, CoreFault>
     requires { IsPlaced scope.now × (length names.now < 2 ^ 32) }
     ensures { Says Memory result (λ c. c)
-        (if_resolved (λ t. if_resolved (λ a. if_resolved (λ b. Ok (branch line (rule_term t) (block_of a) (block_of b)))
+        (if_resolved (λ t. if_resolved (λ a. if_resolved (λ b. Ok (branch line t (block_of a) (block_of b)))
         (resolved_acts scope.now names.now [] (acts_of second.now)))
         (resolved_acts scope.now names.now [] (acts_of first.now))) (resolved_term scope.now line condition.now)) }
 {

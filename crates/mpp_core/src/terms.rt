@@ -1,12 +1,12 @@
 //! Resolves terms.
 
-ghost use Rattle.std.specs.Prelude.{◌≡◌, Ok, Err, [], IfOk};
+ghost use Rattle.std.specs.Prelude.{◌≡◌, Ok, Err, [], IfOk, map};
 ghost use Rattle.m_places.specs.Refusals.{Says};
 ghost use Rattle.m_symbols.specs.Placed.{IsPlaced};
 ghost use Rattle.mpp_parser.specs.TermView.{terms_of, links_of};
 ghost use Rattle.micro_m.specs.Trees.{cell as cell_tree, apply, chain};
 ghost use Rattle.micro_m.specs.Views.{tree_of, trees_of, steps_of};
-ghost use Rattle.driver_core.specs.declared.term.CLeaf.TheVariants.{Cell};
+ghost use Rattle.driver_core.specs.Leaves.{rule_term};
 ghost use Rattle.mpp_core.specs.Names.{if_resolved, resolved_cell};
 ghost use Rattle.mpp_core.specs.Bodies.{resolved_term, resolved_terms, resolved_links};
 ghost use Rattle.mpp_core.specs.declared.fault.CoreFault.TheVariants.{Memory};
@@ -30,7 +30,7 @@ pub(crate) fn term(
     scope: &Scope<'_>,
 ) -> Result<Box<CTerm>, CoreFault>
     requires { IsPlaced scope.now }
-    ensures { Says Memory result (λ t. t.value) (resolved_term scope.now line term.now) }
+    ensures { Says Memory result (λ t. rule_term t.value) (resolved_term scope.now line term.now) }
 {
     match &term.node {
         DNode::Lit(value) => Ok(boxed(alloc, MNode::Lit(*value))?),
@@ -46,7 +46,7 @@ pub(crate) fn term(
 
 // Boxes a node.
 fn boxed(alloc: Global, node: MNode<CLeaf>) -> Result<Box<CTerm>, AllocError>
-    ensures { IfOk result (λ t. t.value ≡ tree_of node) }
+    ensures { IfOk result (λ t. rule_term t.value ≡ rule_term (tree_of node)) }
 {
     Ok(Box::new(alloc, MTerm::new(node))?)
 }
@@ -59,7 +59,7 @@ fn named(
     scope: &Scope<'_>,
 ) -> Result<Box<CTerm>, CoreFault>
     requires { IsPlaced scope.now }
-    ensures { Says Memory result (λ t. t.value) (if_resolved (λ c. Ok (cell_tree (Cell c))) (resolved_cell scope.now line name.now)) }
+    ensures { Says Memory result (λ t. rule_term t.value) (if_resolved (λ c. Ok (cell_tree c)) (resolved_cell scope.now line name.now)) }
 {
     let cell = cell_of(alloc, scope.symbols(), line, name)?;
     Ok(boxed(alloc, MNode::Cell(CLeaf::Cell(cell)))?)
@@ -75,7 +75,7 @@ fn applied(
     scope: &Scope<'_>,
 ) -> Result<Box<CTerm>, CoreFault>
     requires { IsPlaced scope.now }
-    ensures { Says Memory result (λ t. t.value)
+    ensures { Says Memory result (λ t. rule_term t.value)
         (if_resolved (λ all. Ok (apply op (trees_of all))) (resolved_terms scope.now line [] (terms_of arguments.now))) }
 {
     let arguments = terms(alloc, arguments, line, scope)?;
@@ -91,7 +91,7 @@ fn terms(
     scope: &Scope<'_>,
 ) -> Result<Vec<CTerm>, CoreFault>
     requires { IsPlaced scope.now }
-    ensures { Says Memory result (λ stated. stated.items) (resolved_terms scope.now line [] (terms_of all.now)) }
+    ensures { Says Memory result (λ stated. map rule_term stated.items) (resolved_terms scope.now line [] (terms_of all.now)) }
 {
     let mut stated = Vec::with_capacity(alloc, all.len())?;
     for one in all {
@@ -111,7 +111,7 @@ fn chained(
     scope: &Scope<'_>,
 ) -> Result<Box<CTerm>, CoreFault>
     requires { IsPlaced scope.now }
-    ensures { Says Memory result (λ t. t.value)
+    ensures { Says Memory result (λ t. rule_term t.value)
         (if_resolved (λ f. if_resolved (λ steps. Ok (chain f (steps_of steps))) (resolved_links scope.now line [] (links_of links.now)))
         (resolved_term scope.now line first.now)) }
 {
