@@ -1,14 +1,16 @@
 -- Terms as nodes: operators, folds and arguments.
-use Rattle.std.proofs.Common.{◌≡◌, ℕ, zero, suc, ◌+◌, ◌*◌, ◌<◌, ◌≤◌, List, [], ◌∷◌, length, get_or, refl, ap, ◌∙◌, subst, arith}
+use Rattle.std.proofs.Common.{◌≡◌, ℕ, zero, suc, ◌+◌, ◌*◌, ◌<◌, ◌≤◌, List, [], ◌∷◌, length, get_or, refl, sym, ap, ◌∙◌, subst, arith}
 use Rattle.m_fixed.specs.declared.amount.Value.{Value}
-use Rattle.m_fixed.specs.declared.amount.Value.TheVariants.{Undef}
+use Rattle.m_fixed.specs.declared.amount.Value.TheVariants.{Undef, Num}
 use Rattle.m_fixed.specs.declared.operator.Op.{Op}
+use Rattle.m_fixed.specs.declared.operator.Op.TheVariants.{Present}
 use Rattle.m_fixed.specs.Operators.{op_value}
-use Rattle.std.specs.Prelude.{Some}
+use Rattle.std.specs.Prelude.{Some, pos}
 use Rattle.micro_m.specs.Trees.{TreeOf, Tree, lit, cell, pick, apply, chain}
 use Rattle.micro_m.specs.Leaves.{written, all_written, literal_in}
 use Rattle.micro_m.specs.Views.{trees_of}
 use Rattle.micro_m.specs.Values.{Environment, environment, term_value, argument_values, applied}
+use Rattle.driver_core.specs.Leaves.{any_present}
 use Rattle.flat_code.specs.declared.program.Node.TheVariants.{Do}
 use Rattle.mpp_inline.specs.declared.builder.Builder.{Builder}
 use Rattle.mpp_inline.specs.inner.Growth.{at, denoted, IsUsable, Sane, Known, Pushed, Along, Gives, TermStep}
@@ -51,8 +53,14 @@ applied-step {b} {b1} {b2} {b3} {c} {env} {i} {j} {k} {n} op values f1 f2 f3 p s
 pub undef-step : {b : Builder} (value : List Value → Value) → ((inputs : List Value) → Undef ≡ value inputs) → Sane b → Gives b b value 0
 undef-step value e s = record { grows = grows-none s; within = s.literal 0 (omega arith); value = λ inputs. s.undef inputs ∙ e inputs }
 
-pub zero-step : {b : Builder} (value : List Value → Value) → Sane b → ((inputs : List Value) → at b inputs 1 ≡ value inputs) → Gives b b value 1
-zero-step value s e = record { grows = grows-none s; within = s.literal 1 (omega arith); value = e }
+-- node 1 has the value of `present` of nothing, which is 0
+no-presence : Num (pos 0) ≡ op_value Present Undef Undef Undef
+unfolding op_value
+no-presence = refl
+
+pub zero-step : {b : Builder} (env : List ℕ) (cs : List ℕ) → cs ≡ [] → Sane b → TermStep b b env (λ y. term_value y (any_present cs)) 1
+zero-step {b} env cs e s = subst (λ l. TermStep b b env (λ y. term_value y (any_present l)) 1) (sym e)
+    (record { grows = grows-none s; within = s.literal 1 (omega arith); value = λ inputs. s.zero inputs ∙ no-presence })
 
 -- folds
 pub fold-first : {b : Builder} (rest : List Value → Value → Value) (k : ℕ) → Sane b → IsUsable b k → Along b b rest (λ inputs. rest inputs (at b inputs k)) k

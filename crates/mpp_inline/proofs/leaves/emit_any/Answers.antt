@@ -1,11 +1,12 @@
 use Rattle.std.proofs.Common.{◌≡◌, ◌+◌, ◌≤◌, ◌∷◌, length, sym, ap, subst, arith}
+use Rattle.std.proofs.lemmas.List.{nil_from_length}
 use Rattle.std.proofs.lemmas.Result.{IfOk-weaker, on_ok_weaker}
 use Rattle.micro_m.specs.Values.{environment, term_value, folded}
 use Rattle.driver_core.specs.Leaves.{then_present, any_present}
 use Rattle.mpp_inline.specs.inner.Growth.{IsUsable, at, denoted, Sane, Known, Gives, TermStep}
 use Rattle.mpp_inline.specs.inner.Sizes.{load}
 use Rattle.mpp_inline.proofs.CheckGrowth.{cell-step}
-use Rattle.mpp_inline.proofs.TermLemmas.{chain-step}
+use Rattle.mpp_inline.proofs.TermLemmas.{chain-step, zero-step}
 use Rattle.mpp_inline.proofs.leaves.emit_any.Goals as goal
 
 pub returns-in-Some-clause-step : goal.returns-in-Some-clause-step
@@ -35,4 +36,4 @@ returns-in-Some-clause-size c =
     c.emit_present.ensures.size
 
 pub returns-in-None-clause-step : goal.returns-in-None-clause-step
-returns-in-None-clause-step c = ?
+returns-in-None-clause-step c = λ s kn. zero-step c.args.env.now c.args.cells.now (nil_from_length c.args.cells.now c.in-None.ensures.cases) s
