@@ -1,7 +1,7 @@
 use Rattle.std.proofs.Common.{◌≡◌, ◌+◌, ◌∷◌, drop, get_or, length, ap, subst, arith}
 use Rattle.std.proofs.lemmas.List.{drop_all, drop_more}
 use Rattle.std.proofs.lemmas.Result.{IfOk-weaker}
-use Rattle.m_fixed.specs.declared.operator.Op.TheVariants.{Or, Present}
+use Rattle.m_fixed.specs.declared.operator.Op.TheVariants.{Present}
 use Rattle.micro_m.specs.Values.{environment, folded}
 use Rattle.driver_core.specs.Leaves.{then_present}
 use Rattle.flat_code.specs.declared.program.Node.TheVariants.{Do}
@@ -33,3 +33,14 @@ loop-cell-preserved c =
           (c.loop-cell.invariant.step s kn h))
           (cell-step x) (pushed-right c.look.ensures c.in_ok-number.ensures) kn;
     }
+
+pub returns-clause-step : goal.returns-clause-step
+returns-clause-step c =
+    let b = c.args.b.now in
+    let e = c.args.env.now in
+    let all = c.args.cells.now in
+    IfOk-weaker c.push-2.result (λ k. Pushed c.loop-cell.b c.push-2.new.self (Do Present c.loop-cell.number 0 0) k) _
+    (λ k p s kn h. fold-last (subst (λ l. Along b c.loop-cell.b (λ inputs v. folded (environment (denoted b inputs e)) v (then_present l))
+    (λ inputs. folded (environment (denoted b inputs e)) (at b inputs c.args.so_far) (then_present all)) c.loop-cell.number)
+    (drop_all c.loop-cell.cell-index all c.loop-cell-test.false) (c.loop-cell.invariant.step s kn h)) p)
+    c.push-2.ensures
