@@ -9,7 +9,7 @@ use Rattle.driver_core.specs.declared.program.Core.{Core}
 use Rattle.driver_core.specs.Actions.{Action, assign, clear, branch, partition, call, solve, Block, no_actions, an_action}
 use Rattle.driver_core.specs.ActionView.{block_of}
 use Rattle.driver_core.specs.Valid.{block_or_none, body_of}
-use Rattle.driver_core.specs.Weights.{action_weight, block_weight, formula_weight, names_changed_in, base_weight}
+use Rattle.driver_core.specs.Weights.{action_weight, block_weight, tree_weight, names_changed_in, base_weight}
 use Rattle.driver_core.specs.inner.Capped.{capped}
 use Rattle.driver_core.specs.inner.WeightTable.{ActionCallsOnly, CallsOnly, IsDone, IsTable, weight_in}
 use Rattle.driver_core.proofs.SumLemmas.{capped-sum}
@@ -24,7 +24,7 @@ module _ (r r' cells : ℕ) (t u : ℕ → ℕ) (P : ℕ → Type 0) (same_rules
         capped-sum _ (names_changed_in b) _ (names_changed_in b)
         (capped-sum _ (names_changed_in a) _ (names_changed_in a)
         (capped-sum _ (block_weight r cells t b) _ (block_weight r' cells u b)
-        (capped-sum (formula_weight f) (block_weight r cells t a) (formula_weight f) (block_weight r' cells u a) refl (capped-all a h.0)) (capped-all b h.1))
+        (capped-sum (tree_weight f) (block_weight r cells t a) (tree_weight f) (block_weight r' cells u a) refl (capped-all a h.0)) (capped-all b h.1))
         refl) refl
     capped-one (partition line xs a) h = capped-sum (block_weight r cells t a) cells (block_weight r' cells u a) cells (capped-all a h) refl
     capped-one (call line names xs f) h = capped-sum (t f) cells (u f) cells (same f h) refl

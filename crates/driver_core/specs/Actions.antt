@@ -1,6 +1,6 @@
 -- Commands of drivers as plain data.
 use Rattle.std.specs.Prelude.{ℕ, ◌+◌, List}
-use Rattle.driver_core.specs.Formulas.{Formula}
+use Rattle.micro_m.specs.Trees.{Tree}
 
 -- A command, with the number of its line. `if A:` on line 2 over `B = 1` on line 3, where A and B are the cells 0 and 1, is
 --   branch 2 (cell 0) (an_action (assign 3 1 (lit (Num (pos 1000000)))) no_actions) no_actions
@@ -9,9 +9,9 @@ mutual
   -- block with some cells undefined; a call of a function, and one of the rules. Calls have the
   -- count of the names left of `<-`, with repetitions, and then the received cells.
   pub data Action : Type 0 where
-    assign : ℕ → ℕ → Formula → Action
+    assign : ℕ → ℕ → Tree → Action
     clear : ℕ → ℕ → Action
-    branch : ℕ → Formula → Block → Block → Action
+    branch : ℕ → Tree → Block → Block → Action
     partition : ℕ → List ℕ → Block → Action
     call : ℕ → ℕ → List ℕ → ℕ → Action
     solve : ℕ → ℕ → List ℕ → Action

@@ -1,5 +1,4 @@
-pub mod Formulas
-pub mod FormulaView
+pub mod Leaves
 pub mod Actions
 pub mod ActionView
 pub mod Valid

@@ -1,56 +1,19 @@
 -- The semantics of a driver: commands change the values of the cells in sequence, and a stop ends
 -- the run.
-use Rattle.std.specs.Prelude.{ℕ, zero, suc, pos, List, [], ◌∷◌, Option, Some, None, length, slice_set, if◌then◌else◌, slice_get, option_map, option_and_then}
+use Rattle.std.specs.Prelude.{ℕ, zero, suc, List, [], ◌∷◌, Option, Some, None, length, slice_set, if◌then◌else◌, slice_get, option_map, option_and_then}
 use Rattle.m_fixed.specs.declared.amount.Value.{Value}
 use Rattle.m_fixed.specs.declared.amount.Value.TheVariants.{Undef, Num, Over}
-use Rattle.m_fixed.specs.declared.operator.Op.TheVariants.{Or, Present}
-use Rattle.m_fixed.specs.Operators.{op_value, is_zero}
+use Rattle.m_fixed.specs.Operators.{is_zero}
 use Rattle.m_places.specs.declared.verification.Label.{Label}
 use Rattle.micro_m.specs.declared.base.Base.{Base}
 use Rattle.micro_m.specs.declared.base.Failure.{Failure}
 use Rattle.micro_m.specs.declared.base.Failure.TheVariants.{Failed, Over as OverCheck}
-use Rattle.micro_m.specs.Values.{Environment, environment, applied, value_of}
+use Rattle.micro_m.specs.Values.{Environment, environment, term_value, value_of}
 use Rattle.micro_m.specs.Failures.{first_failure, notes_of}
 use Rattle.observables.specs.Answers.{Cause, failed, over, over_driver}
 use Rattle.driver_core.specs.declared.program.Core.{Core}
-use Rattle.driver_core.specs.Formulas.{Formula, lit, cell, apply, chain, exists, Formulas, no_formulas, a_formula, Steps, no_steps, a_step}
 use Rattle.driver_core.specs.Actions.{Action, assign, clear, branch, partition, call, solve, Block, no_actions, an_action}
 use Rattle.driver_core.specs.Valid.{body_among, body_of}
-
--- ---- the value of a term
-
--- whether a cell is defined: 1 or 0, or over if the cell is over
-abbrev pub present_in : Environment → ℕ → Value
-present_in values c = op_value Present (values c) Undef Undef
-
--- the value so far, or whether one of these cells is defined
-abbrev pub present_or : Environment → Value → List ℕ → Value
-present_or values so_far [] = so_far
-present_or values so_far (c ∷ cs) = present_or values (op_value Or so_far (present_in values c) Undef) cs
-
--- Whether one of these cells is defined: 0 if there are none, `present(A)` of one cell, and of more
--- `(present(A) or present(B)) or present(C)`.
-abbrev pub any_present : Environment → List ℕ → Value
-any_present values [] = Num (pos 0)
-any_present values (c ∷ cs) = present_or values (present_in values c) cs
-
-abbrev mutual
-  -- a term's value in an environment, by the operator table
-  pub formula_value : Environment → Formula → Value
-  formula_value values (lit value) = value
-  formula_value values (cell c) = values c
-  formula_value values (apply op arguments) = applied op (formula_values values arguments)
-  formula_value values (chain first steps) = steps_value values (formula_value values first) steps
-  formula_value values (exists cells) = any_present values cells
-
-  pub formula_values : Environment → Formulas → List Value
-  formula_values values no_formulas = []
-  formula_values values (a_formula argument rest) = formula_value values argument ∷ formula_values values rest
-
-  -- folds the steps, from the left, into the value so far: `A - B + C` is `(A - B) + C`
-  pub steps_value : Environment → Value → Steps → Value
-  steps_value values so_far no_steps = so_far
-  steps_value values so_far (a_step op operand rest) = steps_value values (op_value op so_far (formula_value values operand) Undef) rest
 
 -- ---- runs
 
@@ -120,10 +83,10 @@ module _ (rules : List ℕ → Env → RunState) (body : ℕ → Env → RunStat
     -- A call runs the body on a copy, of which only the received cells are copied back. Both keep
     -- the notes of their block or body.
     pub action_run : Action → Env → RunState
-    action_run (assign line c term) env = goes [] (slice_set env c (formula_value (environment env) term))
+    action_run (assign line c term) env = goes [] (slice_set env c (term_value (environment env) term))
     action_run (clear line c) env = goes [] (slice_set env c Undef)
     action_run (branch line condition first second) env =
-        chosen_block line (formula_value (environment env) condition) (block_run first env) (block_run second env)
+        chosen_block line (term_value (environment env) condition) (block_run first env) (block_run second env)
     action_run (partition line cells block) env =
         then_do (block_run block (without cells env)) (λ after. goes [] (with_values cells (environment env) after))
     action_run (call line names received function) env =

@@ -1,9 +1,8 @@
 -- Valid drivers: each cell and function that is named exists, and no function reaches itself by
 -- calls.
 use Rattle.std.specs.Prelude.{◌≡◌, ℕ, ◌<◌, ◌⊎◌, List, [], ◌∷◌, length, All, Option, None, Some, slice_get}
-use Rattle.micro_m.specs.Bases.{AreDistinctCells}
+use Rattle.micro_m.specs.Bases.{AreDistinctCells, IsWithin}
 use Rattle.driver_core.specs.declared.program.Core.{Core}
-use Rattle.driver_core.specs.Formulas.{Formula, lit, cell, apply, chain, exists, Formulas, no_formulas, a_formula, Steps, no_steps, a_step}
 use Rattle.driver_core.specs.Actions.{Action, assign, clear, branch, partition, call, solve, Block, no_actions, an_action}
 use Rattle.driver_core.specs.ActionView.{block_of}
 
@@ -26,29 +25,12 @@ abbrev pub CellsAreWithin : ℕ → List ℕ → Type 0
 CellsAreWithin cells named = All (λ c. c < cells) named
 
 abbrev mutual
-  -- each cell of a term is below a count
-  pub FormulaIsWithin : ℕ → Formula → Type 0
-  FormulaIsWithin cells (lit value) = Unit {0}
-  FormulaIsWithin cells (cell c) = c < cells
-  FormulaIsWithin cells (apply op arguments) = FormulasAreWithin cells arguments
-  FormulaIsWithin cells (chain first steps) = FormulaIsWithin cells first × StepsAreWithin cells steps
-  FormulaIsWithin cells (exists named) = CellsAreWithin cells named
-
-  pub FormulasAreWithin : ℕ → Formulas → Type 0
-  FormulasAreWithin cells no_formulas = Unit {0}
-  FormulasAreWithin cells (a_formula argument rest) = FormulaIsWithin cells argument × FormulasAreWithin cells rest
-
-  pub StepsAreWithin : ℕ → Steps → Type 0
-  StepsAreWithin cells no_steps = Unit {0}
-  StepsAreWithin cells (a_step op operand rest) = FormulaIsWithin cells operand × StepsAreWithin cells rest
-
-abbrev mutual
   -- each cell of a command is below a count, and each function too
   pub ActionIsWithin : ℕ → ℕ → Action → Type 0
-  ActionIsWithin cells functions (assign line c term) = (c < cells) × FormulaIsWithin cells term
+  ActionIsWithin cells functions (assign line c term) = (c < cells) × IsWithin cells term
   ActionIsWithin cells functions (clear line c) = c < cells
   ActionIsWithin cells functions (branch line condition first second) =
-      FormulaIsWithin cells condition × BlockIsWithin cells functions first × BlockIsWithin cells functions second
+      IsWithin cells condition × BlockIsWithin cells functions first × BlockIsWithin cells functions second
   ActionIsWithin cells functions (partition line named block) = CellsAreWithin cells named × BlockIsWithin cells functions block
   ActionIsWithin cells functions (call line names received function) = CellsAreWithin cells received × (function < functions)
   ActionIsWithin cells functions (solve line names received) = CellsAreWithin cells received

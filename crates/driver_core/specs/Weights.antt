@@ -3,39 +3,36 @@
 use Rattle.std.specs.Prelude.{ℕ, zero, suc, ◌+◌, ◌*◌, List, length}
 use Rattle.std.specs.List.{sum_by}
 use Rattle.micro_m.specs.declared.base.Base.{Base}
-use Rattle.micro_m.specs.Trees.{Tree, lit as lit_tree, cell as cell_tree, pick, apply as apply_tree, chain as chain_tree, Trees, none, more, Steps as TreeSteps}
-use Rattle.micro_m.specs.Trees.{end, step}
+use Rattle.micro_m.specs.Trees.{Tree, lit, cell, pick, apply, chain, Trees, none, more, Steps, end, step}
 use Rattle.micro_m.specs.Bases.{Definition}
 use Rattle.micro_m.specs.Failures.{Check}
 use Rattle.driver_core.specs.declared.program.Core.{Core}
-use Rattle.driver_core.specs.Formulas.{Formula, lit, cell, apply, chain, exists, Formulas, no_formulas, a_formula, Steps, no_steps, a_step}
 use Rattle.driver_core.specs.Actions.{Action, assign, clear, branch, partition, call, solve, Block, no_actions, an_action}
 use Rattle.driver_core.specs.Valid.{body_among, body_of}
 
--- ---- the base
+-- ---- terms and the base
 
 -- a table read adds 1 to a literal index, and to any other 2 and 2 for each cell
 abbrev pub read_weight : ℕ → Tree → ℕ → ℕ
-read_weight size (lit_tree value) index = index + 1
+read_weight size (lit value) index = index + 1
 read_weight size _ index = index + 2 * size + 2
 
 abbrev mutual
-  -- a term of the base has 1 for each literal, cell and operator; a list of n operands has n - 1
-  -- operators
+  -- a term has 1 for each literal, cell and operator; a list of n operands has n - 1 operators
   pub tree_weight : Tree → ℕ
-  tree_weight (lit_tree value) = 1
-  tree_weight (cell_tree c) = 1
+  tree_weight (lit value) = 1
+  tree_weight (cell c) = 1
   tree_weight (pick first size index) = read_weight size index (tree_weight index)
-  tree_weight (apply_tree op arguments) = trees_weight arguments + 1
-  tree_weight (chain_tree first steps) = tree_weight first + tree_steps_weight steps
+  tree_weight (apply op arguments) = trees_weight arguments + 1
+  tree_weight (chain first steps) = tree_weight first + steps_weight steps
 
   pub trees_weight : Trees → ℕ
   trees_weight none = 0
   trees_weight (more argument rest) = tree_weight argument + trees_weight rest
 
-  pub tree_steps_weight : TreeSteps → ℕ
-  tree_steps_weight end = 0
-  tree_steps_weight (step op operand rest) = tree_weight operand + 1 + tree_steps_weight rest
+  pub steps_weight : Steps → ℕ
+  steps_weight end = 0
+  steps_weight (step op operand rest) = tree_weight operand + 1 + steps_weight rest
 
 abbrev pub definition_weight : Definition → ℕ
 definition_weight definition = tree_weight definition.1 + 1
@@ -48,23 +45,6 @@ abbrev pub base_weight : Base → ℕ
 base_weight base = sum_by definition_weight base.definitions + sum_by check_weight base.checks
 
 -- ---- commands
-
-abbrev mutual
-  -- a term of a driver has the weight of one of the base, and `exists` 1 and 2 for each cell
-  pub formula_weight : Formula → ℕ
-  formula_weight (lit value) = 1
-  formula_weight (cell c) = 1
-  formula_weight (apply op arguments) = formulas_weight arguments + 1
-  formula_weight (chain first steps) = formula_weight first + steps_weight steps
-  formula_weight (exists cells) = 2 * length cells + 1
-
-  pub formulas_weight : Formulas → ℕ
-  formulas_weight no_formulas = 0
-  formulas_weight (a_formula argument rest) = formula_weight argument + formulas_weight rest
-
-  pub steps_weight : Steps → ℕ
-  steps_weight no_steps = 0
-  steps_weight (a_step op operand rest) = formula_weight operand + 1 + steps_weight rest
 
 abbrev mutual
   -- the count of names that a command sets, deletes or receives, including the commands in it, with
@@ -85,10 +65,10 @@ abbrev mutual
 module _ (rules cells : ℕ) (body : ℕ → ℕ) where
   abbrev mutual
     pub action_weight : Action → ℕ
-    action_weight (assign line c term) = formula_weight term
+    action_weight (assign line c term) = tree_weight term
     action_weight (clear line c) = 1
     action_weight (branch line condition first second) =
-        formula_weight condition + block_weight first + block_weight second + names_changed_in first + names_changed_in second
+        tree_weight condition + block_weight first + block_weight second + names_changed_in first + names_changed_in second
     action_weight (partition line named block) = block_weight block + cells
     action_weight (call line names received function) = body function + cells
     action_weight (solve line names received) = rules

@@ -1,7 +1,6 @@
--- The logic's encoding of terms and commands, and what only the contracts of inner functions use.
+-- The logic's encoding of commands, and what only the contracts of inner functions use.
 -- The public contracts use none of it.
-pub mod FormulaCoding
-pub mod FormulaFalls
+pub mod LeafLaws
 pub mod ActionCoding
 pub mod ActionFalls
 pub mod Numbers

@@ -24,5 +24,5 @@ pub use command::{CCommand, CCommandNode};
 pub use kind_cells::KindCells;
 pub use kind_index::KindIndex;
 pub use program::Core;
-pub use term::{CNode, CStep, CTerm};
+pub use term::{CLeaf, CTerm};
 pub use weigh_driver::weight;

@@ -1,60 +1,46 @@
 //! The weight of terms and of a base.
 
 ghost use Rattle.std.specs.Prelude.{◌≡◌, ◌+◌, ◌*◌};
-ghost use Rattle.driver_core.specs.FormulaView.{formulas_of, steps_of as formula_steps_of};
-ghost use Rattle.driver_core.specs.Weights.{tree_weight, trees_weight, tree_steps_weight, read_weight};
-ghost use Rattle.driver_core.specs.Weights.{definition_weight, check_weight, base_weight, formula_weight, formulas_weight, steps_weight};
+ghost use Rattle.driver_core.specs.Weights.{tree_weight, trees_weight, steps_weight, read_weight};
+ghost use Rattle.driver_core.specs.Weights.{definition_weight, check_weight, base_weight};
 ghost use Rattle.std.specs.List.{sum_by};
+ghost use Rattle.micro_m.specs.Leaves.{written, all_written, along_written};
 ghost use Rattle.micro_m.specs.Views.{trees_of, steps_of};
 ghost use Rattle.driver_core.specs.inner.Capped.{capped};
 
-use crate::{CNode, CStep, CTerm};
-use micro_m::{Base, MNode, MTerm, Step};
+use crate::CLeaf;
+use micro_m::{Base, Leaf, MNode, MTerm, Step};
 
-/// The weight of a term of the driver.
-#[cycle(formulas)]
-pub fn weigh_formula(term: &CTerm) -> u64
-    ensures { result ≡ capped (formula_weight term.now) }
-{
-    match &term.node {
-        CNode::Lit(_) => 1,
-        CNode::Cell(_) => 1,
-        CNode::Apply(_, arguments) => weigh_formulas(arguments).saturating_add(1),
-        CNode::Chain(first, steps) => weigh_formula(first).saturating_add(weigh_further(steps)),
-        CNode::Exists(cells) => cells.len().saturating_mul(2).saturating_add(1),
+/// A leaf that has a weight.
+pub trait Weighed: Leaf {
+    /// The weight of the leaf.
+    fn weigh(&self) -> u64
+        ensures { result ≡ capped (tree_weight (Self.leaf_tree self.now)) };
+}
+
+impl Weighed for u32 {
+    fn weigh(&self) -> u64 {
+        1
     }
 }
 
-#[cycle(formulas)]
-fn weigh_formulas(arguments: &[CTerm]) -> u64
-    ensures { result ≡ capped (formulas_weight (formulas_of arguments.now)) }
-{
-    let mut total: u64 = 0;
-    for argument in arguments {
-        total = total.saturating_add(weigh_formula(argument));
+impl Weighed for CLeaf {
+    fn weigh(&self) -> u64 {
+        match self {
+            CLeaf::Cell(_) => 1,
+            CLeaf::Exists(cells) => cells.len().saturating_mul(2).saturating_add(1),
+        }
     }
-    total
 }
 
-#[cycle(formulas)]
-fn weigh_further(steps: &[CStep]) -> u64
-    ensures { result ≡ capped (steps_weight (formula_steps_of steps.now)) }
-{
-    let mut total: u64 = 0;
-    for step in steps {
-        total = total.saturating_add(weigh_formula(&step.term).saturating_add(1));
-    }
-    total
-}
-
-/// The weight of a term of the base.
+/// The weight of a term.
 #[cycle(trees)]
-fn weigh_tree(term: &MTerm) -> u64
-    ensures { result ≡ capped (tree_weight term.now) }
+pub fn weigh_tree<L: Weighed>(term: &MTerm<L>) -> u64
+    ensures { result ≡ capped (tree_weight (written L.leaf_tree term.now)) }
 {
     match &term.node {
         MNode::Lit(_) => 1,
-        MNode::Cell(_) => 1,
+        MNode::Cell(leaf) => leaf.weigh(),
         MNode::Pick(_, size, index) => read_at(*size, index, weigh_tree(index)),
         MNode::Apply(_, arguments) => weigh_trees(arguments).saturating_add(1),
         MNode::Chain(first, steps) => weigh_tree(first).saturating_add(weigh_steps(steps)),
@@ -62,8 +48,8 @@ fn weigh_tree(term: &MTerm) -> u64
 }
 
 #[cycle(trees)]
-fn weigh_trees(arguments: &[MTerm]) -> u64
-    ensures { result ≡ capped (trees_weight (trees_of arguments.now)) }
+fn weigh_trees<L: Weighed>(arguments: &[MTerm<L>]) -> u64
+    ensures { result ≡ capped (trees_weight (all_written L.leaf_tree (trees_of arguments.now))) }
 {
     let mut total: u64 = 0;
     for argument in arguments {
@@ -73,8 +59,8 @@ fn weigh_trees(arguments: &[MTerm]) -> u64
 }
 
 #[cycle(trees)]
-fn weigh_steps(steps: &[Step]) -> u64
-    ensures { result ≡ capped (tree_steps_weight (steps_of steps.now)) }
+fn weigh_steps<L: Weighed>(steps: &[Step<L>]) -> u64
+    ensures { result ≡ capped (steps_weight (along_written L.leaf_tree (steps_of steps.now))) }
 {
     let mut total: u64 = 0;
     for step in steps {
@@ -83,23 +69,23 @@ fn weigh_steps(steps: &[Step]) -> u64
     total
 }
 
-/// The weight of a read of a table of this size at an index of this weight.
-fn read_at(size: u32, index: &MTerm, weight: u64) -> u64
-    ensures { result ≡ capped (read_weight size index.now weight) }
+/// The weight of a term of the base.
+fn weigh_rule(term: &MTerm) -> u64
+    ensures { result ≡ capped (tree_weight term.now) }
 {
-    match &index.node {
-        MNode::Lit(_) => weight.saturating_add(1),
-        MNode::Cell(_) => whole_table(size, weight),
-        MNode::Pick(_, _, _) => whole_table(size, weight),
-        MNode::Apply(_, _) => whole_table(size, weight),
-        MNode::Chain(_, _) => whole_table(size, weight),
-    }
+    weigh_tree(term)
 }
 
-fn whole_table(size: u32, weight: u64) -> u64
-    ensures { result ≡ capped (weight + 2 * size + 2) }
+/// The weight of a read of a table of this size at an index of this weight.
+fn read_at<L: Leaf>(size: u32, index: &MTerm<L>, weight: u64) -> u64
+    ensures { result ≡ capped (read_weight size (written L.leaf_tree index.now) weight) }
 {
-    weight.saturating_add(2 * size as u64).saturating_add(2)
+    match index.literal() {
+        Some(_) => weight.saturating_add(1),
+        None => weight
+            .saturating_add(2 * size as u64)
+            .saturating_add(2),
+    }
 }
 
 /// The weight of a base.
@@ -114,7 +100,7 @@ fn weigh_definitions(base: &Base) -> u64
 {
     let mut total: u64 = 0;
     for (_, term, _) in base.definitions.as_slice() {
-        total = total.saturating_add(weigh_tree(term).saturating_add(1));
+        total = total.saturating_add(weigh_rule(term).saturating_add(1));
     }
     total
 }
@@ -124,7 +110,7 @@ fn weigh_checks(base: &Base) -> u64
 {
     let mut total: u64 = 0;
     for (condition, _, _) in base.checks.as_slice() {
-        total = total.saturating_add(weigh_tree(condition).saturating_add(1));
+        total = total.saturating_add(weigh_rule(condition).saturating_add(1));
     }
     total
 }

@@ -6,7 +6,7 @@ ghost use Rattle.driver_core.specs.Weights.{action_weight, block_weight, names_c
 ghost use Rattle.driver_core.specs.inner.Capped.{capped};
 ghost use Rattle.driver_core.specs.inner.WeightTable.{IsDone, CallsOnly, ActionCallsOnly};
 
-use crate::weigh_base::weigh_formula;
+use crate::weigh_base::weigh_tree;
 use crate::{CCommand, CCommandNode};
 
 /// The weight of a block, given the weight and the cells of the base, and the weights of the
@@ -27,9 +27,9 @@ fn weigh_command(command: &CCommand, rules: u64, cells: u64, table: &[u64]) -> u
     ensures { result ≡ capped (action_weight rules cells (λ f. slice_index_or table.now f 0) command.now) }
 {
     match &command.node {
-        CCommandNode::Set(_, _, term) => weigh_formula(term),
+        CCommandNode::Set(_, _, term) => weigh_tree(term),
         CCommandNode::Del(_, _) => 1,
-        CCommandNode::If(_, condition, first, second) => weigh_formula(condition)
+        CCommandNode::If(_, condition, first, second) => weigh_tree(condition)
             .saturating_add(weigh_block(first, rules, cells, table))
             .saturating_add(weigh_block(second, rules, cells, table))
             .saturating_add(names_in(first))

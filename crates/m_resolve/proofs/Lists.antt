@@ -29,7 +29,7 @@ terms_fault d before all i a whole fault h e s f =
     sym s ∙ ap (λ l. resolved_terms d before (terms_of l)) (drop_next all i a h e)
     ∙ ap (if_resolved (λ t. resolved_terms d (before ++ t ∷ []) (terms_of (drop (i + 1) all)))) f
 
-links_fault : (d : Declared) (before : List Step) (all : List PLink) (i : ℕ) (a : PLink) (whole : Result (List Step) ResolveFault) (fault : ResolveFault)
+links_fault : (d : Declared) (before : List (Step ℕ)) (all : List PLink) (i : ℕ) (a : PLink) (whole : Result (List (Step ℕ)) ResolveFault) (fault : ResolveFault)
     → i < length all → a ≡ get_or all i a
     → resolved_links d before (links_of (drop i all)) ≡ whole → resolved_term d a.term ≡ Err fault → whole ≡ Err fault
 links_fault d before all i a whole fault h e s f =
@@ -37,7 +37,7 @@ links_fault d before all i a whole fault h e s f =
     ∙ ap (if_resolved (λ t. resolved_links d (before ++ record { op = a.op; term = t } ∷ []) (links_of (drop (i + 1) all)))) f
 
 -- an error in a link of a left fold whose first operand has none
-pub chain_fault : (d : Declared) (first : Syntax) (before : List Step) (all : List PLink) (i : ℕ) (a : PLink) (f : Tree) (fault : ResolveFault)
+pub chain_fault : (d : Declared) (first : Syntax) (before : List (Step ℕ)) (all : List PLink) (i : ℕ) (a : PLink) (f : Tree) (fault : ResolveFault)
     → resolved_term d first ≡ Ok f → i < length all → a ≡ get_or all i a
     → resolved_links d before (links_of (drop i all)) ≡ resolved_links d [] (links_of all) → resolved_term d a.term ≡ Err fault
     → if_resolved (λ g. if_resolved (λ steps. Ok (chain g (steps_of steps))) (resolved_links d [] (links_of all))) (resolved_term d first) ≡ Err fault

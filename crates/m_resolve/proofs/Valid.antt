@@ -98,10 +98,10 @@ trees_within : (n : ℕ) (ts : List Tree) → AllByRecursion (IsWithin n) ts →
 trees_within n [] h = tt
 trees_within n (t ∷ ts) h = (h.0, trees_within n ts h.1)
 
-abbrev StepIsWithin : ℕ → Step → Type 0
+abbrev StepIsWithin : ℕ → Step ℕ → Type 0
 StepIsWithin n s = IsWithin n s.term
 
-steps_within : (n : ℕ) (ss : List Step) → AllByRecursion (StepIsWithin n) ss → StepsAreWithin n (steps_of ss)
+steps_within : (n : ℕ) (ss : List (Step ℕ)) → AllByRecursion (StepIsWithin n) ss → StepsAreWithin n (steps_of ss)
 steps_within n [] h = tt
 steps_within n (s ∷ ss) h = (h.0, steps_within n ss h.1)
 
@@ -109,12 +109,12 @@ member_within : (n : ℕ) (single : Bool) (x low high : Tree) → IsWithin n x �
 member_within n true x low high a b c = (a, (b, tt))
 member_within n false x low high a b c = ((a, (b, tt)), ((a, (c, tt)), tt))
 
-any_within : (n : ℕ) (members : List Step) → AllByRecursion (StepIsWithin n) members → IsWithin n (any_of members)
+any_within : (n : ℕ) (members : List (Step ℕ)) → AllByRecursion (StepIsWithin n) members → IsWithin n (any_of members)
 any_within n [] h = tt
 any_within n (m ∷ []) h = h.0
 any_within n (m ∷ s ∷ rest) h = (h.0, steps_within n (s ∷ rest) h.1)
 
-membership_within : (n : ℕ) (negated : Bool) (members : List Step) → AllByRecursion (StepIsWithin n) members → IsWithin n (membership negated members)
+membership_within : (n : ℕ) (negated : Bool) (members : List (Step ℕ)) → AllByRecursion (StepIsWithin n) members → IsWithin n (membership negated members)
 membership_within n false members h = any_within n members h
 membership_within n true members h = (any_within n members h, tt)
 
@@ -154,7 +154,7 @@ mutual
       let k = resolved_by (λ t. resolved_terms d (before ++ t ∷ []) rest) (resolved_term d a) ts e in
       terms_within d (before ++ k.0 ∷ []) rest ts p (all_push _ before k.0 h (term_within d a k.0 p k.1)) k.2
 
-  links_within : (d : Declared) (before : List Step) (all : Links) (ss : List Step) → IsPlaced d
+  links_within : (d : Declared) (before : List (Step ℕ)) (all : Links) (ss : List (Step ℕ)) → IsPlaced d
       → AllByRecursion (StepIsWithin (length (owners_from 0 d.variables))) before → resolved_links d before all ≡ Ok ss
       → AllByRecursion (StepIsWithin (length (owners_from 0 d.variables))) ss
   links_within d before no_links ss p h e = subst (AllByRecursion (StepIsWithin (length (owners_from 0 d.variables)))) (value_of_ok before ss e) h
@@ -163,7 +163,7 @@ mutual
       links_within d (before ++ record { op = op; term = k.0 } ∷ []) rest ss p
       (all_push _ before (record { op = op; term = k.0 }) h (term_within d a k.0 p k.1)) k.2
 
-  members_within : (d : Declared) (x : Tree) (before : List Step) (all : Members) (ss : List Step) → IsPlaced d
+  members_within : (d : Declared) (x : Tree) (before : List (Step ℕ)) (all : Members) (ss : List (Step ℕ)) → IsPlaced d
       → IsWithin (length (owners_from 0 d.variables)) x → AllByRecursion (StepIsWithin (length (owners_from 0 d.variables))) before
       → resolved_members d x before all ≡ Ok ss → AllByRecursion (StepIsWithin (length (owners_from 0 d.variables))) ss
   members_within d x before no_members ss p i h e = subst (AllByRecursion (StepIsWithin (length (owners_from 0 d.variables)))) (value_of_ok before ss e) h

@@ -9,7 +9,7 @@ use Rattle.m_ast.specs.Syntax.{Syntax, lit, named, the_x, cell, apply, chain, am
 use Rattle.m_ast.specs.Syntax.{no_members, a_member}
 use Rattle.m_symbols.specs.declared.variable.Variable.{Variable}
 use Rattle.m_symbols.specs.Declarations.{Declared}
-use Rattle.micro_m.specs.Trees.{Tree, lit as lit_tree, cell as cell_tree, pick, apply as apply_tree, chain as chain_tree, none, more}
+use Rattle.micro_m.specs.Trees.{Tree, lit as lit_tree, cell as cell_tree, pick, apply as apply_tree, chain as chain_tree, none, more, end, step}
 use Rattle.micro_m.specs.Views.{trees_of, steps_of}
 use Rattle.micro_m.specs.declared.term.Step.{Step}
 use Rattle.m_symbols.specs.Cells.{variable_named}
@@ -55,15 +55,15 @@ resolved_table declared name place = table_of_variable name place (variable_name
 abbrev pub member_by : Bool → Tree → Tree → Tree → Tree
 member_by true x low high = apply_tree Eq (more x (more low none))
 member_by false x low high = chain_tree (apply_tree Ge (more x (more low none)))
-    (steps_of (record { op = And; term = apply_tree Le (more x (more high none)) } ∷ []))
+    (step And (apply_tree Le (more x (more high none))) end)
 
 -- members joined by `ou`, which is the operator of each step; one member is itself
-abbrev pub any_of : List Step → Tree
+abbrev pub any_of : List (Step ℕ) → Tree
 any_of [] = lit_tree Undef
 any_of (member ∷ []) = member.term
 any_of (member ∷ second ∷ members) = chain_tree member.term (steps_of (second ∷ members))
 
-abbrev pub membership : Bool → List Step → Tree
+abbrev pub membership : Bool → List (Step ℕ) → Tree
 membership false members = any_of members
 membership true members = apply_tree Not (more (any_of members) none)
 
@@ -96,13 +96,13 @@ abbrev mutual
   resolved_terms declared before no_terms = Ok before
   resolved_terms declared before (a_term a rest) = if_resolved (λ t. resolved_terms declared (before ++ t ∷ []) rest) (resolved_term declared a)
 
-  pub resolved_links : Declared → List Step → Links → Result (List Step) ResolveFault
+  pub resolved_links : Declared → List (Step ℕ) → Links → Result (List (Step ℕ)) ResolveFault
   resolved_links declared before no_links = Ok before
   resolved_links declared before (a_link op a rest) = if_resolved (λ t. resolved_links declared (before ++ record { op = op; term = t } ∷ []) rest)
       (resolved_term declared a)
 
   -- members of a membership of x, each as a step with `ou`
-  pub resolved_members : Declared → Tree → List Step → Members → Result (List Step) ResolveFault
+  pub resolved_members : Declared → Tree → List (Step ℕ) → Members → Result (List (Step ℕ)) ResolveFault
   resolved_members declared x before no_members = Ok before
   resolved_members declared x before (a_member low high rest) =
       if_resolved (λ m. resolved_members declared x (before ++ record { op = Or; term = m } ∷ []) rest)

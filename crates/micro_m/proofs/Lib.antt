@@ -1,3 +1,4 @@
+pub mod LeafLemmas
 pub mod NumberLemmas
 pub mod PositionLemmas
 pub mod ReadTestLemmas

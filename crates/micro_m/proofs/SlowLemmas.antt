@@ -39,7 +39,7 @@ nodes-argument [] at x h e = absurd (omega arith)
 nodes-argument (a ∷ all) zero x h e = let n : nodes x ≡ nodes a = ap nodes e in omega arith
 nodes-argument (a ∷ all) (suc at) x h e = let low = nodes-argument all at x (omega arith) e in omega arith
 
-pub nodes-step : (all : List Step) (at : ℕ) (x : Step) → at < length all → x ≡ get_or all at x → nodes x.term < nodes_along (steps_of all)
+pub nodes-step : (all : List (Step ℕ)) (at : ℕ) (x : Step ℕ) → at < length all → x ≡ get_or all at x → nodes x.term < nodes_along (steps_of all)
 nodes-step [] at x h e = absurd (omega arith)
-nodes-step (a ∷ all) zero x h e = let n : nodes x.term ≡ nodes a.term = ap (λ (s : Step). nodes s.term) e in omega arith
+nodes-step (a ∷ all) zero x h e = let n : nodes x.term ≡ nodes a.term = ap (λ (s : Step ℕ). nodes s.term) e in omega arith
 nodes-step (a ∷ all) (suc at) x h e = let low = nodes-step all at x (omega arith) e in omega arith

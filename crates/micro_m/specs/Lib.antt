@@ -1,5 +1,6 @@
 pub mod Bases
 pub mod Failures
+pub mod Leaves
 pub mod ReadTests
 pub mod Reads
 pub mod Trees

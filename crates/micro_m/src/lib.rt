@@ -8,6 +8,7 @@
 
 mod base;
 mod laws;
+mod leaf;
 mod slow;
 mod table;
 mod term;
@@ -15,6 +16,7 @@ mod value;
 
 pub use base::{Base, Failure};
 pub use laws::{further_turns_change_nothing, only_reads_matter, solution_is_one, values_solve};
+pub use leaf::Leaf;
 pub use m_places::{ErrorKind, Label};
 pub use slow::slow_value;
 pub use table::{Picked, pick};

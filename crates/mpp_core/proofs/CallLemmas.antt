@@ -28,21 +28,21 @@ moved (inl b) = inl (inr b)
 moved (inr c) = inr c
 
 -- what concatenated steps read, the first or the second read
-either_reads : (first second : List Step) (g : ℕ) → StepsRead (steps_of (first ++ second)) g → StepsRead (steps_of first) g ⊎ StepsRead (steps_of second) g
+either_reads : (first second : List (Step ℕ)) (g : ℕ) → StepsRead (steps_of (first ++ second)) g → StepsRead (steps_of first) g ⊎ StepsRead (steps_of second) g
 either_reads [] second g k = inr k
 either_reads (s ∷ first) second g (inl k) = inl (inl k)
 either_reads (s ∷ first) second g (inr k) = moved (either_reads first second g k)
 
-first_reads : (first second : List Step) (g : ℕ) → StepsRead (steps_of first) g → StepsRead (steps_of (first ++ second)) g
+first_reads : (first second : List (Step ℕ)) (g : ℕ) → StepsRead (steps_of first) g → StepsRead (steps_of (first ++ second)) g
 first_reads [] second g k = absurd k
 first_reads (s ∷ first) second g (inl k) = inl k
 first_reads (s ∷ first) second g (inr k) = inr (first_reads first second g k)
 
-second_reads : (first second : List Step) (g : ℕ) → StepsRead (steps_of second) g → StepsRead (steps_of (first ++ second)) g
+second_reads : (first second : List (Step ℕ)) (g : ℕ) → StepsRead (steps_of second) g → StepsRead (steps_of (first ++ second)) g
 second_reads [] second g k = k
 second_reads (s ∷ first) second g k = inr (second_reads first second g k)
 
-both_within : (n : ℕ) (first second : List Step) → StepsAreWithin n (steps_of first) → StepsAreWithin n (steps_of second)
+both_within : (n : ℕ) (first second : List (Step ℕ)) → StepsAreWithin n (steps_of first) → StepsAreWithin n (steps_of second)
     → StepsAreWithin n (steps_of (first ++ second))
 both_within n [] second h k = k
 both_within n (s ∷ first) second h k = (h.0, both_within n first second h.1 k)

@@ -27,13 +27,14 @@ use Rattle.mpp_parser.specs.declared.term.Kind.TheVariants.{Attribute}
 use Rattle.mpp_parser.specs.declared.command.Function.{Function}
 use Rattle.mpp_parser.specs.declared.command.Driver.{Driver}
 use Rattle.driver_core.specs.declared.program.Core.{Core}
-use Rattle.driver_core.specs.Formulas.{Formula, lit as lit_formula, cell as cell_formula, apply as apply_formula, chain as chain_formula}
-use Rattle.driver_core.specs.Formulas.{exists as exists_formula}
-use Rattle.driver_core.specs.FormulaView.{formulas_of, steps_of}
-use Rattle.driver_core.specs.declared.term.CStep.{CStep}
+use Rattle.micro_m.specs.Bases.{IsWithin, AreWithin, StepsAreWithin}
+use Rattle.micro_m.specs.Trees.{Tree, lit as lit_tree, cell as cell_tree, apply as apply_tree, chain as chain_tree}
+use Rattle.micro_m.specs.Views.{trees_of, steps_of}
+use Rattle.micro_m.specs.declared.term.Step.{Step}
+use Rattle.driver_core.specs.Leaves.{then_present, any_present}
 use Rattle.driver_core.specs.Actions.{Action, assign, clear, branch, partition as partition_action, call as call_action, solve}
 use Rattle.driver_core.specs.ActionView.{block_of}
-use Rattle.driver_core.specs.Valid.{FormulaIsWithin, FormulasAreWithin, StepsAreWithin, ActionIsWithin, BlockIsWithin, IsInRange}
+use Rattle.driver_core.specs.Valid.{ActionIsWithin, BlockIsWithin, IsInRange}
 use Rattle.mpp_core.specs.declared.fault.CoreFault.{CoreFault}
 use Rattle.mpp_core.specs.declared.fault.CoreFault.TheVariants.{FunctionTwice}
 use Rattle.mpp_core.specs.Names.{if_resolved, table_cell, cell_at, cell_of_variable, resolved_cell, constant_target, target_of_variable, resolved_target}
@@ -173,47 +174,55 @@ kind_within d (Attribute attribute values) p = kinds_within (length (owners_from
 
 -- ---- terms
 
-formulas_within : (n : ℕ) (ts : List Formula) → AllByRecursion (FormulaIsWithin n) ts → FormulasAreWithin n (formulas_of ts)
-formulas_within n [] h = tt
-formulas_within n (t ∷ ts) h = (h.0, formulas_within n ts h.1)
+trees_within : (n : ℕ) (ts : List Tree) → AllByRecursion (IsWithin n) ts → AreWithin n (trees_of ts)
+trees_within n [] h = tt
+trees_within n (t ∷ ts) h = (h.0, trees_within n ts h.1)
 
-abbrev StepIsWithin : ℕ → CStep → Type 0
-StepIsWithin n s = FormulaIsWithin n s.term
+abbrev StepIsWithin : ℕ → Step ℕ → Type 0
+StepIsWithin n s = IsWithin n s.term
 
-steps_within : (n : ℕ) (ss : List CStep) → AllByRecursion (StepIsWithin n) ss → StepsAreWithin n (steps_of ss)
+steps_within : (n : ℕ) (ss : List (Step ℕ)) → AllByRecursion (StepIsWithin n) ss → StepsAreWithin n (steps_of ss)
 steps_within n [] h = tt
 steps_within n (s ∷ ss) h = (h.0, steps_within n ss h.1)
 
+then_within : (n : ℕ) (cs : List ℕ) → AllByRecursion (λ c. c < n) cs → StepsAreWithin n (then_present cs)
+then_within n [] h = (tt, tt)
+then_within n (c ∷ cs) h = (h.0, then_within n cs h.1)
+
+present_within : (n : ℕ) (cs : List ℕ) → AllByRecursion (λ c. c < n) cs → IsWithin n (any_present cs)
+present_within n [] h = tt
+present_within n (c ∷ cs) h = (h.0, then_within n cs h.1)
+
 mutual
-  term_within : (d : Declared) (line : ℕ) (s : Term) (t : Formula) → IsPlaced d → resolved_term d line s ≡ Ok t
-      → FormulaIsWithin (length (owners_from 0 d.variables)) t
-  term_within d line (lit value) t p e = subst (FormulaIsWithin (length (owners_from 0 d.variables))) (value_of_ok (lit_formula value) t e) tt
+  term_within : (d : Declared) (line : ℕ) (s : Term) (t : Tree) → IsPlaced d → resolved_term d line s ≡ Ok t
+      → IsWithin (length (owners_from 0 d.variables)) t
+  term_within d line (lit value) t p e = subst (IsWithin (length (owners_from 0 d.variables))) (value_of_ok (lit_tree value) t e) tt
   term_within d line (named cell) t p e =
-      let k = resolved_by (λ c. Ok (cell_formula c)) (resolved_cell d line cell) t e in
-      subst (FormulaIsWithin (length (owners_from 0 d.variables))) (value_of_ok (cell_formula k.0) t k.2) (cell_within d line k.0 cell p k.1)
+      let k = resolved_by (λ c. Ok (cell_tree c)) (resolved_cell d line cell) t e in
+      subst (IsWithin (length (owners_from 0 d.variables))) (value_of_ok (cell_tree k.0) t k.2) (cell_within d line k.0 cell p k.1)
   term_within d line (apply op all) t p e =
-      let k = resolved_by (λ arguments. Ok (apply_formula op (formulas_of arguments))) (resolved_terms d line [] all) t e in
-      subst (FormulaIsWithin (length (owners_from 0 d.variables))) (value_of_ok (apply_formula op (formulas_of k.0)) t k.2)
-      (formulas_within _ k.0 (terms_within d line [] all k.0 p tt k.1))
+      let k = resolved_by (λ arguments. Ok (apply_tree op (trees_of arguments))) (resolved_terms d line [] all) t e in
+      subst (IsWithin (length (owners_from 0 d.variables))) (value_of_ok (apply_tree op (trees_of k.0)) t k.2)
+      (trees_within _ k.0 (terms_within d line [] all k.0 p tt k.1))
   term_within d line (chain first links) t p e =
-      let k = resolved_by (λ f. if_resolved (λ steps. Ok (chain_formula f (steps_of steps))) (resolved_links d line [] links)) (resolved_term d line first) t
+      let k = resolved_by (λ f. if_resolved (λ steps. Ok (chain_tree f (steps_of steps))) (resolved_links d line [] links)) (resolved_term d line first) t
       e in
-      let m = resolved_by (λ steps. Ok (chain_formula k.0 (steps_of steps))) (resolved_links d line [] links) t k.2 in
-      subst (FormulaIsWithin (length (owners_from 0 d.variables))) (value_of_ok (chain_formula k.0 (steps_of m.0)) t m.2)
+      let m = resolved_by (λ steps. Ok (chain_tree k.0 (steps_of steps))) (resolved_links d line [] links) t k.2 in
+      subst (IsWithin (length (owners_from 0 d.variables))) (value_of_ok (chain_tree k.0 (steps_of m.0)) t m.2)
       (term_within d line first k.0 p k.1, steps_within _ m.0 (links_within d line [] links m.0 p tt m.1))
   term_within d line (exists kind) t p e =
-      subst (FormulaIsWithin (length (owners_from 0 d.variables))) (value_of_ok (exists_formula (kind_cells d kind)) t e)
-      (all_of (λ c. c < length (owners_from 0 d.variables)) (kind_cells d kind) (kind_within d kind p))
+      subst (IsWithin (length (owners_from 0 d.variables))) (value_of_ok (any_present (kind_cells d kind)) t e)
+      (present_within (length (owners_from 0 d.variables)) (kind_cells d kind) (kind_within d kind p))
 
-  terms_within : (d : Declared) (line : ℕ) (before : List Formula) (all : Terms) (ts : List Formula) → IsPlaced d
-      → AllByRecursion (FormulaIsWithin (length (owners_from 0 d.variables))) before
-      → resolved_terms d line before all ≡ Ok ts → AllByRecursion (FormulaIsWithin (length (owners_from 0 d.variables))) ts
-  terms_within d line before no_terms ts p h e = subst (AllByRecursion (FormulaIsWithin (length (owners_from 0 d.variables)))) (value_of_ok before ts e) h
+  terms_within : (d : Declared) (line : ℕ) (before : List Tree) (all : Terms) (ts : List Tree) → IsPlaced d
+      → AllByRecursion (IsWithin (length (owners_from 0 d.variables))) before
+      → resolved_terms d line before all ≡ Ok ts → AllByRecursion (IsWithin (length (owners_from 0 d.variables))) ts
+  terms_within d line before no_terms ts p h e = subst (AllByRecursion (IsWithin (length (owners_from 0 d.variables)))) (value_of_ok before ts e) h
   terms_within d line before (a_term a rest) ts p h e =
       let k = resolved_by (λ t. resolved_terms d line (before ++ t ∷ []) rest) (resolved_term d line a) ts e in
       terms_within d line (before ++ k.0 ∷ []) rest ts p (all_push _ before k.0 h (term_within d line a k.0 p k.1)) k.2
 
-  links_within : (d : Declared) (line : ℕ) (before : List CStep) (all : Links) (ss : List CStep) → IsPlaced d
+  links_within : (d : Declared) (line : ℕ) (before : List (Step ℕ)) (all : Links) (ss : List (Step ℕ)) → IsPlaced d
       → AllByRecursion (StepIsWithin (length (owners_from 0 d.variables))) before
       → resolved_links d line before all ≡ Ok ss → AllByRecursion (StepIsWithin (length (owners_from 0 d.variables))) ss
   links_within d line before no_links ss p h e = subst (AllByRecursion (StepIsWithin (length (owners_from 0 d.variables)))) (value_of_ok before ss e) h

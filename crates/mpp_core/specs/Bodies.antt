@@ -7,10 +7,10 @@ use Rattle.mpp_parser.specs.Trees.{Term, lit, named, apply, chain, exists, Terms
 use Rattle.mpp_parser.specs.Commands.{Act, set, del, when, partition, call, Acts, no_acts, an_act}
 use Rattle.mpp_parser.specs.CommandView.{block_of as acts_of}
 use Rattle.mpp_parser.specs.declared.command.Function.{Function}
-use Rattle.driver_core.specs.Formulas.{Formula, lit as lit_formula, cell as cell_formula, apply as apply_formula, chain as chain_formula}
-use Rattle.driver_core.specs.Formulas.{exists as exists_formula}
-use Rattle.driver_core.specs.FormulaView.{formulas_of, steps_of}
-use Rattle.driver_core.specs.declared.term.CStep.{CStep}
+use Rattle.micro_m.specs.Trees.{Tree, lit as lit_tree, cell as cell_tree, apply as apply_tree, chain as chain_tree}
+use Rattle.micro_m.specs.Views.{trees_of, steps_of}
+use Rattle.micro_m.specs.declared.term.Step.{Step}
+use Rattle.driver_core.specs.Leaves.{any_present}
 use Rattle.driver_core.specs.Actions.{Action, assign, clear, branch, partition as partition_action, call as call_action, solve}
 use Rattle.driver_core.specs.ActionView.{block_of}
 use Rattle.mpp_core.specs.Names.{if_resolved, resolved_cell, resolved_target, resolved_targets, each_once, kind_cells, rules_name, resolved_function}
@@ -21,21 +21,21 @@ use Rattle.mpp_core.specs.declared.fault.CoreFault.{CoreFault}
 -- The term over cells that a term on this line resolves to. If `A` is the cell 0 and `T` a table
 -- from the cell 1 on, `A + T[1]` is the cell 0, then `+` and the cell 2.
 abbrev mutual
-  pub resolved_term : Declared → ℕ → Term → Result Formula CoreFault
-  resolved_term declared line (lit value) = Ok (lit_formula value)
-  resolved_term declared line (named c) = if_resolved (λ cell. Ok (cell_formula cell)) (resolved_cell declared line c)
-  resolved_term declared line (apply op all) = if_resolved (λ arguments. Ok (apply_formula op (formulas_of arguments))) (resolved_terms declared line [] all)
+  pub resolved_term : Declared → ℕ → Term → Result Tree CoreFault
+  resolved_term declared line (lit value) = Ok (lit_tree value)
+  resolved_term declared line (named c) = if_resolved (λ cell. Ok (cell_tree cell)) (resolved_cell declared line c)
+  resolved_term declared line (apply op all) = if_resolved (λ arguments. Ok (apply_tree op (trees_of arguments))) (resolved_terms declared line [] all)
   resolved_term declared line (chain first links) =
-      if_resolved (λ f. if_resolved (λ steps. Ok (chain_formula f (steps_of steps))) (resolved_links declared line [] links))
+      if_resolved (λ f. if_resolved (λ steps. Ok (chain_tree f (steps_of steps))) (resolved_links declared line [] links))
       (resolved_term declared line first)
-  resolved_term declared line (exists kind) = Ok (exists_formula (kind_cells declared kind))
+  resolved_term declared line (exists kind) = Ok (any_present (kind_cells declared kind))
 
   -- terms in sequence, appended to those already resolved
-  pub resolved_terms : Declared → ℕ → List Formula → Terms → Result (List Formula) CoreFault
+  pub resolved_terms : Declared → ℕ → List Tree → Terms → Result (List Tree) CoreFault
   resolved_terms declared line before no_terms = Ok before
   resolved_terms declared line before (a_term a rest) = if_resolved (λ t. resolved_terms declared line (before ++ t ∷ []) rest) (resolved_term declared line a)
 
-  pub resolved_links : Declared → ℕ → List CStep → Links → Result (List CStep) CoreFault
+  pub resolved_links : Declared → ℕ → List (Step ℕ) → Links → Result (List (Step ℕ)) CoreFault
   resolved_links declared line before no_links = Ok before
   resolved_links declared line before (a_link op a rest) = if_resolved (λ t. resolved_links declared line (before ++ record { op = op; term = t } ∷ []) rest)
       (resolved_term declared line a)

@@ -1,11 +1,12 @@
 //! Resolves terms.
 
-ghost use Rattle.std.specs.Prelude.{◌≡◌, Ok, Err, [], IfOk};
+ghost use Rattle.std.specs.Prelude.{◌≡◌, Ok, Err, [], IfOk, map};
 ghost use Rattle.m_places.specs.Refusals.{Says};
 ghost use Rattle.m_symbols.specs.Placed.{IsPlaced};
 ghost use Rattle.mpp_parser.specs.TermView.{terms_of, links_of};
-ghost use Rattle.driver_core.specs.Formulas.{cell as cell_formula, apply, chain};
-ghost use Rattle.driver_core.specs.FormulaView.{formula_of, formulas_of, steps_of};
+ghost use Rattle.micro_m.specs.Trees.{cell as cell_tree, apply, chain};
+ghost use Rattle.micro_m.specs.Views.{tree_of, trees_of, steps_of};
+ghost use Rattle.driver_core.specs.Leaves.{rule_term};
 ghost use Rattle.mpp_core.specs.Names.{if_resolved, resolved_cell};
 ghost use Rattle.mpp_core.specs.Bodies.{resolved_term, resolved_terms, resolved_links};
 ghost use Rattle.mpp_core.specs.declared.fault.CoreFault.TheVariants.{Memory};
@@ -13,8 +14,9 @@ ghost use Rattle.mpp_core.specs.declared.fault.CoreFault.TheVariants.{Memory};
 use crate::CoreFault;
 use crate::names::cell_of;
 use crate::scope::Scope;
-use driver_core::{CNode, CStep, CTerm};
+use driver_core::{CLeaf, CTerm};
 use m_fixed::Op;
+use micro_m::{MNode, MTerm, Step};
 use mpp_parser::{CellName, DLink, DNode, DTerm};
 use std::alloc::{AllocError, Global};
 
@@ -28,25 +30,25 @@ pub(crate) fn term(
     scope: &Scope<'_>,
 ) -> Result<Box<CTerm>, CoreFault>
     requires { IsPlaced scope.now }
-    ensures { Says Memory result (λ t. t.value) (resolved_term scope.now line term.now) }
+    ensures { Says Memory result (λ t. rule_term t.value) (resolved_term scope.now line term.now) }
 {
     match &term.node {
-        DNode::Lit(value) => Ok(boxed(alloc, CNode::Lit(*value))?),
+        DNode::Lit(value) => Ok(boxed(alloc, MNode::Lit(*value))?),
         DNode::Named(name) => named(alloc, name, line, scope),
         DNode::Apply(op, arguments) => applied(alloc, *op, arguments, line, scope),
         DNode::Chain(first, links) => chained(alloc, first, links, line, scope),
         DNode::Exists(kind) => {
             let cells = scope.kind_cells(alloc, kind)?;
-            Ok(boxed(alloc, CNode::Exists(cells))?)
+            Ok(boxed(alloc, MNode::Cell(CLeaf::Exists(cells)))?)
         }
     }
 }
 
 // Boxes a node.
-fn boxed(alloc: Global, node: CNode) -> Result<Box<CTerm>, AllocError>
-    ensures { IfOk result (λ t. t.value ≡ formula_of node) }
+fn boxed(alloc: Global, node: MNode<CLeaf>) -> Result<Box<CTerm>, AllocError>
+    ensures { IfOk result (λ t. rule_term t.value ≡ rule_term (tree_of node)) }
 {
-    Ok(Box::new(alloc, CTerm::new(node))?)
+    Ok(Box::new(alloc, MTerm::new(node))?)
 }
 
 // A name.
@@ -57,10 +59,10 @@ fn named(
     scope: &Scope<'_>,
 ) -> Result<Box<CTerm>, CoreFault>
     requires { IsPlaced scope.now }
-    ensures { Says Memory result (λ t. t.value) (if_resolved (λ c. Ok (cell_formula c)) (resolved_cell scope.now line name.now)) }
+    ensures { Says Memory result (λ t. rule_term t.value) (if_resolved (λ c. Ok (cell_tree c)) (resolved_cell scope.now line name.now)) }
 {
     let cell = cell_of(alloc, scope.symbols(), line, name)?;
-    Ok(boxed(alloc, CNode::Cell(cell))?)
+    Ok(boxed(alloc, MNode::Cell(CLeaf::Cell(cell)))?)
 }
 
 // An operator and its arguments.
@@ -73,11 +75,11 @@ fn applied(
     scope: &Scope<'_>,
 ) -> Result<Box<CTerm>, CoreFault>
     requires { IsPlaced scope.now }
-    ensures { Says Memory result (λ t. t.value)
-        (if_resolved (λ all. Ok (apply op (formulas_of all))) (resolved_terms scope.now line [] (terms_of arguments.now))) }
+    ensures { Says Memory result (λ t. rule_term t.value)
+        (if_resolved (λ all. Ok (apply op (trees_of all))) (resolved_terms scope.now line [] (terms_of arguments.now))) }
 {
     let arguments = terms(alloc, arguments, line, scope)?;
-    Ok(boxed(alloc, CNode::Apply(op, arguments))?)
+    Ok(boxed(alloc, MNode::Apply(op, arguments))?)
 }
 
 // Terms in sequence.
@@ -89,7 +91,7 @@ fn terms(
     scope: &Scope<'_>,
 ) -> Result<Vec<CTerm>, CoreFault>
     requires { IsPlaced scope.now }
-    ensures { Says Memory result (λ stated. stated.items) (resolved_terms scope.now line [] (terms_of all.now)) }
+    ensures { Says Memory result (λ stated. map rule_term stated.items) (resolved_terms scope.now line [] (terms_of all.now)) }
 {
     let mut stated = Vec::with_capacity(alloc, all.len())?;
     for one in all {
@@ -109,7 +111,7 @@ fn chained(
     scope: &Scope<'_>,
 ) -> Result<Box<CTerm>, CoreFault>
     requires { IsPlaced scope.now }
-    ensures { Says Memory result (λ t. t.value)
+    ensures { Says Memory result (λ t. rule_term t.value)
         (if_resolved (λ f. if_resolved (λ steps. Ok (chain f (steps_of steps))) (resolved_links scope.now line [] (links_of links.now)))
         (resolved_term scope.now line first.now)) }
 {
@@ -117,10 +119,10 @@ fn chained(
     let mut steps = Vec::with_capacity(alloc, links.len())?;
     for link in links {
         let t = term(alloc, &link.term, line, scope)?;
-        steps.push(CStep {
+        steps.push(Step {
             op: link.op,
             term: Box::into_inner(t),
         })?;
     }
-    Ok(boxed(alloc, CNode::Chain(first, steps))?)
+    Ok(boxed(alloc, MNode::Chain(first, steps))?)
 }

@@ -6,12 +6,12 @@ use Rattle.m_fixed.specs.declared.amount.Value.{Value}
 use Rattle.m_fixed.specs.declared.amount.Value.TheVariants.{Undef, Num}
 use Rattle.m_fixed.specs.Operators.{truth_of, chosen}
 use Rattle.m_places.specs.declared.verification.Label.{Label}
-use Rattle.micro_m.specs.Values.{Environment, environment}
+use Rattle.micro_m.specs.Values.{Environment, environment, term_value}
 use Rattle.flat_code.specs.Runs.{is_one}
 use Rattle.driver_core.specs.Actions.{Action, branch, partition, call}
 use Rattle.driver_core.specs.ActionView.{block_of}
-use Rattle.driver_core.specs.Formulas.{Formula}
-use Rattle.driver_core.specs.Meaning.{Env, RunState, goes, then_do, formula_value, chosen_block, with_values, without}
+use Rattle.micro_m.specs.Trees.{Tree}
+use Rattle.driver_core.specs.Meaning.{Env, RunState, goes, then_do, chosen_block, with_values, without}
 use Rattle.mpp_inline.specs.declared.builder.Builder.{Builder}
 use Rattle.mpp_inline.specs.declared.branches.Branches.{Branches}
 use Rattle.mpp_inline.specs.declared.work.Work.{Work}
@@ -71,8 +71,8 @@ guards-apart {b} {d} {env} {g} {line} {t} {r} p inputs one two bit o =
     (truth-cases v))
     bit
 
-pub if-moves : {whole : Whole} {b d : Builder} {env : List ℕ} {g line : ℕ} {r : Branches} {ws : List Work} (t' : Formula) (depth : ℕ)
-    (first second : Bor (List Action)) → (Placed b env g → Opened b d env g line (λ e. formula_value e t') r) → Standing whole b env g ws
+pub if-moves : {whole : Whole} {b d : Builder} {env : List ℕ} {g line : ℕ} {r : Branches} {ws : List Work} (t' : Tree) (depth : ℕ)
+    (first second : Bor (List Action)) → (Placed b env g → Opened b d env g line (λ e. term_value e t') r) → Standing whole b env g ws
     → Moves whole b d env r.first ws ((((ws ++ Under g ∷ []) ++ Run depth second ∷ []) ++ Under r.second ∷ []) ++ Run depth first ∷ [])
     (λ inputs. ahead whole b inputs env g depth (branch line t' (block_of first.now) (block_of second.now)))
 if-moves {whole} {b} {d} {env} {g} {line} {r} {ws} t' depth first second opens s =
@@ -85,7 +85,7 @@ if-moves {whole} {b} {d} {env} {g} {line} {r} {ws} t' depth first second opens s
     let ws3 = ws2 ++ Under r.second ∷ [] in
     let moved = standing-on l o.stage.known s in
     let truth : (inputs : List Value) → IsBit (at d inputs r.truth) = λ inputs. bit-of (o.truth inputs)
-    (truth-cases (formula_value (environment (denoted b inputs env)) t')) in
+    (truth-cases (term_value (environment (denoted b inputs env)) t')) in
     let guard1 : Guarding d r.first = record {
       within = o.first_within;
       bit = λ inputs. bit-of (o.first inputs)

@@ -26,7 +26,7 @@ use Rattle.observables.specs.Answers.{Cause, failed, over}
 use Rattle.driver_core.specs.declared.program.Core.{Core}
 use Rattle.driver_core.specs.Actions.{Action, assign, clear, branch, partition, call, solve, Block, no_actions, an_action}
 use Rattle.driver_core.specs.Valid.{body_among}
-use Rattle.driver_core.specs.Meaning.{Env, RunState, goes, stops, noted, behind, then_do, with_values, without, formula_value, chosen_block, failure_cause}
+use Rattle.driver_core.specs.Meaning.{Env, RunState, goes, stops, noted, behind, then_do, with_values, without, chosen_block, failure_cause}
 use Rattle.driver_core.specs.Meaning.{unless_stopped, rules_run, run_of, action_run, block_run, called}
 use Rattle.mpp_inline.specs.inner.Growth.{checked, computed, rules_in_turn}
 use Rattle.mpp_inline.proofs.OutcomeLemmas.{goes-last}
@@ -165,9 +165,9 @@ module _ (n : ℕ) (r r' : List ℕ → Env → RunState) (b b' : ℕ → Env �
     → Alike n (b f) (b' f)) where
   mutual
     action-long : (a : Action) (e : Env) → length e ≡ n → Long n (action_run r' b' a e)
-    action-long (assign line c t) e h = length-set e c (formula_value (environment e) t) ∙ h
+    action-long (assign line c t) e h = length-set e c (term_value (environment e) t) ∙ h
     action-long (clear line c) e h = length-set e c Undef ∙ h
-    action-long (branch line t x y) e h = long-chosen n line (formula_value (environment e) t) (block_run r' b' x e) (block_run r' b' y e) (block-long x e h)
+    action-long (branch line t x y) e h = long-chosen n line (term_value (environment e) t) (block_run r' b' x e) (block_run r' b' y e) (block-long x e h)
         (block-long y e h)
     action-long (partition line xs x) e h = long-then n (block_run r' b' x (without xs e)) (λ f. goes [] (with_values xs (environment e) f))
         (block-long x (without xs e) (length-with xs (λ c. Undef) e ∙ h)) (λ f k. length-with xs (environment e) f ∙ k)
@@ -183,7 +183,7 @@ module _ (n : ℕ) (r r' : List ℕ → Env → RunState) (b b' : ℕ → Env �
     action-same : (a : Action) (e : Env) → length e ≡ n → action_run r b a e ≡ action_run r' b' a e
     action-same (assign line c t) e h = refl
     action-same (clear line c) e h = refl
-    action-same (branch line t x y) e h = λ i. chosen_block line (formula_value (environment e) t) (block-same x e h i) (block-same y e h i)
+    action-same (branch line t x y) e h = λ i. chosen_block line (term_value (environment e) t) (block-same x e h i) (block-same y e h i)
     action-same (partition line xs x) e h = ap (λ o. then_do o (λ f. goes [] (with_values xs (environment e) f)))
         (block-same x (without xs e) (length-with xs (λ c. Undef) e ∙ h))
     action-same (call line names xs f) e h = ap (λ o. then_do o (λ g. goes [] (with_values xs (environment g) e))) ((bodies f).same e h)

@@ -17,7 +17,7 @@ use Rattle.driver_core.specs.ActionView.{block_of}
 use Rattle.driver_core.specs.Valid.{body_among}
 use Rattle.driver_core.specs.Weights.{names_changed, names_changed_in, action_weight, block_weight, body_weight, base_weight, weight_of}
 use Rattle.driver_core.specs.Answers.{answer_of, start_of, observation_by}
-use Rattle.driver_core.specs.Meaning.{Env, RunState, goes, then_do, with_values, without, formula_value, chosen_block, failure_cause, unless_stopped, rules_run}
+use Rattle.driver_core.specs.Meaning.{Env, RunState, goes, then_do, with_values, without, chosen_block, failure_cause, unless_stopped, rules_run}
 use Rattle.driver_core.specs.Meaning.{run_of, action_run, block_run, called}
 use Rattle.mpp_inline.specs.Inlined.{IsInlined}
 use Rattle.mpp_inline.specs.Labelling.{Labelling, first_labelling, with_checks, with_rules, with_line, with_action, with_block, with_body, labelling_of}
@@ -66,9 +66,9 @@ module _ (rules : List ℕ → Env → RunState) (b b' : ℕ → Env → RunStat
     one-left (assign line c t) e = refl
     one-left (clear line c) e = refl
     one-left (branch line t x y) e =
-        goes-last (chosen_block line (formula_value (environment e) t) (block_run rules b' (block_of (left_behind [] x)) e)
+        goes-last (chosen_block line (term_value (environment e) t) (block_run rules b' (block_of (left_behind [] x)) e)
         (block_run rules b' (block_of (left_behind [] y)) e))
-        ∙ (λ i. chosen_block line (formula_value (environment e) t) (all-left [] x e i) (all-left [] y e i))
+        ∙ (λ i. chosen_block line (term_value (environment e) t) (all-left [] x e i) (all-left [] y e i))
     one-left (partition line xs x) e =
         goes-last (then_do (block_run rules b' (block_of (left_behind [] x)) (without xs e)) (λ f. goes [] (with_values xs (environment e) f)))
         ∙ ap (λ o. then_do o (λ f. goes [] (with_values xs (environment e) f))) (all-left [] x (without xs e))

@@ -12,16 +12,15 @@ use Rattle.m_ast.specs.Items.{variable_cells}
 use Rattle.m_symbols.specs.declared.variable.Variable.{Variable}
 use Rattle.m_symbols.specs.Declarations.{placed_from, owners_from}
 use Rattle.micro_m.specs.declared.base.Base.{Base}
-use Rattle.micro_m.specs.Trees.{Tree, lit as lit_tree}
+use Rattle.micro_m.specs.Trees.{TreeOf, Tree, lit, cell, pick, apply, chain}
+use Rattle.micro_m.specs.Leaves.{written, all_written}
 use Rattle.micro_m.specs.Views.{trees_of}
 use Rattle.micro_m.specs.Bases.{Definition, is_among, AreDistinctCells}
 use Rattle.rule_order.specs.Orders.{IsOrder}
-use Rattle.driver_core.specs.Formulas.{Formula, lit, cell, apply, chain, exists}
-use Rattle.driver_core.specs.FormulaView.{formulas_of}
 use Rattle.driver_core.specs.Actions.{Block, no_actions, an_action}
 use Rattle.driver_core.specs.ActionView.{block_of}
 use Rattle.driver_core.specs.Valid.{body_of}
-use Rattle.driver_core.specs.Weights.{tree_weight, trees_weight, formula_weight, formulas_weight, definition_weight}
+use Rattle.driver_core.specs.Weights.{read_weight, tree_weight, trees_weight, definition_weight}
 use Rattle.mpp_inline.specs.declared.work.Work.{Work}
 use Rattle.mpp_inline.specs.declared.work.Work.TheVariants.{Run, Under, Restore, Return}
 use Rattle.mpp_inline.specs.inner.Work.{Whole}
@@ -30,13 +29,20 @@ use Rattle.mpp_inline.specs.inner.Sizes.{positions_weight, body_size, block_size
 
 -- ---- terms
 
--- the weight of a term of a driver is at least 1
-pub formula-pos : (t : Formula) → 1 ≤ formula_weight t
-formula-pos (lit v) = omega arith
-formula-pos (cell x) = omega arith
-formula-pos (apply o ts) = omega arith
-formula-pos (chain t ts) = omega (arith, formula-pos t)
-formula-pos (exists xs) = omega arith
+-- the weight of a term is at least 1
+read-pos : (size : ℕ) (index : Tree) (n : ℕ) → 1 ≤ read_weight size index n
+read-pos size (lit v) n = omega arith
+read-pos size (cell x) n = omega arith
+read-pos size (pick f s i) n = omega arith
+read-pos size (apply o ts) n = omega arith
+read-pos size (chain t ts) n = omega arith
+
+pub tree-pos : (t : Tree) → 1 ≤ tree_weight t
+tree-pos (lit v) = omega arith
+tree-pos (cell x) = omega arith
+tree-pos (pick f s i) = read-pos s i (tree_weight i)
+tree-pos (apply o ts) = omega arith
+tree-pos (chain t ts) = omega (arith, tree-pos t)
 
 -- the weight at a place
 pub weight-at : {A : Type 0} (w : A → ℕ) (xs : List A) (n : ℕ) (x : A) → n < length xs → x ≡ get_or xs n x → get_or (map w xs) n 0 ≡ w x
@@ -45,19 +51,12 @@ weight-at w (y ∷ xs) zero x h e = ap w (sym e)
 weight-at w (y ∷ xs) (suc n) x h e = weight-at w xs n x (omega (arith, h)) e
 
 -- three arguments weigh at most as much as all
-pub three-trees : (ts : List Tree) → get_or (map tree_weight ts) 0 0 + get_or (map tree_weight ts) 1 0 + get_or (map tree_weight ts) 2 0 ≤ trees_weight
-    (trees_of ts)
-three-trees [] = omega arith
-three-trees (a ∷ []) = omega arith
-three-trees (a ∷ b ∷ []) = omega arith
-three-trees (a ∷ b ∷ c ∷ ts) = omega arith
-
-pub three-formulas : (ts : List Formula) → get_or (map formula_weight ts) 0 0 + get_or (map formula_weight ts) 1 0 + get_or (map formula_weight ts) 2 0
-    ≤ formulas_weight (formulas_of ts)
-three-formulas [] = omega arith
-three-formulas (a ∷ []) = omega arith
-three-formulas (a ∷ b ∷ []) = omega arith
-three-formulas (a ∷ b ∷ c ∷ ts) = omega arith
+pub three-trees : {L : Type 0} (leaf : L → Tree) (ts : List (TreeOf L)) → let w = map (λ t. tree_weight (written leaf t)) ts in
+    get_or w 0 0 + get_or w 1 0 + get_or w 2 0 ≤ trees_weight (all_written leaf (trees_of ts))
+three-trees leaf [] = omega arith
+three-trees leaf (a ∷ []) = omega arith
+three-trees leaf (a ∷ b ∷ []) = omega arith
+three-trees leaf (a ∷ b ∷ c ∷ ts) = omega arith
 
 -- ---- positions
 
@@ -101,7 +100,7 @@ total-is : (ds : List Definition) → total (map definition_weight ds) ≡ sum_b
 total-is [] = refl
 total-is (d ∷ ds) = omega (arith, total-is ds, sum_by-cons definition_weight d ds)
 
-definition-at : (ds : List Definition) (p : ℕ) → p < length ds → tree_weight (get_or (map (λ (d : Definition). d.1) ds) p (lit_tree Undef)) + 1 ≡ get_or
+definition-at : (ds : List Definition) (p : ℕ) → p < length ds → tree_weight (get_or (map (λ (d : Definition). d.1) ds) p (lit Undef)) + 1 ≡ get_or
     (map definition_weight ds) p 0
 definition-at [] p h = absurd (omega (arith, h))
 definition-at (d ∷ ds) zero h = refl

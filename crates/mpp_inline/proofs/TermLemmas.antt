@@ -1,17 +1,17 @@
 -- Terms as nodes: operators, folds and arguments.
-use Rattle.std.proofs.Common.{◌≡◌, ℕ, zero, suc, ◌+◌, ◌*◌, ◌<◌, ◌≤◌, List, [], ◌∷◌, length, get_or, refl, ap, ◌∙◌, arith}
-use denote.Param.Weighed.{most}
+use Rattle.std.proofs.Common.{◌≡◌, ℕ, zero, suc, ◌+◌, ◌*◌, ◌<◌, ◌≤◌, List, [], ◌∷◌, length, get_or, refl, sym, ap, ◌∙◌, subst, arith}
 use Rattle.m_fixed.specs.declared.amount.Value.{Value}
-use Rattle.m_fixed.specs.declared.amount.Value.TheVariants.{Undef}
+use Rattle.m_fixed.specs.declared.amount.Value.TheVariants.{Undef, Num}
 use Rattle.m_fixed.specs.declared.operator.Op.{Op}
+use Rattle.m_fixed.specs.declared.operator.Op.TheVariants.{Present}
 use Rattle.m_fixed.specs.Operators.{op_value}
-use Rattle.micro_m.specs.Values.{Environment, environment, applied}
+use Rattle.std.specs.Prelude.{Some, pos}
+use Rattle.micro_m.specs.Trees.{TreeOf, Tree, lit, cell, pick, apply, chain}
+use Rattle.micro_m.specs.Leaves.{written, all_written, literal_in}
+use Rattle.micro_m.specs.Views.{trees_of}
+use Rattle.micro_m.specs.Values.{Environment, environment, term_value, argument_values, applied}
+use Rattle.driver_core.specs.Leaves.{any_present}
 use Rattle.flat_code.specs.declared.program.Node.TheVariants.{Do}
-use Rattle.driver_core.specs.declared.term.CStep.{CStep}
-use Rattle.driver_core.specs.declared.term.CTerm.TheDeep.{size-CStep, size-CTerm}
-use Rattle.driver_core.specs.Formulas.{Formula, nodes_of_formulas, nodes_of_steps}
-use Rattle.driver_core.specs.FormulaView.{formulas_of, steps_of}
-use Rattle.driver_core.specs.Meaning.{formula_value, formula_values}
 use Rattle.mpp_inline.specs.declared.builder.Builder.{Builder}
 use Rattle.mpp_inline.specs.inner.Growth.{at, denoted, IsUsable, Sane, Known, Pushed, Along, Gives, TermStep}
 use Rattle.mpp_inline.proofs.UsableLemmas.{usable-on}
@@ -53,8 +53,14 @@ applied-step {b} {b1} {b2} {b3} {c} {env} {i} {j} {k} {n} op values f1 f2 f3 p s
 pub undef-step : {b : Builder} (value : List Value → Value) → ((inputs : List Value) → Undef ≡ value inputs) → Sane b → Gives b b value 0
 undef-step value e s = record { grows = grows-none s; within = s.literal 0 (omega arith); value = λ inputs. s.undef inputs ∙ e inputs }
 
-pub zero-step : {b : Builder} (value : List Value → Value) → Sane b → ((inputs : List Value) → at b inputs 1 ≡ value inputs) → Gives b b value 1
-zero-step value s e = record { grows = grows-none s; within = s.literal 1 (omega arith); value = e }
+-- node 1 has the value of `present` of nothing, which is 0
+no-presence : Num (pos 0) ≡ op_value Present Undef Undef Undef
+unfolding op_value
+no-presence = refl
+
+pub zero-step : {b : Builder} (env : List ℕ) (cs : List ℕ) → cs ≡ [] → Sane b → TermStep b b env (λ y. term_value y (any_present cs)) 1
+zero-step {b} env cs e s = subst (λ l. TermStep b b env (λ y. term_value y (any_present l)) 1) (sym e)
+    (record { grows = grows-none s; within = s.literal 1 (omega arith); value = λ inputs. s.zero inputs ∙ no-presence })
 
 -- folds
 pub fold-first : {b : Builder} (rest : List Value → Value → Value) (k : ℕ) → Sane b → IsUsable b k → Along b b rest (λ inputs. rest inputs (at b inputs k)) k
@@ -78,6 +84,21 @@ fold-next {b} {c} {d} {e} {env} {x} {k} {n} {op} {whole} t rest a step p kn =
           ∙ a.value inputs;
     }
 
+pub pushed-right : {b c : Builder} {op : Op} {i y z k : ℕ} → y ≡ z → Pushed b c (Do op i y 0) k → Pushed b c (Do op i z 0) k
+pushed-right {b} {c} {op} {i} {y} {z} {k} e p = subst (λ x. Pushed b c (Do op i x 0) k) e p
+
+-- the last step, whose right operand has no meaning
+pub fold-last : {b c d : Builder} {x k : ℕ} {op : Op} {whole : List Value → Value} → Along b c (λ inputs v. op_value op v Undef Undef) whole x
+    → Pushed c d (Do op x 0 0) k → Gives b d whole k
+fold-last {b} {c} {d} {x} {k} {op} {whole} a p =
+    let s = a.grows.base.sane in
+    let z = s.literal 0 (omega arith) in
+    record {
+      grows = grows-then a.grows (pushed-grows p (a.within, z, z) s);
+      within = pushed-within p (λ t. t);
+      value = λ inputs. pushed-value p inputs ∙ (λ i. op_value op (at c inputs x) (s.undef inputs i) (s.undef inputs i)) ∙ a.value inputs;
+    }
+
 -- continuations of a term's node
 pub chain-step : {b c d : Builder} {env : List ℕ} {x k : ℕ} (t : Environment → Value) (f : Environment → Value → Value)
     → (Sane b → Known b env → TermStep b c env t x)
@@ -93,24 +114,22 @@ chain-step {b} {c} {d} {env} {x} {k} t f first next s kn =
       value = λ inputs. n.value inputs ∙ (λ i. f (environment (denoted-on inputs l kn i)) (a.value inputs i));
     }
 
--- the arguments of an operator of the driver
-pub formula_values-at : (values : Environment) (all : List Formula) (place : ℕ) (x : Formula) → place < length all → x ≡ get_or all place x
-    → formula_value values x ≡ get_or (formula_values values (formulas_of all)) place Undef
-formula_values-at values [] place x h e = absurd (omega arith)
-formula_values-at values (a ∷ all) zero x h e = ap (formula_value values) e
-formula_values-at values (a ∷ all) (suc place) x h e = formula_values-at values all place x (omega arith) e
+-- the arguments of an operator, and a constant
+pub argument-at : {L : Type 0} (leaf : L → Tree) (values : Environment) (all : List (TreeOf L)) (place : ℕ) (x : TreeOf L) → place < length all
+    → x ≡ get_or all place x → term_value values (written leaf x) ≡ get_or (argument_values values (all_written leaf (trees_of all))) place Undef
+argument-at leaf values [] place x h e = absurd (omega arith)
+argument-at leaf values (a ∷ all) zero x h e = ap (λ y. term_value values (written leaf y)) e
+argument-at leaf values (a ∷ all) (suc place) x h e = argument-at leaf values all place x (omega arith) e
 
-pub formula_values-past : (values : Environment) (all : List Formula) (place : ℕ) → length all ≤ place
-    → Undef ≡ get_or (formula_values values (formulas_of all)) place Undef
-formula_values-past values [] place h = refl
-formula_values-past values (a ∷ all) zero h = absurd (omega arith)
-formula_values-past values (a ∷ all) (suc place) h = formula_values-past values all place (omega arith)
+pub argument-past : {L : Type 0} (leaf : L → Tree) (values : Environment) (all : List (TreeOf L)) (place : ℕ) → length all ≤ place
+    → Undef ≡ get_or (argument_values values (all_written leaf (trees_of all))) place Undef
+argument-past leaf values [] place h = refl
+argument-past leaf values (a ∷ all) zero h = absurd (omega arith)
+argument-past leaf values (a ∷ all) (suc place) h = argument-past leaf values all place (omega arith)
 
--- parts are smaller
-pub sizes-fall : (all : List CStep) → most size-CStep all ≤ 3 * nodes_of_steps (steps_of all) + 1
-sizes-fall [] = omega arith
-sizes-fall (a ∷ rest) = omega (arith, sizes-fall rest)
-
-pub terms-fall : (all : List Formula) → most size-CTerm all ≤ 3 * nodes_of_formulas (formulas_of all) + 1
-terms-fall [] = omega arith
-terms-fall (a ∷ rest) = omega (arith, terms-fall rest)
+pub literal-is : {L : Type 0} (t : TreeOf L) (v : Value) → literal_in t ≡ Some v → t ≡ lit v
+literal-is (lit w) v e = let same : w ≡ v = cc in ap lit same
+literal-is (cell l) v e = absurd (cc)
+literal-is (pick f s i) v e = absurd (cc)
+literal-is (apply o all) v e = absurd (cc)
+literal-is (chain a ss) v e = absurd (cc)

@@ -11,8 +11,8 @@ use Rattle.micro_m.specs.Values.{Environment, environment}
 use Rattle.flat_code.specs.Runs.{is_one}
 use Rattle.driver_core.specs.Actions.{Action, branch, partition, call}
 use Rattle.driver_core.specs.ActionView.{block_of}
-use Rattle.driver_core.specs.Formulas.{Formula}
-use Rattle.driver_core.specs.Meaning.{Env, RunState, goes, then_do, formula_value, chosen_block, with_values, without}
+use Rattle.micro_m.specs.Trees.{Tree}
+use Rattle.driver_core.specs.Meaning.{Env, RunState, goes, then_do, chosen_block, with_values, without}
 use Rattle.mpp_inline.specs.declared.builder.Builder.{Builder}
 use Rattle.mpp_inline.specs.declared.branches.Branches.{Branches}
 use Rattle.mpp_inline.specs.declared.work.Work.{Work}

@@ -9,10 +9,11 @@ ghost use Rattle.std.specs.Prelude.{◌≡◌, ℕ, ◌<◌, ◌≤◌, ◌-◌,
 ghost use Rattle.micro_m.specs.Bases.{IsValidBase};
 ghost use Rattle.rule_order.specs.Orders.{IsOrder};
 ghost use Rattle.rule_order.specs.declared.ordered.Ordered.{Ordered};
+ghost use Rattle.driver_core.specs.Leaves.{rule_term};
 ghost use Rattle.driver_core.specs.Actions.{branch, partition, call};
 ghost use Rattle.driver_core.specs.ActionView.{block_of};
 ghost use Rattle.driver_core.specs.Meaning.{called};
-ghost use Rattle.driver_core.specs.Weights.{formula_weight, weight_of};
+ghost use Rattle.driver_core.specs.Weights.{tree_weight, weight_of};
 ghost use Rattle.mpp_inline.specs.Labelling.{Labelling, with_body};
 ghost use Rattle.mpp_inline.specs.declared.builder.Builder.{Builder};
 ghost use Rattle.mpp_inline.specs.inner.Growth.{Ready, calls, rules_in_turn};
@@ -23,8 +24,8 @@ ghost use Rattle.mpp_inline.specs.inner.Sizes.{body_turns, action_turns, block_t
 use crate::branches::open_branches;
 use crate::builder::{Builder, ONE, UNDEF};
 use crate::cells::{blank, pick_cells, write};
-use crate::formulas::emit_formula;
 use crate::rules::emit_rules;
+use crate::terms::emit_tree;
 use crate::work::{Choice, Driver, Frame, Work};
 use crate::writes::assign_under;
 use driver_core::{CCommand, CCommandNode, Core, KindCells};
@@ -54,25 +55,24 @@ fn body_at(core: &Core, depth: usize, function: u32) -> &[CCommand]
 /// Starts an `if`: emits its condition, and pushes its blocks, each under its own guard. Returns
 /// the next guard.
 fn begin_if<'a>(
-    alloc: Global,
     b: &mut Builder,
     env: &[u32],
     left: &mut Vec<Work<'a>>,
     frame: Frame,
     choice: &Choice<'a>,
 ) -> Result<u32, AllocError>
-    requires { load b.old + formula_weight choice.now.condition.now + 5 < 2 ^ 32 }
+    requires { load b.old + 2 * tree_weight (rule_term choice.now.condition.now) + 4 < 2 ^ 32 }
     ensures step { IfOk result (λ g. (whole : Whole) → Standing whole b.old env.now frame.guard left.old.items
         → Moves whole b.old b.new env.now g left.old.items left.new.items
         (λ inputs. ahead whole b.old inputs env.now frame.guard frame.depth
-        (branch choice.now.line choice.now.condition.now (block_of choice.now.first.now) (block_of choice.now.second.now)))) }
+        (branch choice.now.line (rule_term choice.now.condition.now) (block_of choice.now.first.now) (block_of choice.now.second.now)))) }
     ensures size { OnOk result ((whole : Whole) → load b.new + 6 * left_weight whole left.new.items
-        ≤ load b.old + formula_weight choice.now.condition.now + 5 + 6 * (left_weight whole left.old.items
+        ≤ load b.old + 2 * tree_weight (rule_term choice.now.condition.now) + 4 + 6 * (left_weight whole left.old.items
         + block_size whole frame.depth (block_of choice.now.first.now) + block_size whole frame.depth (block_of choice.now.second.now))) }
     ensures turns { OnOk result ((whole : Whole) → left_turns whole left.new.items ≡ left_turns whole left.old.items
         + block_turns whole frame.depth (block_of choice.now.first.now) + block_turns whole frame.depth (block_of choice.now.second.now) + 2) }
 {
-    let branches = open_branches(alloc, b, env, frame.guard, choice.line, choice.condition)?;
+    let branches = open_branches(b, env, frame.guard, choice.line, choice.condition)?;
     left.push(Work::Under(frame.guard))?;
     left.push(Work::Run(frame.depth, choice.second))?;
     left.push(Work::Under(branches.second))?;
@@ -180,7 +180,7 @@ fn begin_command<'a>(
 {
     match &command.node {
         CCommandNode::Set(_, cell, term) => {
-            let number = emit_formula(alloc, b, env, term)?;
+            let number = emit_tree(b, env, term)?;
             assign_under(b, env, frame.guard, *cell, number)?;
             Ok(frame.guard)
         }
@@ -195,7 +195,7 @@ fn begin_command<'a>(
                 first,
                 second,
             };
-            begin_if(alloc, b, env, left, frame, &choice)
+            begin_if(b, env, left, frame, &choice)
         }
         CCommandNode::Partition(line, cells, block) => {
             begin_kind(alloc, env, left, frame.depth, *line, cells, block)?;

@@ -1,17 +1,18 @@
 //! Conditions of `if` commands.
 
-ghost use Rattle.std.specs.Prelude.{◌<◌, ◌≤◌, ◌+◌, ◌^◌, IfOk, OnOk};
-ghost use Rattle.driver_core.specs.Meaning.{formula_value};
-ghost use Rattle.driver_core.specs.Weights.{formula_weight};
+ghost use Rattle.std.specs.Prelude.{◌<◌, ◌≤◌, ◌+◌, ◌*◌, ◌^◌, IfOk, OnOk};
+ghost use Rattle.micro_m.specs.Values.{term_value};
+ghost use Rattle.driver_core.specs.Leaves.{rule_term};
+ghost use Rattle.driver_core.specs.Weights.{tree_weight};
 ghost use Rattle.mpp_inline.specs.inner.Growth.{Placed, Opened};
 ghost use Rattle.mpp_inline.specs.inner.Sizes.{load};
 
 use crate::builder::{Builder, ZERO};
-use crate::formulas::emit_formula;
+use crate::terms::emit_tree;
 use driver_core::CTerm;
 use flat_code::Node;
 use m_fixed::Op;
-use std::alloc::{AllocError, Global};
+use std::alloc::AllocError;
 
 /// The truth of a condition, and the guards of the two blocks.
 #[derive(Clone, Copy)]
@@ -24,19 +25,18 @@ pub struct Branches {
 /// Emits a condition, with a check that stops the run if its value is `Over`, and the guards of the
 /// two blocks.
 pub fn open_branches(
-    alloc: Global,
     b: &mut Builder,
     env: &[u32],
     guard: u32,
     line: u32,
     condition: &CTerm,
 ) -> Result<Branches, AllocError>
-    requires { load b.old + formula_weight condition.now + 5 < 2 ^ 32 }
+    requires { load b.old + 2 * tree_weight (rule_term condition.now) + 4 < 2 ^ 32 }
     ensures step { IfOk result (λ r. Placed b.old env.now guard
-        → Opened b.old b.new env.now guard line (λ e. formula_value e condition.now) r) }
-    ensures size { OnOk result (load b.new ≤ load b.old + formula_weight condition.now + 5) }
+        → Opened b.old b.new env.now guard line (λ e. term_value e (rule_term condition.now)) r) }
+    ensures size { OnOk result (load b.new ≤ load b.old + 2 * tree_weight (rule_term condition.now) + 4) }
 {
-    let value = emit_formula(alloc, b, env, condition)?;
+    let value = emit_tree(b, env, condition)?;
     b.check_line(guard, value, line)?;
     let truth = b.push(Node::Do(Op::Truth, value, value, value))?;
     let first = b.push(Node::Do(Op::Choose, truth, guard, ZERO))?;

@@ -7,7 +7,7 @@ ghost use Rattle.mpp_inline.specs.inner.Sizes.{load};
 use flat_code::{Check, Node};
 use m_places::Seq;
 use observables::{FaceLabel, InputType};
-use std::alloc::AllocError;
+use std::alloc::{AllocError, Global};
 
 /// The literal undefined, also the node of a cell that doesn't exist.
 pub const UNDEF: u32 = 0;
@@ -28,6 +28,11 @@ pub struct Builder {
 }
 
 impl Builder {
+    /// The allocator of the nodes.
+    pub fn alloc(&self) -> Global {
+        *self.nodes.allocator()
+    }
+
     /// Appends a node, and returns its number.
     pub fn push(&mut self, node: Node) -> Result<u32, AllocError>
         requires { load self.old < 2 ^ 32 }

@@ -1,10 +1,11 @@
 //! Copies of parts of a driver.
 
 ghost use Rattle.std.specs.Prelude.{◌≡◌, IfOk};
-ghost use Rattle.driver_core.specs.FormulaView.{formula_of};
+ghost use Rattle.micro_m.specs.Views.{tree_of};
 
-use driver_core::{CNode, CStep, CTerm};
+use driver_core::{CLeaf, CTerm};
 use m_places::{Name, Seq};
+use micro_m::{MNode, MTerm, Step};
 use std::alloc::{AllocError, Global};
 
 /// A copy of a list of names.
@@ -31,10 +32,10 @@ pub fn copied_cells(alloc: Global, cells: &[u32]) -> Result<Seq<u32>, AllocError
 }
 
 // A node in a box.
-fn boxed(alloc: Global, node: CNode) -> Result<Box<CTerm>, AllocError>
-    ensures { IfOk result (λ t. t.value ≡ formula_of node) }
+fn boxed(alloc: Global, node: MNode<CLeaf>) -> Result<Box<CTerm>, AllocError>
+    ensures { IfOk result (λ t. t.value ≡ tree_of node) }
 {
-    Ok(Box::new(alloc, CTerm::new(node))?)
+    Ok(Box::new(alloc, MTerm::new(node))?)
 }
 
 /// A copy of a term.
@@ -43,18 +44,22 @@ pub fn copied(alloc: Global, term: &CTerm) -> Result<Box<CTerm>, AllocError>
     ensures { IfOk result (λ t. t.value ≡ term.now) }
 {
     match &term.node {
-        CNode::Lit(value) => boxed(alloc, CNode::Lit(*value)),
-        CNode::Cell(cell) => boxed(alloc, CNode::Cell(*cell)),
-        CNode::Apply(op, arguments) => {
-            boxed(alloc, CNode::Apply(*op, copied_terms(alloc, arguments)?))
+        MNode::Lit(value) => boxed(alloc, MNode::Lit(*value)),
+        MNode::Cell(CLeaf::Cell(cell)) => boxed(alloc, MNode::Cell(CLeaf::Cell(*cell))),
+        MNode::Cell(CLeaf::Exists(kind)) => {
+            let kind = kind.copy(alloc)?;
+            boxed(alloc, MNode::Cell(CLeaf::Exists(kind)))
         }
-        CNode::Chain(first, steps) => {
+        MNode::Pick(first, size, index) => {
+            let index = copied(alloc, index)?;
+            boxed(alloc, MNode::Pick(*first, *size, index))
+        }
+        MNode::Apply(op, arguments) => {
+            boxed(alloc, MNode::Apply(*op, copied_terms(alloc, arguments)?))
+        }
+        MNode::Chain(first, steps) => {
             let first = copied(alloc, first)?;
-            boxed(alloc, CNode::Chain(first, copied_steps(alloc, steps)?))
-        }
-        CNode::Exists(cells) => {
-            let cells = cells.copy(alloc)?;
-            boxed(alloc, CNode::Exists(cells))
+            boxed(alloc, MNode::Chain(first, copied_steps(alloc, steps)?))
         }
     }
 }
@@ -72,13 +77,13 @@ fn copied_terms(alloc: Global, terms: &[CTerm]) -> Result<Vec<CTerm>, AllocError
 }
 
 #[cycle(copied)]
-fn copied_steps(alloc: Global, steps: &[CStep]) -> Result<Vec<CStep>, AllocError>
+fn copied_steps(alloc: Global, steps: &[Step<CLeaf>]) -> Result<Vec<Step<CLeaf>>, AllocError>
     ensures { IfOk result (λ copies. copies.items ≡ steps.now) }
 {
     let mut copies = Vec::with_capacity(alloc, steps.len())?;
     for step in steps {
         let term = copied(alloc, &step.term)?;
-        copies.push(CStep {
+        copies.push(Step {
             op: step.op,
             term: Box::into_inner(term),
         })?;

@@ -20,7 +20,7 @@ mod builder;
 mod cells;
 mod copies;
 mod fault;
-mod formulas;
+mod leaves;
 mod pass;
 mod ruleless;
 mod rules;

@@ -2,6 +2,7 @@
 //! nothing.
 
 ghost use Rattle.std.specs.Prelude.{◌≡◌, ◌↔◌, ◌++◌, [], IsTrue, IfOk, OnOk};
+ghost use Rattle.driver_core.specs.Leaves.{rule_term};
 ghost use Rattle.driver_core.specs.Actions.{branch};
 ghost use Rattle.driver_core.specs.ActionView.{action_of, block_of};
 ghost use Rattle.mpp_inline.specs.inner.Ruleless.{IsRuleless, left, left_behind, left_in, core_left};
@@ -101,7 +102,7 @@ fn branch_left(
     first: &[CCommand],
     second: &[CCommand],
 ) -> Result<CCommand, AllocError>
-    ensures { IfOk result (λ made. made ≡ branch line condition.now
+    ensures { IfOk result (λ made. made ≡ branch line (rule_term condition.now)
         (block_of (left_behind [] (block_of first.now))) (block_of (left_behind [] (block_of second.now)))) }
 {
     let condition = copied(alloc, condition)?;

@@ -1,12 +1,10 @@
 //! Tables read at an index: each read becomes a node.
 
-ghost use Rattle.std.specs.Prelude.{◌≡◌, ℕ, ◌<◌, ◌≤◌, ◌+◌, ◌*◌, ◌^◌, pos, negsuc, IfOk, OnOk, IfSome, None};
+ghost use Rattle.std.specs.Prelude.{◌≡◌, ℕ, ◌<◌, ◌≤◌, ◌+◌, ◌*◌, ◌^◌, pos, negsuc, IfOk, OnOk};
 ghost use Rattle.m_fixed.specs.declared.amount.Value.TheVariants.{Num, Undef};
 ghost use Rattle.m_fixed.specs.declared.operator.Op.TheVariants.{At};
 ghost use Rattle.m_fixed.specs.Operators.{op_value, chosen};
-ghost use Rattle.micro_m.specs.Trees.{lit};
 ghost use Rattle.micro_m.specs.Values.{environment, picked, picked_value};
-ghost use Rattle.driver_core.specs.Weights.{read_weight};
 ghost use Rattle.mpp_inline.specs.inner.Growth.{IsUsable, Sane, Known, Gives, TermStep, at, denoted};
 ghost use Rattle.mpp_inline.specs.inner.Tables.{outside};
 ghost use Rattle.mpp_inline.specs.inner.Sizes.{load};
@@ -15,25 +13,11 @@ use crate::builder::{Builder, UNDEF, ZERO};
 use crate::cells::look;
 use flat_code::Node;
 use m_fixed::{Amount, Op, Value};
-use micro_m::{MNode, MTerm, Picked};
+use micro_m::Picked;
 use std::alloc::AllocError;
 
 /// One unit, in millionths.
 const UNIT: i128 = 1_000_000;
-
-/// The value of an index that is a literal; none for other terms.
-pub fn literal_of(index: &MTerm) -> Option<Value>
-    ensures is { IfSome result (λ value. index.now ≡ lit value) }
-    ensures weight { result ≡ None → (size weight : ℕ) → read_weight size index.now weight ≡ weight + 2 * size + 2 }
-{
-    match &index.node {
-        MNode::Lit(value) => Some(*value),
-        MNode::Cell(_) => None,
-        MNode::Pick(_, _, _) => None,
-        MNode::Apply(_, _) => None,
-        MNode::Chain(_, _) => None,
-    }
-}
 
 /// The node of a table read at a literal index.
 pub fn emit_picked(b: &mut Builder, env: &[u32], place: Picked) -> Result<u32, AllocError>

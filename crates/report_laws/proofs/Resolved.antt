@@ -33,10 +33,10 @@ trees_have : (ts : List Tree) → AllByRecursion HasAmounts ts → HaveAmounts (
 trees_have [] h = tt
 trees_have (t ∷ ts) h = (h.0, trees_have ts h.1)
 
-abbrev StepHas : Step → Type 0
+abbrev StepHas : Step ℕ → Type 0
 StepHas s = HasAmounts s.term
 
-steps_have : (ss : List Step) → AllByRecursion StepHas ss → StepsHaveAmounts (steps_of ss)
+steps_have : (ss : List (Step ℕ)) → AllByRecursion StepHas ss → StepsHaveAmounts (steps_of ss)
 steps_have [] h = tt
 steps_have (s ∷ ss) h = (h.0, steps_have ss h.1)
 
@@ -44,12 +44,12 @@ member_has : (single : Bool) (x low high : Tree) → HasAmounts x → HasAmounts
 member_has true x low high a b c = (a, (b, tt))
 member_has false x low high a b c = ((a, (b, tt)), ((a, (c, tt)), tt))
 
-any_has : (members : List Step) → AllByRecursion StepHas members → HasAmounts (any_of members)
+any_has : (members : List (Step ℕ)) → AllByRecursion StepHas members → HasAmounts (any_of members)
 any_has [] h = tt
 any_has (m ∷ []) h = h.0
 any_has (m ∷ s ∷ rest) h = (h.0, steps_have (s ∷ rest) h.1)
 
-membership_has : (negated : Bool) (members : List Step) → AllByRecursion StepHas members → HasAmounts (membership negated members)
+membership_has : (negated : Bool) (members : List (Step ℕ)) → AllByRecursion StepHas members → HasAmounts (membership negated members)
 membership_has false members h = any_has members h
 membership_has true members h = (any_has members h, tt)
 
@@ -85,7 +85,7 @@ mutual
       let k = resolved_by (λ t. resolved_terms d (before ++ t ∷ []) rest) (resolved_term d x) ts e in
       terms_have d (before ++ k.0 ∷ []) rest ts a.1 (AllByRecursion-push HasAmounts before k.0 h (term_has d x k.0 a.0 k.1)) k.2
 
-  links_have : (d : Declared) (before : List Step) (all : Links) (ss : List Step) → LinksSayAmounts all → AllByRecursion StepHas before
+  links_have : (d : Declared) (before : List (Step ℕ)) (all : Links) (ss : List (Step ℕ)) → LinksSayAmounts all → AllByRecursion StepHas before
       → resolved_links d before all ≡ Ok ss → AllByRecursion StepHas ss
   links_have d before no_links ss a h e = subst (AllByRecursion StepHas) (ok_one before ss e) h
   links_have d before (a_link op x rest) ss a h e =
@@ -93,7 +93,7 @@ mutual
       links_have d (before ++ record { op = op; term = k.0 } ∷ []) rest ss a.1
       (AllByRecursion-push StepHas before (record { op = op; term = k.0 }) h (term_has d x k.0 a.0 k.1)) k.2
 
-  members_have : (d : Declared) (x : Tree) (before : List Step) (all : Members) (ss : List Step) → HasAmounts x → MembersSayAmounts all
+  members_have : (d : Declared) (x : Tree) (before : List (Step ℕ)) (all : Members) (ss : List (Step ℕ)) → HasAmounts x → MembersSayAmounts all
       → AllByRecursion StepHas before
       → resolved_members d x before all ≡ Ok ss → AllByRecursion StepHas ss
   members_have d x before no_members ss i a h e = subst (AllByRecursion StepHas) (ok_one before ss e) h

@@ -12,12 +12,12 @@ use Rattle.driver_core.specs.Actions.{Action, assign, clear, branch, partition, 
 use Rattle.driver_core.specs.ActionView.{block_of}
 
 -- a step of a sum, which reads a function's cell
-abbrev pub call_step : ℕ → Step
+abbrev pub call_step : ℕ → Step ℕ
 call_step f = record { op = Add; term = cell f }
 
 abbrev mutual
   -- a step for each call in a command or a block, in order
-  pub action_steps : Action → List Step
+  pub action_steps : Action → List (Step ℕ)
   action_steps (assign line c term) = []
   action_steps (clear line c) = []
   action_steps (branch line condition first second) = block_steps first ++ block_steps second
@@ -25,7 +25,7 @@ abbrev mutual
   action_steps (call line names received function) = call_step function ∷ []
   action_steps (solve line names received) = []
 
-  pub block_steps : Block → List Step
+  pub block_steps : Block → List (Step ℕ)
   block_steps no_actions = []
   block_steps (an_action action rest) = action_steps action ++ block_steps rest
 

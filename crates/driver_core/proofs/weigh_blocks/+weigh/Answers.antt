@@ -1,7 +1,8 @@
 use Rattle.std.proofs.Common.{◌≡◌, ◌+◌, ◌∷◌, ℕ, List, get_or, drop, sym, ap, ◌∙◌, arith}
 use Rattle.driver_core.specs.Actions.{Action}
 use Rattle.driver_core.specs.ActionView.{block_of, action_of}
-use Rattle.driver_core.specs.Weights.{formula_weight, action_weight, block_weight, names_changed_in}
+use Rattle.driver_core.specs.Leaves.{rule_term}
+use Rattle.driver_core.specs.Weights.{tree_weight, action_weight, block_weight, names_changed_in}
 use Rattle.driver_core.specs.inner.Capped.{capped}
 use Rattle.driver_core.proofs.SumLemmas.{block-part, drop-next, sum-next}
 use Rattle.driver_core.proofs.weigh_blocks.+weigh.Goals as goal
@@ -36,10 +37,10 @@ weigh_command-returns-in-If t c =
     let n : List Action → ℕ = λ l. names_changed_in (block_of l) in
     let first = c.in-If.first.items in
     let second = c.in-If.second.items in
-    let sum : c.saturating_add-in-If-3.result ≡ capped (formula_weight c.in-If.condition + w first + w second + n first + n second) =
+    let sum : c.saturating_add-in-If-3.result ≡ capped (tree_weight (rule_term c.in-If.condition) + w first + w second + n first + n second) =
     omega (
       arith,
-      c.weigh_formula-in-If.ensures,
+      c.weigh_tree-in-If.ensures,
       c.weigh_block.ensures,
       c.saturating_add.ensures,
       c.weigh_block-in-If.ensures,

@@ -1,6 +1,7 @@
 use Rattle.std.proofs.Common.{◌≡◌, [], ◌∷◌, ◌++◌, sym, ap, ◌∙◌, subst, arith}
 use Rattle.driver_core.specs.Actions.{branch}
 use Rattle.driver_core.specs.ActionView.{block_of}
+use Rattle.driver_core.specs.Leaves.{rule_term}
 use Rattle.mpp_inline.specs.declared.work.Work.TheVariants.{Run, Under}
 use Rattle.mpp_inline.specs.inner.Work.{Moves, ahead}
 use Rattle.mpp_inline.specs.inner.Sizes.{left_weight, left_turns}
@@ -24,9 +25,9 @@ returns-clause-step c =
     ∙ ap (λ l. l ++ Run c.args.frame.depth c.args.choice.now.second ∷ []) c.in_ok-push.ensures.items)) in
     λ whole s. subst (λ l. Moves whole b d e r.first ws l
     (λ inputs. ahead whole b inputs e g c.args.frame.depth
-    (branch c.args.choice.now.line c.args.choice.now.condition.now (block_of c.args.choice.now.first.now) (block_of c.args.choice.now.second.now))))
+    (branch c.args.choice.now.line (rule_term c.args.choice.now.condition.now) (block_of c.args.choice.now.first.now) (block_of c.args.choice.now.second.now))))
     (sym items)
-    (if-moves c.args.choice.now.condition.now c.args.frame.depth c.args.choice.now.first c.args.choice.now.second c.in_ok-branches.ensures.step s)
+    (if-moves (rule_term c.args.choice.now.condition.now) c.args.frame.depth c.args.choice.now.first c.args.choice.now.second c.in_ok-branches.ensures.step s)
 
 pub returns-clause-size : goal.returns-clause-size
 returns-clause-size c =

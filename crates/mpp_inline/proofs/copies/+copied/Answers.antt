@@ -1,17 +1,17 @@
 use Rattle.std.proofs.Common.{arith, ap}
-use Rattle.driver_core.specs.Formulas.{formula_nodes}
-use Rattle.driver_core.specs.FormulaView.{formula_of}
-use Rattle.driver_core.proofs.SumLemmas.{sizes-fall, terms-fall}
+use Rattle.micro_m.specs.Trees.{nodes}
+use Rattle.micro_m.specs.Views.{tree_of}
+use Rattle.micro_m.specs.inner.Falls.{sizes_fall, terms_fall}
 use Rattle.mpp_inline.proofs.copies.+copied.Goals as goal
 
 pub copied-copied_terms-requires : goal.copied-copied_terms-requires
 copied-copied_terms-requires t c =
-    rw c.deref.ensures.value (
+    rw c.deref-in-Apply.ensures.value (
       omega (
         arith,
-        terms-fall c.in-Apply.arguments.items,
-        ap formula_nodes c.term.view_is,
-        ap (λ n. formula_nodes (formula_of n))
+        terms_fall c.in-Apply.arguments.items,
+        ap nodes c.term.view_is,
+        ap (λ n. nodes (tree_of n))
             c.in-Apply.is,
       ),
       tt,
@@ -22,10 +22,10 @@ copied-copied_steps-requires t c =
     rw c.deref-in-Chain-2.ensures.value (
       omega (
         arith,
-        sizes-fall c.in-Chain.steps.items,
-        ap formula_nodes c.term.view_is,
+        sizes_fall c.in-Chain.steps.items,
+        ap nodes c.term.view_is,
         ap
-            (λ n. formula_nodes (formula_of n)) c.in-Chain.is,
+            (λ n. nodes (tree_of n)) c.in-Chain.is,
       ),
       tt,
     )
