@@ -20,7 +20,7 @@ use Rattle.observables.specs.Inputs.{AreValuesOf}
 use Rattle.observables.specs.Answers.{Observation, values, stopped, label_number, cause_of, observation}
 use Rattle.observables.specs.Outputs.{are_named, notes_of, notes_stand_first, verif_at}
 use Rattle.flat_code.specs.declared.program.Flat.{Flat}
-use Rattle.flat_code.specs.Facts.{AreWithin}
+use Rattle.flat_code.specs.Facts.{AreWithin, fact_at}
 use Rattle.flat_code.specs.Faces.{IsFaceOf}
 use Rattle.flat_code.specs.Runs.{IsFlat, node_values, value_at, first_stop, flat_run}
 use Rattle.flat_code.proofs.FactLemmas.{flat-within}
@@ -30,7 +30,7 @@ use Rattle.input_reads.proofs.DependLemmas.{by-test, depends-within}
 use Rattle.input_reads.proofs.ListLemmas.{number-has, all-drop}
 use Rattle.input_reads.proofs.ValueLemmas.{agree}
 use Rattle.micro_m.specs.declared.base.Base.{Base}
-use Rattle.m_lint.specs.Findings.{fact_at, is_never_stopping}
+use Rattle.m_lint.specs.Findings.{is_never_stopping}
 use Rattle.m_lint.proofs.TruthLemmas.{named-none, label-silent, never-reported}
 use Rattle.m_facts.specs.Found.{known_of, node_of, found_of}
 use Rattle.m_facts.specs.Lines.{named_facts}

@@ -8,11 +8,11 @@ use Rattle.observables.specs.declared.face.FaceOutput.{FaceOutput}
 use Rattle.observables.specs.declared.face.FaceOutput.TheVariants.{Named, Noted}
 use Rattle.observables.specs.Outputs.{names_of}
 use Rattle.flat_code.specs.declared.program.Flat.{Flat}
-use Rattle.flat_code.specs.Facts.{facts_with}
+use Rattle.flat_code.specs.Facts.{facts_with, fact_at}
 use Rattle.flat_code.specs.Runs.{entries_of}
 use Rattle.input_reads.specs.Reads.{depends_on}
 use Rattle.micro_m.specs.declared.base.Base.{Base}
-use Rattle.m_lint.specs.Findings.{fact_at, never_stopping, numbers_with}
+use Rattle.m_lint.specs.Findings.{never_stopping, numbers_with}
 use Rattle.m_facts.specs.declared.found.FactsFound.{FactsFound}
 
 -- the facts of all nodes of a program, given those of its inputs

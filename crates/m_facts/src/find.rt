@@ -6,7 +6,7 @@ ghost use Rattle.flat_code.specs.Faces.{IsFaceOf};
 ghost use Rattle.flat_code.specs.Runs.{IsFlat};
 ghost use Rattle.input_reads.specs.Reads.{depends_on};
 ghost use Rattle.micro_m.specs.Bases.{IsValidBase};
-ghost use Rattle.m_lint.specs.Findings.{fact_at};
+ghost use Rattle.flat_code.specs.Facts.{fact_at};
 ghost use Rattle.m_facts.specs.Found.{node_of, found_by, found_of};
 
 use crate::FactsFound;

@@ -41,16 +41,10 @@ fn print_outputs<K: Sink>(
 ) -> Result<(), Failed>
     ensures { Gives K.written K.faults out.old out.new result (outputs_lines outputs.now possible.now) }
 {
-    for k in 0..least(outputs.len(), possible.len()) {
+    for k in 0..outputs.len().min(possible.len()) {
         print_output(&outputs[k], possible[k], out)?;
     }
     Ok(())
-}
-
-fn least(a: usize, b: usize) -> usize
-    ensures { result ≡ min a b }
-{
-    if a <= b { a } else { b }
 }
 
 fn print_output<K: Sink>(output: &FaceOutput, fact: Fact, out: &mut K) -> Result<(), Failed>
@@ -81,7 +75,7 @@ fn print_reads<K: Sink>(
 ) -> Result<(), Failed>
     ensures { Gives K.written K.faults out.old out.new result (reads_lines face.now firsts.now reads.now) }
 {
-    for j in 0..least(firsts.len(), reads.len()) {
+    for j in 0..firsts.len().min(reads.len()) {
         let name = printed_name(face.outputs.as_slice(), firsts[j]);
         print_read(face.inputs.as_slice(), name, reads[j].as_slice(), out)?;
     }

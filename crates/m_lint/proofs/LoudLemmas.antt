@@ -20,7 +20,8 @@ use Rattle.flat_code.specs.declared.program.Flat.{Flat}
 use Rattle.m_places.specs.declared.place.Place.{Place}
 use Rattle.micro_m.specs.Trees.{Tree}
 use Rattle.micro_m.specs.declared.base.Base.{Base}
-use Rattle.m_lint.specs.Findings.{fact_at, is_quiet, is_silent, is_same_label, has_label, checks_are_silent, output_is_silent, notes_are_silent}
+use Rattle.flat_code.specs.Facts.{fact_at}
+use Rattle.m_lint.specs.Findings.{is_quiet, is_silent, is_same_label, has_label, checks_are_silent, output_is_silent, notes_are_silent}
 use Rattle.m_lint.specs.Findings.{is_never_reported, is_never_stopping}
 use Rattle.m_lint.specs.inner.Loud.{with_checks, with_output, with_notes, loud_of, coded_label, with_name, with_label, with_labels, is_label_unmarked}
 use Rattle.m_lint.specs.inner.Loud.{is_unmarked}

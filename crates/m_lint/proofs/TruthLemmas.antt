@@ -31,7 +31,7 @@ use Rattle.flat_code.specs.declared.program.Node.{Node}
 use Rattle.flat_code.specs.declared.program.Node.TheVariants.{Input, Lit, Do}
 use Rattle.flat_code.specs.declared.program.Check.{Check}
 use Rattle.flat_code.specs.declared.program.Flat.{Flat}
-use Rattle.flat_code.specs.Facts.{IsPlain, ArePlain, facts}
+use Rattle.flat_code.specs.Facts.{IsPlain, ArePlain, facts, fact_at}
 use Rattle.flat_code.specs.Faces.{IsFaceOf}
 use Rattle.flat_code.specs.Runs.{IsFlat, IsCheck, entry_of, entries_of, values_for, node_values, value_at, is_one, stop_of, check_stop, first_stop, answer_by}
 use Rattle.flat_code.specs.Runs.{flat_run}
@@ -42,7 +42,7 @@ use Rattle.micro_m.specs.Bases.{is_among, targets_of}
 use Rattle.m_lint.specs.declared.finding.Finding.{Finding}
 use Rattle.m_lint.specs.declared.finding.Finding.TheVariants.{NeverDefined, NeverStops, Unused}
 use Rattle.m_lint.specs.Readings.{is_read}
-use Rattle.m_lint.specs.Findings.{numbers_with, is_given, is_never_defined, is_same_label, has_label, fact_at, is_quiet, is_silent, is_silent_by}
+use Rattle.m_lint.specs.Findings.{numbers_with, is_given, is_never_defined, is_same_label, has_label, is_quiet, is_silent, is_silent_by}
 use Rattle.m_lint.specs.Findings.{checks_are_silent, notes_are_silent, is_never_reported, label_of_check, is_never_stopping, is_input_node, is_unused}
 use Rattle.m_lint.specs.Findings.{findings_of, IsWithinCounts, AreWithinCounts}
 use Rattle.m_lint.specs.Truths.{ReportsEnding, IsNeverDefined, IsNeverStopping, AreEqualBut, IsUnused, IsTrueFinding}

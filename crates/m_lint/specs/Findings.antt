@@ -17,8 +17,8 @@ use Rattle.flat_code.specs.declared.program.Node.{Node}
 use Rattle.flat_code.specs.declared.program.Node.TheVariants.{Input, Lit, Do}
 use Rattle.flat_code.specs.declared.program.Check.{Check}
 use Rattle.flat_code.specs.declared.program.Flat.{Flat}
-use Rattle.flat_code.specs.Runs.{entry, entries_of}
-use Rattle.flat_code.specs.Facts.{facts}
+use Rattle.flat_code.specs.Runs.{entries_of}
+use Rattle.flat_code.specs.Facts.{facts, fact_at}
 use Rattle.m_ast.specs.Items.{is_input, is_constant}
 use Rattle.m_symbols.specs.declared.variable.Variable.{Variable}
 use Rattle.m_symbols.specs.Declarations.{Declared}
@@ -62,10 +62,6 @@ is_same_label a b = bytes_eq a.verif b.verif && bytes_eq a.error b.error && is_s
 -- whether the face's label with this number is a verification's and equal to this one
 abbrev pub has_label : List FaceLabel → Label → ℕ → Bool
 has_label labels label number = option_map_or (is_same_label label) (verif_at labels number) false
-
--- the fact of the node with this number, given the facts of all nodes
-abbrev pub fact_at : List Possible → ℕ → Possible
-fact_at known p = entry facts known p
 
 -- no number other than 0 is possible
 abbrev pub is_quiet : Possible → Bool

@@ -78,8 +78,5 @@ fn is_silent_by(guard: Fact, condition: Fact, over_only: bool) -> bool
 pub(crate) fn is_quiet(fact: Fact) -> bool
     ensures { result ≡ is_quiet fact }
 {
-    match fact.range {
-        None => true,
-        Some((low, high)) => low.millionths() >= 0 && high.millionths() <= 0,
-    }
+    !fact.may_be_other()
 }

@@ -2,8 +2,6 @@
 ghost use Rattle.std.specs.Prelude.{◌≡◌, ◌≤◌, ◌||◌, ◌∷◌, [], false, codes, is_some, length, option_copied};
 ghost use Rattle.m_ports.specs.Giving.{Gives};
 ghost use Rattle.m_text.specs.Pieces.{joined};
-ghost use Rattle.observables.specs.Answers.{is_reported, reported_note};
-ghost use Rattle.observables.specs.Outputs.{verif_at};
 ghost use Rattle.survey_commands.specs.Records.{between};
 ghost use Rattle.survey_commands.specs.inner.Outputs.{note_text, output_note, output_notes};
 
@@ -11,6 +9,7 @@ use m_fixed::Value;
 use m_places::Label;
 use m_ports::{Failed, Sink, give_pieces};
 use observables::{FaceLabel, FaceOutput};
+use tax_print::reported_note;
 
 /// Writes the notes of outputs with these values, with a separator between them.
 pub(crate) fn give_notes<K: Sink>(
@@ -38,38 +37,6 @@ fn output_note<'a>(labels: &'a [FaceLabel], output: &FaceOutput, value: Value) -
     match output {
         FaceOutput::Named(_) => None,
         FaceOutput::Noted(number) => reported_note(labels, *number, value),
-    }
-}
-
-// The verification that is reported by a note with this value, if any.
-fn reported_note(labels: &[FaceLabel], number: u32, value: Value) -> Option<&Label>
-    ensures { option_copied result ≡ reported_note labels.now number value }
-{
-    if is_reported(value) {
-        verif_at(labels, number)
-    } else {
-        None
-    }
-}
-
-fn is_reported(value: Value) -> bool
-    ensures { result ≡ is_reported value }
-{
-    match value {
-        Value::Undef => false,
-        Value::Num(amount) => amount.millionths() != 0,
-        Value::Over => false,
-    }
-}
-
-// The verification of the label with this number, if it has one.
-fn verif_at(labels: &[FaceLabel], number: u32) -> Option<&Label>
-    ensures { option_copied result ≡ verif_at labels.now number }
-{
-    match labels.get(number as usize) {
-        Some(FaceLabel::Verif(label)) => Some(label),
-        Some(FaceLabel::DriverLine(_)) => None,
-        None => None,
     }
 }
 

@@ -10,6 +10,7 @@ use itoa::Buffer;
 use m_places::Label;
 use m_ports::{Failed, Sink, give_pieces};
 use observables::{FaceLabel, Stop};
+use tax_print::label_number;
 
 /// Writes the field of a stop: `failed 2000 A20`, `over verification 2000 A20` or `over driver line 2`.
 pub(crate) fn give_stop<K: Sink>(
@@ -20,17 +21,8 @@ pub(crate) fn give_stop<K: Sink>(
     requires { label_number stop < length labels.now }
     ensures { Gives K.written K.faults out.old out.new result (stop_field labels.now stop) }
 {
-    let number = number_of(stop);
+    let number = label_number(stop);
     give_cause(&labels[number as usize], stop, out)
-}
-
-fn number_of(stop: Stop) -> u32
-    ensures { result ≡ label_number stop }
-{
-    match stop {
-        Stop::Failed(label) => label,
-        Stop::Over(label) => label,
-    }
 }
 
 fn give_cause<K: Sink>(label: &FaceLabel, stop: Stop, out: &mut K) -> Result<(), Failed>

@@ -19,5 +19,6 @@ pub use fault::{
     CodeFault, DriverFault, DriverNameFault, Fault, NameFault, PlaceFault, ReportFault, RowFault,
 };
 pub use fault_line::give_fault;
-pub use stop::print_stop;
+pub use note::reported_note;
+pub use stop::{label_number, print_stop};
 pub use value::print_values;

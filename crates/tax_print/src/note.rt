@@ -28,8 +28,8 @@ pub(crate) fn print_note<K: Sink>(
     }
 }
 
-// The verification that a note with this value reports, if any.
-fn reported_note(labels: &[FaceLabel], number: u32, value: Value) -> Option<&Label>
+/// The verification that a note with this value and this label number reports, if any.
+pub fn reported_note(labels: &[FaceLabel], number: u32, value: Value) -> Option<&Label>
     ensures { option_copied result ≡ reported_note labels.now number value }
 {
     if is_reported(value) {

@@ -18,11 +18,12 @@ pub fn print_stop<K: Sink>(face: &Face, stop: Stop, out: &mut K) -> Result<(), F
     requires { label_number stop < length face.now.labels }
     ensures { Gives K.written K.faults out.old out.new result (stop_lines face.now.labels stop) }
 {
-    let number = number_of(stop);
+    let number = label_number(stop);
     print_cause(&face.labels.as_slice()[number as usize], stop, out)
 }
 
-fn number_of(stop: Stop) -> u32
+/// The number of the label at which a run stopped.
+pub fn label_number(stop: Stop) -> u32
     ensures { result ≡ label_number stop }
 {
     match stop {

@@ -21,7 +21,7 @@ use std::alloc::{AllocError, Global};
 
 /// The kinds of injected failures.
 #[derive(Clone, Copy)]
-enum Kind {
+enum MishapKind {
     Nothing,
     Fetch,
     Read,
@@ -31,20 +31,20 @@ enum Kind {
 }
 
 /// The first words of lines.
-static KINDS: [(&str, Kind); 6] = [
-    ("none", Kind::Nothing),
-    ("fetch", Kind::Fetch),
-    ("read", Kind::Read),
-    ("write", Kind::Write),
-    ("cut", Kind::Cut),
-    ("long", Kind::Long),
+static KINDS: [(&str, MishapKind); 6] = [
+    ("none", MishapKind::Nothing),
+    ("fetch", MishapKind::Fetch),
+    ("read", MishapKind::Read),
+    ("write", MishapKind::Write),
+    ("cut", MishapKind::Cut),
+    ("long", MishapKind::Long),
 ];
 
 /// An injected failure: its kind, the file that it changes (if it changes one), its number, and the line of `mishaps`.
 #[derive(Drop)]
 pub struct Mishap<'a> {
     pub line: &'a str,
-    kind: Kind,
+    kind: MishapKind,
     file: &'a str,
     pub number: u32,
 }
@@ -53,14 +53,14 @@ pub struct Mishap<'a> {
 #[derive(Drop)]
 pub struct Mishaps<'a> {
     line: &'a str,
-    kind: Kind,
+    kind: MishapKind,
     file: &'a str,
     pub first: u32,
     pub last: u32,
 }
 
 /// The kind of a line with this first word.
-fn kind_of(word: &str) -> Option<Kind> {
+fn kind_of(word: &str) -> Option<MishapKind> {
     KINDS
         .iter()
         .find(|(first, _)| *first == word)
@@ -88,11 +88,11 @@ impl<'a> Mishaps<'a> {
         let mut words = line.split_whitespace();
         let kind = kind_of(words.next()?)?;
         let file = match kind {
-            Kind::Cut | Kind::Long => words.next()?,
+            MishapKind::Cut | MishapKind::Long => words.next()?,
             _ => "",
         };
         let (first, last) = match kind {
-            Kind::Nothing | Kind::Long => (1, 1),
+            MishapKind::Nothing | MishapKind::Long => (1, 1),
             _ => numbers_of(words.next()?)?,
         };
         let mishaps = Mishaps {
@@ -113,11 +113,11 @@ impl<'a> Mishaps<'a> {
     /// the bytes that are left of it.
     fn fail_run(&self, files: &[File]) -> bool {
         let can = match self.kind {
-            Kind::Cut => match file_of(files, self.file) {
+            MishapKind::Cut => match file_of(files, self.file) {
                 Some(bytes) => self.last as usize <= bytes.len(),
                 None => false,
             },
-            Kind::Long => file_of(files, self.file).is_some(),
+            MishapKind::Long => file_of(files, self.file).is_some(),
             _ => self.first > 0,
         };
         can && self.first <= self.last
@@ -140,24 +140,24 @@ impl Mishap<'_> {
         ensures { 1 ≤ result }
     {
         match self.kind {
-            Kind::Nothing => 7,
+            MishapKind::Nothing => 7,
             _ => 1,
         }
     }
 
     /// The number of the fetch that fails, if any.
     pub fn failing_fetch(&self, alloc: Global) -> Vec<u64> {
-        calls(alloc, matches!(self.kind, Kind::Fetch), self.number)
+        calls(alloc, matches!(self.kind, MishapKind::Fetch), self.number)
     }
 
     /// The number of the read that fails, if any.
     pub fn failing_read(&self, alloc: Global) -> Vec<u64> {
-        calls(alloc, matches!(self.kind, Kind::Read), self.number)
+        calls(alloc, matches!(self.kind, MishapKind::Read), self.number)
     }
 
     /// The number of the write that fails, if any.
     pub fn failing_write(&self, alloc: Global) -> Vec<u64> {
-        calls(alloc, matches!(self.kind, Kind::Write), self.number)
+        calls(alloc, matches!(self.kind, MishapKind::Write), self.number)
     }
 
     /// Adds the file that the failure changes, with its changed bytes, if it is among these files.
@@ -168,10 +168,10 @@ impl Mishap<'_> {
         changed: &mut Vec<File>,
     ) -> Result<(), AllocError> {
         let bytes = match (self.kind, file_of(files, self.file)) {
-            (Kind::Cut, Some(bytes)) => {
+            (MishapKind::Cut, Some(bytes)) => {
                 Vec::from_slice(alloc, &bytes[..bytes.len().min(self.number as usize)])?
             }
-            (Kind::Long, _) => vec![in alloc; b' '; FILE_BYTES as usize + 1]?,
+            (MishapKind::Long, _) => vec![in alloc; b' '; FILE_BYTES as usize + 1]?,
             _ => return Ok(()),
         };
         changed.push((Name::new(alloc, self.file.as_bytes())?, bytes))?;
@@ -181,7 +181,7 @@ impl Mishap<'_> {
     /// What is written of a text: the bytes before the one whose write fails.
     pub fn written<'t>(&self, text: &'t [u8]) -> &'t [u8] {
         let before = (self.number as usize).saturating_sub(1);
-        if matches!(self.kind, Kind::Write) && before < text.len() {
+        if matches!(self.kind, MishapKind::Write) && before < text.len() {
             &text[..before]
         } else {
             text

@@ -14,7 +14,8 @@ use Rattle.observables.specs.declared.face.FaceOutput.TheVariants.{Named, Noted}
 use Rattle.flat_code.specs.declared.program.Check.{Check}
 use Rattle.flat_code.specs.declared.program.Flat.{Flat}
 use Rattle.micro_m.specs.declared.base.Base.{Base}
-use Rattle.m_lint.specs.Findings.{fact_at, is_quiet, is_silent}
+use Rattle.flat_code.specs.Facts.{fact_at}
+use Rattle.m_lint.specs.Findings.{is_quiet, is_silent}
 
 -- ---- by number
 

@@ -1,5 +1,5 @@
 use Rattle.std.proofs.Common.{◌≡◌, ◌++◌, drop, map}
-use Rattle.m_lint.specs.Findings.{fact_at}
+use Rattle.flat_code.specs.Facts.{fact_at}
 use Rattle.m_facts.proofs.find.facts_at.Given as goal
 
 abbrev pub invariant-loop-p : goal.invariant-loop-p

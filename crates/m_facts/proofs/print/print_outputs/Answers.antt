@@ -8,7 +8,7 @@ pub returns-in_err-print_output : goal.returns-in_err-print_output
 returns-in_err-print_output g c =
     let p = err_from_is_err_and c.from_residual.result c.from_residual.ensures.1 in
     let gave = c.in_err-print_output.ensures in
-    let low = within-both c.loop-k.k (length c.args.outputs.now) (length c.args.possible.now) (omega (arith, c.loop-k-test.true, c.least-k-end.ensures)) in
+    let low = within-both c.loop-k.k (length c.args.outputs.now) (length c.args.possible.now) (omega (arith, c.loop-k-test.true, c.min-k-end.ensures)) in
     piece_failed _ _ _ _ _ _ _ _ _ _ _ p.1
     (outputs-at c.args.outputs.now c.args.possible.now c.loop-k.k c.index-outputs-k.result c.index-outputs-k.result c.index-possible-k.result
     c.index-possible-k.result low.0 low.1 c.index-outputs-k.is c.index-possible-k.is)
@@ -17,7 +17,7 @@ returns-in_err-print_output g c =
 pub loop-k-preserved : goal.loop-k-preserved
 loop-k-preserved g c =
     let gave = c.in_ok-print_output.ensures in
-    let low = within-both c.loop-k.k (length c.args.outputs.now) (length c.args.possible.now) (omega (arith, c.loop-k-test.true, c.least-k-end.ensures)) in
+    let low = within-both c.loop-k.k (length c.args.outputs.now) (length c.args.possible.now) (omega (arith, c.loop-k-test.true, c.min-k-end.ensures)) in
     piece_given _ _ _ _ _ _ _ _ _
     (outputs-at c.args.outputs.now c.args.possible.now c.loop-k.k c.index-outputs-k.result c.index-outputs-k.result c.index-possible-k.result
     c.index-possible-k.result low.0 low.1 c.index-outputs-k.is c.index-possible-k.is)
@@ -25,5 +25,5 @@ loop-k-preserved g c =
 
 pub returns : goal.returns
 returns g c =
-    let past = past-one c.loop-k.k (length c.args.outputs.now) (length c.args.possible.now) (omega (arith, c.loop-k-test.false, c.least-k-end.ensures)) in
+    let past = past-one c.loop-k.k (length c.args.outputs.now) (length c.args.possible.now) (omega (arith, c.loop-k-test.false, c.min-k-end.ensures)) in
     all_given _ _ _ _ _ _ tt refl (rw (outputs-end c.args.outputs.now c.args.possible.now c.loop-k.k past) at c.loop-k.invariant)

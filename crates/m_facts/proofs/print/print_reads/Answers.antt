@@ -9,7 +9,7 @@ pub returns-in_err-print_read : goal.returns-in_err-print_read
 returns-in_err-print_read g c =
     let p = err_from_is_err_and c.from_residual.result c.from_residual.ensures.1 in
     let gave = rw (c.as_slice-in-loop-j.ensures, c.as_slice-in-loop-j-2.ensures) at c.in_err-print_read.ensures in
-    let low = within-both c.loop-j.j (length c.args.firsts.now) (length c.args.reads.now) (omega (arith, c.loop-j-test.true, c.least-j-end.ensures)) in
+    let low = within-both c.loop-j.j (length c.args.firsts.now) (length c.args.reads.now) (omega (arith, c.loop-j-test.true, c.min-j-end.ensures)) in
     let named : c.printed_name-name.result.now ≡ printed_name c.args.face.now.outputs (get_or c.args.firsts.now c.loop-j.j 0) =
     c.printed_name-name.ensures ∙ ap (λ outputs. printed_name outputs (get_or c.args.firsts.now c.loop-j.j 0)) c.as_slice.ensures in
     piece_failed _ _ _ _ _ _ _ _ _ _ _ p.1
@@ -20,7 +20,7 @@ returns-in_err-print_read g c =
 pub loop-j-preserved : goal.loop-j-preserved
 loop-j-preserved g c =
     let gave = rw (c.as_slice-in-loop-j.ensures, c.as_slice-in-loop-j-2.ensures) at c.in_ok-print_read.ensures in
-    let low = within-both c.loop-j.j (length c.args.firsts.now) (length c.args.reads.now) (omega (arith, c.loop-j-test.true, c.least-j-end.ensures)) in
+    let low = within-both c.loop-j.j (length c.args.firsts.now) (length c.args.reads.now) (omega (arith, c.loop-j-test.true, c.min-j-end.ensures)) in
     let named : c.printed_name-name.result.now ≡ printed_name c.args.face.now.outputs (get_or c.args.firsts.now c.loop-j.j 0) =
     c.printed_name-name.ensures ∙ ap (λ outputs. printed_name outputs (get_or c.args.firsts.now c.loop-j.j 0)) c.as_slice.ensures in
     piece_given _ _ _ _ _ _ _ _ _
@@ -30,5 +30,5 @@ loop-j-preserved g c =
 
 pub returns : goal.returns
 returns g c =
-    let past = past-one c.loop-j.j (length c.args.firsts.now) (length c.args.reads.now) (omega (arith, c.loop-j-test.false, c.least-j-end.ensures)) in
+    let past = past-one c.loop-j.j (length c.args.firsts.now) (length c.args.reads.now) (omega (arith, c.loop-j-test.false, c.min-j-end.ensures)) in
     all_given _ _ _ _ _ _ tt refl (rw (reads-end c.args.face.now c.args.firsts.now c.args.reads.now c.loop-j.j past) at c.loop-j.invariant)
