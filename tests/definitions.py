@@ -178,9 +178,9 @@ def answers():
     lines = read(path)
     names, found = imports(lines, ""), {}
     for text in lines:
-        said = re.match(r"(?:Replies|CutOff|InFull|HasAnswer) \((\w+) [^)]*\).* = (\w+)", text)
-        if said and said[2] in names:
-            found.setdefault(said[1].lower(), set()).add(names[said[2]])
+        said = re.match(r"(?:Replies|CutOff|InFull|HasAnswer) \((\w+) [^)]*\).* = (.*)", text)
+        if said:
+            found.setdefault(said[1].lower(), set()).update(names[word] for word in re.findall(r"\w+", said[2]) if word in names)
     found["compile"].add(("Rattle.m_commands.specs.Clauses", "WritesCode"))
     return found
 
@@ -196,7 +196,7 @@ def by_command():
     shared = top.count + sum(d.count for d in frame.seen.values())
     rows = []
     for command, names in found.items():
-        reading = Reading(alone - {name for _, name in names})
+        reading = Reading(set())
         reading.walk(list(names))
         rows.append((command, shared + sum(d.count for key, d in reading.seen.items() if key not in frame.seen)))
     return shared, rows

@@ -74,7 +74,8 @@ pub rows_refused : (front : List ℕ) (scheme : Scheme) (face : Face) (runs : Li
     → ReportsRefusal (λ line. (household_of face.inputs rows ≡ Err fault) × (household_fault_line fault ≡ Some line)) old new status
     → IsAnswered (HouseholdReplies front scheme rows) old new status
 rows_refused front scheme face runs rows fault old new status shown reported =
-    refused_as (λ line. (household_of face.inputs rows ≡ Err fault) × (household_fault_line fault ≡ Some line)) (HouseholdReplies front scheme rows) old new status
+    refused_as (λ line. (household_of face.inputs rows ≡ Err fault) × (household_fault_line fault ≡ Some line)) (HouseholdReplies front scheme rows) old new
+    status
     (λ line is. file_is_refused fault (subst (λ inputs. household_of inputs rows ≡ Err fault) shown.inputs is.0) is.1) reported
 
 pub rows_printed : (front : List ℕ) (scheme : Scheme) (loaded : Loaded) (rows : List ℕ) (answer : Answer) (old new : OutputView) (status : Status)

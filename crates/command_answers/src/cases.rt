@@ -26,7 +26,8 @@ pub fn cases_source<R: Threads + Sync, K: Sink>(
     out: &mut K,
 ) -> Status
     requires { SourceKeepsLimits source.now }
-    ensures { IsWrittenInParts (SourceReplies source.now (λ scheme. ComparedReplies scheme table.now)) (output_view K.written K.faults out.old) (output_view K.written K.faults out.new) result }
+    ensures { IsWrittenInParts (SourceReplies source.now (λ scheme. ComparedReplies scheme table.now)) (output_view K.written K.faults out.old)
+        (output_view K.written K.faults out.new) result }
 {
     match prepare_code(rt, alloc, source) {
         Ok(loaded) => answer_cases(rt, alloc, &loaded, table, out),

@@ -82,9 +82,7 @@ fn read_at<L: Leaf>(size: u32, index: &MTerm<L>, weight: u64) -> u64
 {
     match index.literal() {
         Some(_) => weight.saturating_add(1),
-        None => weight
-            .saturating_add(2 * size as u64)
-            .saturating_add(2),
+        None => weight.saturating_add(2 * size as u64).saturating_add(2),
     }
 }
 

@@ -35,7 +35,8 @@ count_complete (suc count) = tt
 pub run_complete : (source : Source) (rows text : List ℕ) (status : Status) → RunHasAnswer source rows → RunReplies source rows text status → IsComplete status
 run_complete source rows text status h a =
     source_complete source (λ (scheme : Scheme). household_of scheme.inputs rows) household_fault_line
-    (λ (scheme : Scheme) pairs. observation_lines scheme.names (observation_for scheme pairs)) (λ scheme pairs. observation_status (observation_for scheme pairs))
+    (λ (scheme : Scheme) pairs. observation_lines scheme.names (observation_for scheme pairs)) (λ scheme pairs. observation_status (observation_for scheme
+    pairs))
     text status (λ scheme pairs. reported_complete (observation_for scheme pairs)) h a
 
 pub batch_complete : (source : Source) (table text : List ℕ) (status : Status) → HasGiven (IsScheme source) (λ (scheme : Scheme). table_of scheme.inputs table)
@@ -44,7 +45,8 @@ batch_complete source table text status h a =
     source_complete source (λ (scheme : Scheme). table_of scheme.inputs table) household_fault_line rows_lines (λ scheme rows. Done) text status
     (λ scheme rows. tt) h a
 
-pub cases_complete : (source : Source) (table text : List ℕ) (status : Status) → HasGiven (IsScheme source) (λ (scheme : Scheme). cases_of scheme.inputs scheme.names table)
+pub cases_complete : (source : Source) (table text : List ℕ) (status : Status) → HasGiven (IsScheme source) (λ (scheme : Scheme). cases_of scheme.inputs
+    scheme.names table)
     → SourceReplies source (λ scheme. ComparedReplies scheme table) text status → IsComplete status
 cases_complete source table text status h a =
     source_complete source (λ (scheme : Scheme). cases_of scheme.inputs scheme.names table) cases_fault_line cases_text
@@ -54,5 +56,6 @@ cases_complete source table text status h a =
 pub exec_complete : (code rows text : List ℕ) (status : Status) → ExecHasAnswer code rows → ExecReplies code rows text status → IsComplete status
 exec_complete code rows text status h a =
     code_complete code (λ (inputs : List Coded). household_of inputs rows) household_fault_line
-    (λ (scheme : Scheme) pairs. observation_lines scheme.names (observation_for scheme pairs)) (λ scheme pairs. observation_status (observation_for scheme pairs))
+    (λ (scheme : Scheme) pairs. observation_lines scheme.names (observation_for scheme pairs)) (λ scheme pairs. observation_status (observation_for scheme
+    pairs))
     text status (λ scheme pairs. reported_complete (observation_for scheme pairs)) h a

@@ -58,7 +58,8 @@ one_of_source source stated line_of text_of status_of t u s r a b =
 one_run : (source : Source) (rows t u : List ℕ) (s r : Status) → RunReplies source rows t s → RunReplies source rows u r → AreOneOutput t s u r
 one_run source rows t u s r a b =
     one_of_source source (λ (scheme : Scheme). household_of scheme.inputs rows) household_fault_line
-    (λ (scheme : Scheme) pairs. observation_lines scheme.names (observation_for scheme pairs)) (λ scheme pairs. observation_status (observation_for scheme pairs))
+    (λ (scheme : Scheme) pairs. observation_lines scheme.names (observation_for scheme pairs)) (λ scheme pairs. observation_status (observation_for scheme
+    pairs))
     t u s r a b
 
 one_batch : (source : Source) (table t u : List ℕ) (s r : Status) → SourceReplies source (λ scheme. TableReplies scheme table) t s
@@ -100,7 +101,8 @@ one_front one other rest left e same = sym (take-append-le (length one) one rest
     ∙ take_all (length other) other (omega arith)
 
 -- a household without a fault isn't refused
-not_refused : (source : Source) (rows line : List ℕ) (scheme : Scheme) (pairs : List (ℕ × ℤ)) → IsScheme source scheme → household_of scheme.inputs rows ≡ Ok pairs
+not_refused : (source : Source) (rows line : List ℕ) (scheme : Scheme) (pairs : List (ℕ × ℤ)) → IsScheme source scheme → household_of scheme.inputs rows ≡ Ok
+    pairs
     → RunReplies source rows line Refused → ⊥
 not_refused source rows line scheme pairs v g a = run_complete source rows line Refused (record { own = scheme; has = v; given = pairs; is_given = g }) a
 

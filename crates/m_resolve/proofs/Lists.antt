@@ -29,7 +29,8 @@ terms_fault d before all i a whole fault h e s f =
     sym s ∙ ap (λ l. resolved_terms d before (terms_of l)) (drop_next all i a h e)
     ∙ ap (if_resolved (λ t. resolved_terms d (before ++ t ∷ []) (terms_of (drop (i + 1) all)))) f
 
-links_fault : (d : Declared) (before : List (Step ℕ)) (all : List PLink) (i : ℕ) (a : PLink) (whole : Result (List (Step ℕ)) ResolveFault) (fault : ResolveFault)
+links_fault : (d : Declared) (before : List (Step ℕ)) (all : List PLink) (i : ℕ) (a : PLink) (whole : Result (List (Step ℕ)) ResolveFault)
+    (fault : ResolveFault)
     → i < length all → a ≡ get_or all i a
     → resolved_links d before (links_of (drop i all)) ≡ whole → resolved_term d a.term ≡ Err fault → whole ≡ Err fault
 links_fault d before all i a whole fault h e s f =

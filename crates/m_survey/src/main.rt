@@ -6,8 +6,8 @@
 #![tactic(auto)]
 
 use m_ports::{HostFiles, HostSink, command_words, exit_after};
-use survey_commands::{Status, m_survey};
 use std::process::ExitCode;
+use survey_commands::{Status, m_survey};
 
 fn main(rt: HostRuntime) -> ExitCode {
     let work = move || -> u8 {

@@ -20,7 +20,11 @@ use std::alloc::AllocError;
 
 /// The node with the value of a term.
 #[cycle(terms)]
-pub fn emit_tree<L: Emitted>(b: &mut Builder, env: &[u32], term: &MTerm<L>) -> Result<u32, AllocError>
+pub fn emit_tree<L: Emitted>(
+    b: &mut Builder,
+    env: &[u32],
+    term: &MTerm<L>,
+) -> Result<u32, AllocError>
     requires { load b.old + 2 * tree_weight (written L.leaf_tree term.now) ≤ 2 ^ 32 }
     ensures step { IfOk result (λ k. Sane b.old → Known b.old env.now
         → TermStep b.old b.new env.now (λ e. term_value e (written L.leaf_tree term.now)) k) }

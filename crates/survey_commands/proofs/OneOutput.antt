@@ -98,14 +98,18 @@ one_answer table t u s r face runs one other a b x y =
     let inputs = one_inputs face runs one other a b in
     let same = one_file (table_of one.inputs table) (table_of other.inputs table) household_fault_line (table_text one) (table_text other) (λ rows. Done)
     (λ rows. Done) t u s r (ap (λ inputs. table_of inputs table) inputs)
-    (λ rows g. (text_same face runs one other rows a b (table_gives one.inputs table rows g)
-    (table_gives other.inputs table rows (subst (λ inputs. table_of inputs table ≡ Ok rows) inputs g)), refl)) x y in
+    (λ rows g. (
+      text_same face runs one other rows a b (table_gives one.inputs table rows g)
+          (table_gives other.inputs table rows (subst (λ inputs. table_of inputs table ≡ Ok rows) inputs g)),
+      refl,
+    )) x y in
     the_same same.0 same.1
 
 -- a scheme has one answer to a table
 one_reply_of : (table t u : List ℕ) (s r : Status) (scheme : Scheme) → SchemeReplies scheme table t s → SchemeReplies scheme table u r → AreOneOutput t s u r
 one_reply_of table t u s r scheme x y =
-    let same = one_file (table_of scheme.inputs table) (table_of scheme.inputs table) household_fault_line (table_text scheme) (table_text scheme) (λ rows. Done)
+    let same = one_file (table_of scheme.inputs table) (table_of scheme.inputs table) household_fault_line (table_text scheme) (table_text scheme) (λ rows.
+    Done)
     (λ rows. Done) t u s r refl (λ rows g. (refl, refl)) x y in
     the_same same.0 same.1
 

@@ -31,7 +31,8 @@ replies_complete (Table source table) text status h r =
     (λ scheme rows. tt) h r
 replies_complete (Facts source ranges) text status h r = facts_complete source ranges text status h r
 replies_complete (CodeTable code table) text status h r =
-    code_complete code (λ (inputs : List Coded). table_of inputs table) household_fault_line table_text (λ scheme rows. Done) text status (λ scheme rows. tt) h r
+    code_complete code (λ (inputs : List Coded). table_of inputs table) household_fault_line table_text (λ scheme rows. Done) text status (λ scheme rows. tt)
+    h r
 replies_complete Version text status h r = subst IsComplete (sym r.1) tt
 
 complete_way : (work : Work) (old new : OutputView) (status : Status) → HasAnswer work → (Rose old.faults new.faults → ⊥) → Way work old new status

@@ -24,7 +24,8 @@ pub(crate) fn table_code<R: Threads + Sync, K: Sink>(
     out: &mut K,
 ) -> Status
     requires { length code.now ≤ CODE_FILE_BYTES }
-    ensures { IsWrittenInParts (CodeReplies code.now (λ scheme. SchemeReplies scheme table.now)) (output_view K.written K.faults out.old) (output_view K.written K.faults out.new) result }
+    ensures { IsWrittenInParts (CodeReplies code.now (λ scheme. SchemeReplies scheme table.now)) (output_view K.written K.faults out.old)
+        (output_view K.written K.faults out.new) result }
 {
     match read_code(alloc, code) {
         Ok(loaded) => answer_table(rt, alloc, &loaded, table, out),

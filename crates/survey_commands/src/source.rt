@@ -25,7 +25,8 @@ pub(crate) fn table_source<R: Threads + Sync, K: Sink>(
     out: &mut K,
 ) -> Status
     requires { SourceKeepsLimits source.now }
-    ensures { IsWrittenInParts (SourceReplies source.now (λ scheme. SchemeReplies scheme table.now)) (output_view K.written K.faults out.old) (output_view K.written K.faults out.new) result }
+    ensures { IsWrittenInParts (SourceReplies source.now (λ scheme. SchemeReplies scheme table.now)) (output_view K.written K.faults out.old)
+        (output_view K.written K.faults out.new) result }
 {
     match prepare_code(rt, alloc, source) {
         Ok(loaded) => answer_table(rt, alloc, &loaded, table, out),

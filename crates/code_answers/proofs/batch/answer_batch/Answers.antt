@@ -31,6 +31,7 @@ returns-in-Ok g c = λ scheme shown.
 
 pub returns-in-Err : goal.returns-in-Err
 returns-in-Err g c = λ scheme shown.
-    table_refused scheme c.args.loaded.now.face (machine_run c.args.loaded.now.code) c.args.table.now (rows_lines scheme) (λ rows. Done) c.in-Err.fault _ _ _ shown
+    table_refused scheme c.args.loaded.now.face (machine_run c.args.loaded.now.code) c.args.table.now (rows_lines scheme) (λ rows. Done) c.in-Err.fault _ _ _
+    shown
     (household_refused c.in-Err.fault {IsFault = table_of c.args.loaded.now.face.inputs c.args.table.now ≡ Err c.in-Err.fault} _ _ _ c.in-Err.ensures.outcome
     (rw c.household_entry.ensures at c.report_refusal.ensures))

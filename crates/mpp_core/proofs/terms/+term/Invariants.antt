@@ -23,5 +23,6 @@ invariant-terms-loop-one l = resolved_terms l.scope l.line (map rule_term l.stat
     (terms_of l.all)
 
 abbrev pub invariant-chained-loop-link : goal.invariant-chained-loop-link
-invariant-chained-loop-link l = resolved_links l.scope l.line (map (written_step leaf_tree) l.steps.items) (links_of (drop l.link-index l.links)) ≡ resolved_links l.scope l.line []
+invariant-chained-loop-link l = resolved_links l.scope l.line (map (written_step leaf_tree) l.steps.items) (links_of (drop l.link-index l.links))
+    ≡ resolved_links l.scope l.line []
     (links_of l.links)

@@ -14,7 +14,8 @@ use Rattle.mpp_inline.proofs.blocks.begin_command.Goals as goal
 pub returns-in_ok-assign_under-in-Set-clause-step : goal.returns-in_ok-assign_under-in-Set-clause-step
 returns-in_ok-assign_under-in-Set-clause-step c =
     λ s. step-moves-is c.args.frame.depth (sym (ap action_of c.in-Set.is) ∙ c.command.view_is) s
-    (set-step (λ x. term_value x (rule_term c.in-Set.term)) c.in-Set.cell c.in_ok-number-in-Set.ensures.step c.in_ok-assign_under-in-Set.ensures.step s.ready.placed)
+    (set-step (λ x. term_value x (rule_term c.in-Set.term)) c.in-Set.cell c.in_ok-number-in-Set.ensures.step c.in_ok-assign_under-in-Set.ensures.step
+    s.ready.placed)
 
 pub returns-in_ok-assign_under-in-Del-clause-step : goal.returns-in_ok-assign_under-in-Del-clause-step
 returns-in_ok-assign_under-in-Del-clause-step c =
@@ -109,7 +110,8 @@ returns-in-If-clause-size c =
     (λ i. branch c.in-If.line (rule_term c.in-If.condition) (block_of (c.deref.ensures.value i)) (block_of (c.deref-in-If.ensures.value i)))
     ∙ sym (ap action_of c.in-If.is) ∙ c.command.view_is in
     on_ok_weaker c.begin_if.result
-    (λ (m : (w : Whole) → load c.begin_if.new.b + 6 * left_weight w c.begin_if.new.left.items ≤ load c.args.b.now + 2 * tree_weight (rule_term c.in-If.condition) + 4 + 6 *
+    (λ (m : (w : Whole) → load c.begin_if.new.b + 6 * left_weight w c.begin_if.new.left.items ≤ load c.args.b.now + 2 * tree_weight
+    (rule_term c.in-If.condition) + 4 + 6 *
     (left_weight w ws + block_size w depth (block_of first) + block_size w depth (block_of second))).
     let goal' : load c.begin_if.new.b + 6 * left_weight whole c.begin_if.new.left.items ≤ load c.args.b.now + 6 *
     (left_weight whole ws + action_size whole depth c.args.command.now) = omega (

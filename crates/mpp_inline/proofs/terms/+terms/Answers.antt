@@ -215,7 +215,13 @@ emit_applied-returns-clause-size g t c =
     (λ (k : ℕ). load c.push.new.self ≤ most)
     (λ (k : ℕ) p.
     let goal' : load c.push.new.self ≤ most =
-    omega (arith, pushed-load p, three-trees g.L.Leaf.leaf_tree c.args.arguments.now, c.in_ok-first.ensures.size, c.in_ok-second.ensures.size,
-    c.in_ok-third.ensures.size) in
+    omega (
+      arith,
+      pushed-load p,
+      three-trees g.L.Leaf.leaf_tree c.args.arguments.now,
+      c.in_ok-first.ensures.size,
+      c.in_ok-second.ensures.size,
+      c.in_ok-third.ensures.size,
+    ) in
     goal')
     c.push.ensures

@@ -16,7 +16,8 @@ pub returns-in_err-files : goal.returns-in_err-files
 returns-in_err-files g c =
     let all = c.in_ok-join_parts.ensures in
     let stated = parsed_files c.files_at_once-size.result c.args.texts.now all.parts
-    (λ n d h. let gave = all.made.each n d h in subst (λ (texts : List Text). IsGiven (n * c.files_at_once-size.result) texts (get_or all.parts n d)) gave.1 gave.2)
+    (λ n d h. let gave = all.made.each n d h in subst (λ (texts : List Text). IsGiven (n * c.files_at_once-size.result) texts (get_or all.parts n d))
+    gave.1 gave.2)
     all.made.inside all.made.reach in
     reported _ _ _ _ _ c.from_residual-in_err-files.ensures.1 (rw c.in_err-files.was at (rw (sym all.all_is) at stated))
 
@@ -24,6 +25,7 @@ pub returns : goal.returns
 returns g c =
     let all = c.in_ok-join_parts.ensures in
     let stated = parsed_files c.files_at_once-size.result c.args.texts.now all.parts
-    (λ n d h. let gave = all.made.each n d h in subst (λ (texts : List Text). IsGiven (n * c.files_at_once-size.result) texts (get_or all.parts n d)) gave.1 gave.2)
+    (λ n d h. let gave = all.made.each n d h in subst (λ (texts : List Text). IsGiven (n * c.files_at_once-size.result) texts (get_or all.parts n d))
+    gave.1 gave.2)
     all.made.inside all.made.reach in
     rw c.from_vec.ensures (rw c.in_ok-files.was at (rw (sym all.all_is) at stated))

@@ -29,6 +29,7 @@ returns-in-Ok-rows_of g c = λ scheme shown.
 
 pub returns : goal.returns
 returns g c = λ scheme shown.
-    table_refused scheme c.args.loaded.now.face (machine_run c.args.loaded.now.code) c.args.table.now (table_text scheme) (λ rows. Done) c.in-Err.fault _ _ _ shown
+    table_refused scheme c.args.loaded.now.face (machine_run c.args.loaded.now.code) c.args.table.now (table_text scheme) (λ rows. Done) c.in-Err.fault _ _ _
+    shown
     (household_refused c.in-Err.fault {IsFault = table_of c.args.loaded.now.face.inputs c.args.table.now ≡ Err c.in-Err.fault} _ _ _ c.in-Err.ensures.outcome
     (rw c.household_entry.ensures at c.report_refusal.ensures))
