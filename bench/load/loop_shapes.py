@@ -214,6 +214,24 @@ def _(n):
     )
 
 
+@shape("a word of 8,000,000 letters, each 8 MB", 8_000_000, grows=False)
+def _(n):
+    # The name would have 6.4 * 10^13 bytes, and the allocator rejects that before one of them is written.
+    return case([ONE, RULE, "A = somme(i=", *many("B", n), ": ", *many("i", n), ") ;"], "", 5)
+
+
+@shape("unknown names as long as a declared one in 1,000,000 instances", 16_000)
+def _(n):
+    # The first instance that is no name of a variable is the error, and no later one is looked up.
+    name = "B" * n
+    front = "A = somme(j=1..1000: somme(i=000..999: "
+    return case(
+        [ONE, name, "ABC:const=1;\n", RULE, front, name, "i)) ;"],
+        [f"refused a.m line 4 byte {len(ONE) + n + 13 + len(RULE) + len(front)}: unknown name ", name, "000\n"],
+        1,
+    )
+
+
 @shape("members of a membership of a membership", 256, grows=False, stacks=DEEP)
 def _(n):
     return case([ONE, RULE, "A = ", "(" * (n - 1), "1", " dans (0, 1))" * (n - 1), " ;"], refused("too many parts", line=2, byte=len(ONE)), 1)

@@ -2,6 +2,7 @@
 //! is a separate function, never inlined, so that the stack frames of a level stay small.
 ghost use Rattle.std.specs.Prelude.{◌≡◌, ◌∷◌, ◌++◌, [], ◌<◌, ◌≤◌, IfOk, OnOk, IsTrue, length};
 ghost use Rattle.std.specs.Bool.{OnTrue};
+ghost use Rattle.std.specs.Str.Parse.{digits_value};
 ghost use Rattle.m_fixed.specs.Text.{only_digits};
 ghost use Rattle.m_ast.specs.PlainView.{syntax_of};
 ghost use Rattle.m_ast.specs.Syntax as tree;
@@ -9,8 +10,8 @@ ghost use Rattle.loop_values.specs.Letters.{replaced};
 ghost use Rattle.index_expand.specs.Terms as spec;
 ghost use Rattle.index_expand.specs.inner.Operands.{links_sum, chain_of};
 
-use crate::words::{Words, instance, named};
-use loop_values::{is_digits, is_free, number, replaced_within};
+use crate::words::{Words, instance, is_free_in, most_bytes, named, same};
+use loop_values::{is_digits, number, replaced_within};
 use m_ast::{PLink, PMember, PNode, PTerm, PlainName, plain};
 use m_fixed::{Amount, Op, Value};
 use m_places::{Name, Place};
@@ -51,14 +52,34 @@ fn word_node(
     requires { length letters.now ≡ 256 }
     ensures { IfOk result (λ node. syntax_of node ≡ spec.word_term (replaced letters.now word.now) place) }
 {
-    if is_free(letters, word.bytes()) {
-        return short_node(words, letters, word, word.bytes(), place);
+    if is_free_in(words, letters, word.bytes()) {
+        return free_node(words, word, place);
     }
-    let most = words.symbols.longest().max(DIGITS);
+    let most = most_bytes(words).max(DIGITS);
     match replaced_within(words.alloc, letters, word.bytes(), most)? {
-        None => Ok(PNode::Named(instance(words.alloc, letters, word)?, place)),
+        None => Ok(PNode::Named(instance(words, letters, word)?, place)),
         Some(bytes) => short_node(words, letters, word, bytes.as_slice(), place),
     }
+}
+
+// The same for a word without bound letters.
+fn free_node(words: &Words<'_>, word: &Name, place: Place) -> Result<PNode, AllocError>
+    ensures { IfOk result (λ node. syntax_of node ≡ spec.word_term word.now place) }
+{
+    if is_number_word(word.bytes()) {
+        Ok(literal(word.bytes()))
+    } else {
+        Ok(PNode::Named(same(words, word)?, place))
+    }
+}
+
+// The literal that a word of digits denotes.
+fn literal(word: &[u8]) -> PNode
+    requires digits { IsTrue (only_digits word.now) }
+    requires short { length word.now ≤ 12 }
+    ensures { syntax_of result ≡ spec.number_term (digits_value 10 word.now) }
+{
+    number_node(number(word))
 }
 
 // The same for a word, given with its letters replaced.
@@ -74,7 +95,7 @@ fn short_node(
     ensures { IfOk result (λ node. syntax_of node ≡ spec.word_term bytes.now place) }
 {
     if is_number_word(bytes) {
-        Ok(number_node(number(bytes)))
+        Ok(literal(bytes))
     } else {
         Ok(PNode::Named(named(words, letters, word, bytes)?, place))
     }
@@ -110,12 +131,11 @@ pub(crate) fn word_with(
     requires { length letters.now ≡ 256 }
     ensures { IfOk result (λ name. name ≡ replaced letters.now word.now) }
 {
-    if is_free(letters, word.bytes()) {
-        return named(words, letters, word, word.bytes());
+    if is_free_in(words, letters, word.bytes()) {
+        return same(words, word);
     }
-    let most = words.symbols.longest();
-    match replaced_within(words.alloc, letters, word.bytes(), most)? {
-        None => instance(words.alloc, letters, word),
+    match replaced_within(words.alloc, letters, word.bytes(), most_bytes(words))? {
+        None => instance(words, letters, word),
         Some(bytes) => named(words, letters, word, bytes.as_slice()),
     }
 }

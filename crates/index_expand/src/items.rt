@@ -25,6 +25,7 @@ use m_ast::{CheckItem, Condition, Definition, Formula, Item, PTerm, Plain, Term,
 use m_places::{Name, Place, Seq, SharedName};
 use m_symbols::Symbols;
 use std::alloc::{AllocError, Global};
+use std::cell::Cell;
 
 /// The rules and verifications of an application without loops, or the error of the items.
 ///
@@ -133,7 +134,11 @@ fn take_items(
         × (plain ≡ expansion items.now application.now symbols.now))
         (λ fault. too_many symbols.now 0 (filter (counts_in application.now) items.now) ≡ Some fault) }
 {
-    let words = Words { alloc, symbols };
+    let words = Words {
+        alloc,
+        symbols,
+        missed: Cell::new(false),
+    };
     let mut letters = no_letters(alloc)?;
     let mut definitions = Vec::new(alloc);
     let mut conditions = Vec::new(alloc);

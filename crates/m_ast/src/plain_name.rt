@@ -79,11 +79,29 @@ impl PlainName {
 fn spelled(alloc: Global, values: &[(u8, Name)], word: &[u8]) -> Result<Name, AllocError>
     ensures { IfOk result (λ n. n ≡ spec.spelled values.now word.now) }
 {
-    let mut bytes = Vec::new(alloc);
+    let mut bytes = Vec::with_capacity(alloc, spelled_length(values, word))?;
     for byte in word {
         push_spelled(&mut bytes, values, *byte)?;
     }
     Name::long(alloc, bytes)
+}
+
+// The number of bytes of that, or the greatest number if it is more. It is known before a byte is
+// written, so a name for which there is no memory is rejected at once.
+fn spelled_length(values: &[(u8, Name)], word: &[u8]) -> usize {
+    let mut length = 0usize;
+    for byte in word {
+        length = length.saturating_add(byte_length(values, *byte));
+    }
+    length
+}
+
+// The number of bytes of the value of a byte, or 1.
+fn byte_length(values: &[(u8, Name)], byte: u8) -> usize {
+    match value_of(values, byte) {
+        Some(value) => value.bytes().len(),
+        None => 1,
+    }
 }
 
 // Appends the value of a byte, or the byte.
