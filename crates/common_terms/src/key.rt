@@ -92,11 +92,17 @@ impl NodesDigest {
             Value::Undef => self.digest.update(&[1]),
             Value::Over => self.digest.update(&[2]),
             Value::Num(amount) => {
-                let mut bytes = [3; 17];
-                bytes[1..].copy_from_slice(&amount.millionths().to_le_bytes());
-                self.digest.update(&bytes);
+                let millionths = amount.millionths();
+                let kind = if millionths < 0 { 200 } else { 3 };
+                self.take_size(kind, millionths.unsigned_abs() as u64);
             }
         }
+    }
+
+    fn take_size(&mut self, kind: u8, size: u64) {
+        let mut bytes = [kind; 9];
+        bytes[1..].copy_from_slice(&size.to_le_bytes());
+        self.digest.update(&bytes);
     }
 
     // Arguments that repeat the first are left out; the first byte says how many there are.
