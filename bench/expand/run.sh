@@ -10,16 +10,8 @@ root=$(cd "$here/../.." && pwd)
 work=$(mktemp -d "${TMPDIR:-/tmp}/bench_expand.XXXXXX")
 trap 'rm -rf "$work"' EXIT
 trap 'exit 1' HUP INT TERM
-mkdir -p "$work/repository/crates"
-for crate in m_places m_fixed m_names m_text m_lexer m_ast m_terms m_items m_symbols loop_values index_expand; do
-    mkdir "$work/repository/crates/$crate"
-    for part in src specs proofs; do
-        if [ -d "$root/crates/$crate/$part" ]; then cp -r "$root/crates/$crate/$part" "$work/repository/crates/$crate/"; fi
-    done
-    grep "^$crate:" "$root/crates.txt" >>"$work/repository/crates.txt"
-done
+sh "$root/bench/copied.sh" "$work/repository" m_places m_fixed m_names m_text m_lexer m_ast m_terms m_items m_symbols loop_values index_expand
 echo "bench_expand: m_places m_lexer m_ast m_items m_symbols index_expand anyhow" >>"$work/repository/crates.txt"
-cp "$root/HANDLES" "$work/repository/"
 bench=$work/repository/crates/bench_expand
 mkdir -p "$bench/src" "$bench/proofs/expanded"
 cp "$here/main.rt.txt" "$bench/src/main.rt"

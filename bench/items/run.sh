@@ -10,16 +10,8 @@ root=$(cd "$here/../.." && pwd)
 work=$(mktemp -d "${TMPDIR:-/tmp}/bench_items.XXXXXX")
 trap 'rm -rf "$work"' EXIT
 trap 'exit 1' HUP INT TERM
-mkdir -p "$work/repository/crates"
-for crate in m_places m_fixed m_names m_text m_lexer m_ast m_terms m_items m_symbols; do
-    mkdir "$work/repository/crates/$crate"
-    for part in src specs proofs; do
-        if [ -d "$root/crates/$crate/$part" ]; then cp -r "$root/crates/$crate/$part" "$work/repository/crates/$crate/"; fi
-    done
-    grep "^$crate:" "$root/crates.txt" >>"$work/repository/crates.txt"
-done
+sh "$root/bench/copied.sh" "$work/repository" m_places m_fixed m_names m_text m_lexer m_ast m_terms m_items m_symbols
 echo "bench_items: m_places m_lexer m_ast m_items m_symbols anyhow" >>"$work/repository/crates.txt"
-cp "$root/HANDLES" "$work/repository/"
 bench=$work/repository/crates/bench_items
 mkdir -p "$bench/src"
 cp "$here/main.rt.txt" "$bench/src/main.rt"

@@ -17,20 +17,10 @@ done
 rustc -O -o "$work/plain" "$here/plain.rs" 2>"$work/rustc.log" || { cat "$work/rustc.log" >&2; exit 1; }
 
 # The lexer runs in a program of its own, proved and built in a copy of the repository.
-mkdir -p "$work/repository/crates"
-for crate in m_places m_fixed m_text m_lexer; do
-    mkdir "$work/repository/crates/$crate"
-    for part in src specs proofs; do
-        if [ -d "$root/crates/$crate/$part" ]; then
-            cp -r "$root/crates/$crate/$part" "$work/repository/crates/$crate/"
-        fi
-    done
-    grep "^$crate:" "$root/crates.txt" >>"$work/repository/crates.txt"
-done
+sh "$root/bench/copied.sh" "$work/repository" m_places m_fixed m_text m_lexer
 driver=$work/repository/crates/bench_lexer
 mkdir -p "$driver/src"
 echo "bench_lexer: m_lexer m_places anyhow" >>"$work/repository/crates.txt"
-cp "$root/HANDLES" "$work/repository/"
 cat >"$driver/src/main.rt" <<'DRIVER'
 //! Runs the lexer five times over a file, and prints the count of tokens and the microseconds.
 #![tactic(auto)]

@@ -16,16 +16,8 @@ trap 'exit 1' HUP INT TERM
 rustc -O -o "$work/names" "$here/names.rs"
 "$work/names" "$count" "$work"
 
-mkdir -p "$work/repository/crates"
-for crate in m_places m_names; do
-    mkdir "$work/repository/crates/$crate"
-    for part in src specs proofs; do
-        if [ -d "$root/crates/$crate/$part" ]; then cp -r "$root/crates/$crate/$part" "$work/repository/crates/$crate/"; fi
-    done
-    grep "^$crate:" "$root/crates.txt" >>"$work/repository/crates.txt"
-done
+sh "$root/bench/copied.sh" "$work/repository" m_places m_names
 echo "bench_names: m_places m_names indexmap anyhow" >>"$work/repository/crates.txt"
-cp "$root/HANDLES" "$work/repository/"
 bench=$work/repository/crates/bench_names
 mkdir -p "$bench/src"
 cp "$here/main.rt.txt" "$bench/src/main.rt"

@@ -9,17 +9,9 @@ root=$(cd "$here/../.." && pwd)
 work=$(mktemp -d "${TMPDIR:-/tmp}/bench_order.XXXXXX")
 trap 'rm -rf "$work"' EXIT
 trap 'exit 1' HUP INT TERM
-mkdir -p "$work/repository/crates"
-for crate in m_places m_fixed m_names m_text m_lexer m_ast m_terms m_items \
-    m_symbols loop_values index_expand micro_m m_resolve rule_order rule_base; do
-    mkdir "$work/repository/crates/$crate"
-    for part in src specs proofs; do
-        if [ -d "$root/crates/$crate/$part" ]; then cp -r "$root/crates/$crate/$part" "$work/repository/crates/$crate/"; fi
-    done
-    grep "^$crate:" "$root/crates.txt" >>"$work/repository/crates.txt"
-done
+sh "$root/bench/copied.sh" "$work/repository" m_places m_fixed m_names m_text m_lexer m_ast m_terms m_items \
+    m_symbols loop_values index_expand micro_m m_resolve rule_order rule_base
 echo "bench_order: m_places micro_m rule_order rule_base anyhow" >>"$work/repository/crates.txt"
-cp "$root/HANDLES" "$work/repository/"
 bench=$work/repository/crates/bench_order
 mkdir -p "$bench/src"
 cp "$here/main.rt.txt" "$bench/src/main.rt"

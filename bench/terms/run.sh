@@ -11,16 +11,8 @@ root=$(cd "$here/../.." && pwd)
 work=$(mktemp -d "${TMPDIR:-/tmp}/bench_terms.XXXXXX")
 trap 'rm -rf "$work"' EXIT
 trap 'exit 1' HUP INT TERM
-mkdir -p "$work/repository/crates"
-for crate in m_places m_fixed m_text m_lexer m_ast m_terms; do
-    mkdir "$work/repository/crates/$crate"
-    for part in src specs proofs; do
-        if [ -d "$root/crates/$crate/$part" ]; then cp -r "$root/crates/$crate/$part" "$work/repository/crates/$crate/"; fi
-    done
-    grep "^$crate:" "$root/crates.txt" >>"$work/repository/crates.txt"
-done
+sh "$root/bench/copied.sh" "$work/repository" m_places m_fixed m_text m_lexer m_ast m_terms
 echo "bench_terms: m_terms m_lexer m_ast m_places anyhow" >>"$work/repository/crates.txt"
-cp "$root/HANDLES" "$work/repository/"
 driver=$work/repository/crates/bench_terms
 mkdir -p "$driver/src"
 cp "$here/main.rt.txt" "$driver/src/main.rt"

@@ -7,17 +7,9 @@ set -eu
 here=$(cd "$(dirname "$0")" && pwd)
 root=$(cd "$here/../.." && pwd)
 work=$1
-mkdir -p "$work/repository/crates"
-for crate in m_places m_fixed definedness observables flat_code reg_machine register_alloc common_terms fold_terms dead_rules; do
-    mkdir "$work/repository/crates/$crate"
-    for part in src specs proofs; do
-        if [ -d "$root/crates/$crate/$part" ]; then cp -r "$root/crates/$crate/$part" "$work/repository/crates/$crate/"; fi
-    done
-    grep "^$crate:" "$root/crates.txt" >>"$work/repository/crates.txt"
-done
+sh "$root/bench/copied.sh" "$work/repository" m_places m_fixed definedness observables flat_code reg_machine register_alloc common_terms fold_terms dead_rules
 uses="m_places m_fixed definedness observables flat_code reg_machine register_alloc common_terms fold_terms dead_rules indexmap sha2 anyhow"
 echo "bench_tidy: $uses" >>"$work/repository/crates.txt"
-cp "$root/HANDLES" "$work/repository/"
 bench=$work/repository/crates/bench_tidy
 mkdir -p "$bench/src" "$bench/proofs/nodes_of" "$bench/proofs/program" "$bench/proofs/are_below"
 cp "$here/main.rt.txt" "$bench/src/main.rt"

@@ -11,15 +11,8 @@ trap 'rm -rf "$work"' EXIT
 trap 'exit 1' HUP INT TERM
 below="m_places m_fixed definedness observables flat_code common_terms"
 mkdir -p "$work/crates/bench_numbers/src"
-for crate in $below; do
-    mkdir "$work/crates/$crate"
-    for part in src specs proofs; do
-        if [ -d "$root/crates/$crate/$part" ]; then cp -r "$root/crates/$crate/$part" "$work/crates/$crate/"; fi
-    done
-    grep "^$crate:" "$root/crates.txt" >>"$work/crates.txt"
-done
+sh "$root/bench/copied.sh" "$work" $below
 echo "bench_numbers: $below indexmap sha2 anyhow" >>"$work/crates.txt"
-cp "$root/HANDLES" "$work/"
 bench=$work/crates/bench_numbers
 { cat "$here/numbers.rt.txt" && echo && awk '/^fn units/ { on = 1 } /^fn add</ { on = 0 } on' "$here/main.rt.txt"; } >"$bench/src/main.rt"
 (cd "$bench" && sh "$root/bench/built.sh" >"$work/rt.log" 2>&1) || { cat "$work/rt.log" >&2; exit 1; }

@@ -17,13 +17,13 @@ TEXTS = {
     **texts_reform.TEXTS,
     "rule.bad byte": (
         "No token begins here: accented letters stand in texts and comments only, and a point between digits.",
-        "Aucun mot ne commence ici : les lettres accentuées ne se trouvent que dans les textes et les commentaires, et un point entre des chiffres."),
+        "Aucun jeton ne commence ici : les lettres accentuées ne se trouvent que dans les textes et les commentaires, et un point entre des chiffres."),
     "rule.open string": (
         'The text that begins here is never closed; look for a " that is missing, here or in a text above or below.',
         "Le texte qui commence ici n'est jamais fermé : cherchez un \" manquant, ici ou dans un texte au-dessus ou au-dessous."),
     "rule.number too great": (
         "Numbers end at 10000000000000.",
-        "Les nombres s'arrêtent à 10000000000000."),
+        "Le plus grand nombre est 10000000000000."),
     "rule.too deep": (
         "More than 256 brackets and conditionals are open here: give a part of the formula a variable of its own.",
         "Plus de 256 parenthèses et conditions sont ouvertes ici : donnez à une partie de la formule sa propre variable."),
@@ -38,10 +38,10 @@ TEXTS = {
         "Une variable saisie précédente a ce code : donnez une variable à chaque case du formulaire."),
     "rule.table size": (
         "A table has 1 to 1,024 cells.",
-        "Un tableau a de 1 à 1 024 cases."),
+        "Un tableau a de 1 à 1 024 cellules."),
     "rule.too many cells": (
         "With this declaration the base passes 1,000,000 cells, and a variable is one too: split the base.",
-        "Avec cette déclaration la base dépasse 1 000 000 de cases, et une variable en compte pour une : partagez la base."),
+        "Avec cette déclaration, la base dépasse 1 000 000 de cellules, et une variable en compte pour une : scindez la base."),
     "rule.bad range": (
         "A range runs upward, from number to number or from letter to letter, and each letter stands once in a header.",
         "Un intervalle va en croissant, de nombre à nombre ou de lettre à lettre, et chaque lettre figure une fois dans un en-tête."),
@@ -50,10 +50,10 @@ TEXTS = {
         "Cet en-tête donne plus de 10 000 instances : écrivez-le en plusieurs."),
     "rule.unbound index": (
         "A small letter here is bound by no loop round it; names of variables have none.",
-        "Une minuscule n'est liée ici par aucune boucle autour d'elle ; les noms des variables n'en ont pas."),
+        "Aucune boucle ne lie cette minuscule ; les noms de variables n'en ont pas."),
     "rule.too many parts": (
         "With this item all formulas, without their loops, pass 2,000,000 names, numbers and operators: shorten the loops.",
-        "Avec cet élément toutes les formules, sans leurs boucles, dépassent 2 000 000 de noms, de nombres et d'opérateurs : raccourcissez les boucles."),
+        "Avec cet élément, toutes les formules, sans leurs boucles, dépassent 2 000 000 de noms, de nombres et d'opérateurs : raccourcissez les boucles."),
     "rule.unknown name": (
         "No declaration has this name, after letters of loops are replaced: look for a slip, or declare it.",
         "Aucune déclaration ne porte ce nom, une fois les lettres des boucles remplacées : cherchez une faute de frappe, ou déclarez-le."),
@@ -62,25 +62,25 @@ TEXTS = {
         "Seuls les tableaux ont un indice : supprimez-le, ou déclarez un tableau."),
     "rule.is a table": (
         "A table is read and set cell by cell: write an index in [ ].",
-        "Un tableau se lit et se calcule case par case : écrivez un indice entre [ ]."),
+        "Un tableau se lit et se calcule cellule par cellule : écrivez un indice entre [ ]."),
     "rule.bad target": (
         "Rules set computed variables and the cells that a table has: no inputs, no constants.",
-        "Les règles calculent des variables calculées et les cases d'un tableau : ni variables saisies, ni constantes."),
+        "Une règle fixe une variable calculée ou une cellule d'un tableau : ni variable saisie, ni constante."),
     "rule.defined twice": (
         "A formula above sets this too: join the two by si, or take one to another application.",
-        "Une formule au-dessus calcule déjà ceci : réunissez les deux par si, ou placez-en une dans une autre application."),
+        "Une formule précédente la fixe déjà : réunissez les deux par si, ou placez-en une dans une autre application."),
     "rule.unknown error": (
         "The word after erreur is the name of no error: declare it, or look for a slip.",
         "Le mot après erreur n'est le nom d'aucune erreur : déclarez-la, ou cherchez une faute de frappe."),
     "driver.bad token": (
         "No token begins somewhere in this line: look for a tab, an accented letter, or a number above 10000000000000.",
-        "Un mot ne peut pas être lu dans cette ligne : cherchez une tabulation, une lettre accentuée, ou un nombre au-dessus de 10000000000000."),
+        "Un jeton ne peut pas être lu dans cette ligne : cherchez une tabulation, une lettre accentuée, ou un nombre au-dessus de 10000000000000."),
     "driver.too deep": (
         "More than 256 brackets are open in this line, or it has more than 64 outer lines: write a function of its own.",
         "Plus de 256 parenthèses sont ouvertes dans cette ligne, ou elle a plus de 64 lignes autour d'elle : écrivez une fonction à part."),
     "driver.syntax": (
         "The driver can't be read on from here: look at the indentation, a : that is missing, = for ==, <- for < -.",
-        "Le pilote ne peut pas être lu à partir d'ici : regardez le retrait, un : manquant, = pour ==, <- pour < -."),
+        "Le pilote ne peut pas être lu à partir d'ici : vérifiez le retrait ; cherchez un : manquant, = au lieu de ==, <- au lieu de < -."),
     "driver.function twice": (
         "An earlier function has this name, or it is call_m, which is the rules: rename it.",
         "Une fonction précédente porte ce nom, ou c'est call_m, qui désigne les règles : renommez-la."),
@@ -89,41 +89,41 @@ TEXTS = {
         "Aucune variable ni fonction ne porte ce nom, ou un indice manque, est de trop ou sort du tableau."),
     "driver.bad target": (
         "Constants can't be set, deleted or received.",
-        "Les constantes ne peuvent être ni calculées, ni supprimées, ni reçues."),
+        "Une constante ne peut être ni fixée, ni supprimée, ni reçue."),
     "household.bad row": (
         "A row has two fields (1,5 is two: write 1.5), in a table as many as its first line, with a label that isn't empty.",
-        "Une ligne a deux champs (1,5 en fait deux : écrivez 1.5), dans un tableau autant que sa première ligne, avec un libellé qui n'est pas vide."),
+        "Une ligne a deux champs (1,5 en fait deux : écrivez 1.5), dans une table autant que la première, avec un nom qui n'est pas vide."),
     "household.unknown code": (
         "No input has this code: codes are the words after alias, and not names.",
         "Aucune variable saisie n'a ce code : les codes sont les mots après alias, et non les noms."),
     "household.bad amount": (
         "An amount is digits, a point and digits, perhaps with a -, no blanks, at most 10000000000000.",
-        "Un montant est fait de chiffres, d'un point et de chiffres, peut-être avec un -, sans espace, et vaut au plus 10000000000000."),
+        "Un montant s'écrit en chiffres, au besoin après un - et avec un point et des décimales, sans espace ; il vaut au plus 10000000000000."),
     "household.code twice": (
         "Two rows have this code: add them up, or leave one out.",
         "Deux lignes ont ce code : additionnez-les, ou supprimez-en une."),
     "household.not of its type": (
         "A box (type BOOLEEN) takes 0 and 1, a count (type ENTIER) whole units.",
-        "Une case (type BOOLEEN) prend 0 ou 1, un nombre (type ENTIER) des unités entières."),
+        "Une case à cocher (type BOOLEEN) admet 0 ou 1, un nombre (type ENTIER) des unités entières."),
     "household.unknown output": (
         "Nothing that is asked for has the name after = : look at the requests.",
-        "Rien de ce qui est demandé ne porte le nom après = : regardez les demandes."),
+        "Rien de ce qui est demandé ne porte le nom qui suit = : vérifiez les requêtes."),
     "household.bad expected": (
         "What is expected is an amount, undefined, over, stop, or nothing.",
-        "Ce qui est attendu est un montant, undefined, over, stop, ou rien."),
+        "La valeur attendue est un montant, undefined, over, stop, ou rien."),
     "hint.meant": ("Did you mean {name}?", "Vouliez-vous dire {name} ?"),
     "hint.first": ("The first stands in {place}.", "Le premier se trouve dans {place}."),
     "hint.first_input": ("The first is {name} in {place}.", "Le premier est {name} dans {place}."),
     "hint.is_input": ("{name} is an input.", "{name} est une variable saisie."),
     "hint.is_constant": ("{name} is a constant.", "{name} est une constante."),
-    "hint.size": ("{name} has {size} cells, 0 to {last}.", "{name} a {size} cases, de 0 à {last}."),
+    "hint.size": ("{name} has {size} cells, 0 to {last}.", "{name} a {size} cellules, de 0 à {last}."),
     "hint.letter": ("The letter {letters} of {word} is bound by no loop.", "La lettre {letters} de {word} n'est liée par aucune boucle."),
     "hint.letters": ("The letters {letters} of {word} are bound by no loop.", "Les lettres {letters} de {word} ne sont liées par aucune boucle."),
     "coverage.words": (
         "words: coverage LIST DRIVER CASES.. [--least PERCENT] [--except FILE] [--page FILE] [--lcov FILE] [--lang en|fr] [--here]; see --help",
-        "mots : coverage LIST DRIVER CASES.. [--least POURCENTAGE] [--except FICHIER] [--page FICHIER] [--lcov FICHIER] [--lang en|fr] [--here] ; voir --help"),
+        "usage : coverage LISTE PILOTE CAS.. [--least POURCENTAGE] [--except FICHIER] [--page FICHIER] [--lcov FICHIER] [--lang en|fr] [--here] ; voir --help"),
     "coverage.least": ("--least takes a percentage from 0 to 100, and not {text}", "--least attend un pourcentage de 0 à 100, et non {text}"),
-    "coverage.exception.none": ("{name} line {line}: there is no {point}", "{name} ligne {line} : rien ne s'appelle {point}"),
+    "coverage.exception.none": ("{name} line {line}: there is no {point}", "{name} ligne {line} : {point} n'existe pas"),
     "coverage.exception.reached": ("{name} line {line}: a case reaches {point}", "{name} ligne {line} : un cas atteint {point}"),
     "coverage.differs": ("nothing is said of coverage: {what}", "la couverture n'est pas donnée : {what}"),
     "coverage.formula": ("no case gives it a value other than 0", "aucun cas ne lui donne une valeur autre que 0"),
@@ -141,7 +141,7 @@ TEXTS = {
     "coverage.of.formula": ("formulas: {reached} of {of}", "formules : {reached} sur {of}"),
     "coverage.of.branch": ("branches: {reached} of {of}", "branches : {reached} sur {of}"),
     "coverage.of.bound": ("bounds: {reached} of {of}", "bornes : {reached} sur {of}"),
-    "coverage.of.cell": ("cells: {reached} of {of}", "cases de tableaux : {reached} sur {of}"),
+    "coverage.of.cell": ("cells: {reached} of {of}", "cellules : {reached} sur {of}"),
     "coverage.of.verification": ("verifications: {reached} of {of}", "vérifications : {reached} sur {of}"),
     "coverage.of.command": ("commands: {reached} of {of}", "commandes du pilote : {reached} sur {of}"),
     "coverage.all": ("{households} cases reach {reached} of {of}: {percent} %", "{households} cas atteignent {reached} sur {of} : {percent} %"),
@@ -153,7 +153,7 @@ TEXTS = {
     "coverage.kind.formula": ("Formulas", "Formules"),
     "coverage.kind.branch": ("Branches", "Branches"),
     "coverage.kind.bound": ("Bounds of max and min", "Bornes de max et min"),
-    "coverage.kind.cell": ("Cells of tables", "Cases de tableaux"),
+    "coverage.kind.cell": ("Cells of tables", "Cellules de tableaux"),
     "coverage.kind.verification": ("Verifications", "Vérifications"),
     "coverage.kind.command": ("Commands of the driver", "Commandes du pilote"),
     "coverage.kind.all": ("All", "Total"),
@@ -164,9 +164,9 @@ TEXTS = {
     "coverage.legend": (
         "A line is marked + where all of it is reached, ~ where a part is, and - where nothing is. What no case reaches is underlined.",
         "Une ligne porte + si tout y est atteint, ~ si une partie l'est, - si rien ne l'est. Ce qu'aucun cas n'atteint est souligné."),
-    "new.words": ("words: new FOLDER [--lang en|fr]; see --help", "mots : new DOSSIER [--lang en|fr] ; voir --help"),
+    "new.words": ("words: new FOLDER [--lang en|fr]; see --help", "usage : new DOSSIER [--lang en|fr] ; voir --help"),
     "new.exists": ("{folder} isn't empty: name a new folder", "{folder} n'est pas vide : nommez un nouveau dossier"),
-    "new.made": ("{folder} has a rule base: its README.md says how to run it", "{folder} contient une base de règles : son README.md dit comment la lancer"),
+    "new.made": ("{folder} has a rule base: its README.md says how to run it", "{folder} contient une base de règles : son README.md dit comment l'exécuter"),
     "new.title": ("A rule base in M", "Une base de règles en M"),
     "new.readme": (
         "A tax with two brackets, an allowance for children and a reduction for gifts. Put your own rules in its place. Start these commands in this folder:",
@@ -193,17 +193,17 @@ TEXTS = {
     "new.limited": ("the reduction for gifts is limited to the tax", "la réduction pour dons est limitée à l'impôt"),
     "new.driver": ("The tax with the gifts and without them.", "L'impôt avec les dons et sans eux."),
     "new.check": ("The check of this rule base: what is no fault but never meant, the cases, and that they reach all of it.",
-                  "Le contrôle de cette base : ce qui n'est jamais voulu, les cas, et que les cas atteignent tout."),
+                  "Le contrôle de cette base : les étourderies, les cas, et leur couverture, qui doit être complète."),
     "new.gitlab": ("The image must have m_tax and vodmejka.", "L'image doit contenir m_tax et vodmejka."),
     "doc.words": (
         "words: doc LIST [DRIVER] --into FOLDER [--title TEXT] [--articles PATTERN=URL].. [--lang en|fr] [--here]; see --help",
-        "mots : doc LIST [DRIVER] --into DOSSIER [--title TEXTE] [--articles MOTIF=URL].. [--lang en|fr] [--here] ; voir --help"),
+        "usage : doc LISTE [PILOTE] --into DOSSIER [--title TEXTE] [--articles MOTIF=URL].. [--lang en|fr] [--here] ; voir --help"),
     "doc.exists": ("{folder} is no earlier reference and isn't empty: name a new folder",
                    "{folder} n'est pas une référence antérieure et n'est pas vide : nommez un nouveau dossier"),
     "doc.pattern": ("--articles takes PATTERN=URL, a regular expression and an address with http:// or https://, and not {text}",
                     "--articles attend MOTIF=URL, une expression régulière et une adresse en http:// ou https://, et non {text}"),
     "doc.made": ("{folder}: {count} pages", "{folder} : {count} pages"),
-    "doc.mark": ("vodmejka doc made this folder, and replaces it.", "vodmejka doc a écrit ce dossier, et le remplace."),
+    "doc.mark": ("vodmejka doc made this folder, and replaces it.", "vodmejka doc a écrit ce dossier et le remplace."),
     "doc.inputs": ("Inputs", "Variables saisies"),
     "doc.returned": ("Returned", "Variables restituées"),
     "doc.computed": ("Computed", "Variables calculées"),
@@ -232,7 +232,7 @@ TEXTS = {
     "doc.kind.calculee": ("computed", "variable calculée"),
     "doc.kind.const": ("constant", "constante"),
     "doc.type": ("Type", "Type"),
-    "doc.cells": ("Cells", "Cases"),
+    "doc.cells": ("Cells", "Cellules"),
     "doc.attributes": ("Attributes", "Attributs"),
     "doc.declared": ("Declared", "Déclaration"),
     "doc.place": ("{file} line {line}", "{file} ligne {line}"),

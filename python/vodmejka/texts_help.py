@@ -26,7 +26,7 @@ PHRASES = {
     "an operator (+ - * / = < et ou ..)": "un opérateur (+ - * / = < et ou ..)",
     "an operator (+ - * / == < and or ..)": "un opérateur (+ - * / == < and or ..)",
     "the number of the rule": "le numéro de la règle",
-    "the number of a cell": "le numéro d'une case",
+    "the number of a cell": "le numéro d'une cellule",
     "the name of an application": "le nom d'une application",
     "the name of an error": "le nom d'une erreur",
     "the name of a function, or call_m": "le nom d'une fonction, ou call_m",
@@ -60,9 +60,9 @@ PHRASES = {
     "<- is one sign, without a blank": "<- est un seul signe, sans espace",
     "functions have no arguments": "les fonctions n'ont pas d'arguments",
     "a kind is an attribute with its values: avfisc = 1, 2": "une nature est un attribut avec ses valeurs : avfisc = 1, 2",
-    "a comparison is ==, and = sets a cell": "une comparaison s'écrit ==, et = calcule une case",
+    "a comparison is ==, and = sets a cell": "une comparaison s'écrit ==, et = fixe une cellule",
     "a function is called by a line of its own: A <- f()": "une fonction s'appelle par une ligne à part : A <- f()",
-    "a tab: only spaces stand between tokens": "une tabulation : seules des espaces séparent les mots",
+    "a tab: only spaces stand between tokens": "une tabulation : seules des espaces séparent les jetons",
     "a carriage return within the line: end lines with a line feed": "un retour chariot dans la ligne : terminez les lignes par un saut de ligne",
     "only a function's first line, if, else: and partition have a block under them":
         "seuls la première ligne d'une fonction, if, else: et partition ont un bloc au-dessous",
@@ -76,14 +76,16 @@ PHRASES = {
 TEXTS = {
     **{"phrase." + english: (english, french) for english, french in PHRASES.items()},
     "help.stands": ("Here stands {found}", "Ici se trouve {found}"),
-    "help.could": ("Here stands {found}, and could stand {wanted}", "Ici se trouve {found}, et pourrait se trouver {wanted}"),
+    "help.could": ("Here stands {found}, and could stand {wanted}", "Ici se trouve {found}, là où l'on attend {wanted}"),
     "help.or": ("{others} or {last}", "{others} ou {last}"),
     "help.why": ("{told}: {hint}.", "{told} : {hint}."),
     "help.writes": ("M writes {right} for {wrong}", "M écrit {right} pour {wrong}"),
     "help.writes_small": ("M writes {right} for {wrong}, in small letters", "M écrit {right} pour {wrong}, en minuscules"),
     "help.one_equals": ("M writes {sign} for a comparison, and no second =", "M écrit {sign} pour une comparaison, sans second ="),
     "help.decimal": ("a decimal sign is a point: {number}", "le signe décimal est un point : {number}"),
-    "help.cell": ("{word} is no function; a cell of a table is written {word}[..]", "{word} n'est pas une fonction ; une case d'un tableau s'écrit {word}[..]"),
+    "help.cell": (
+        "{word} is no function; a cell of a table is written {word}[..]",
+        "{word} n'est pas une fonction ; une cellule d'un tableau s'écrit {word}[..]"),
     "help.no_function": (
         "{word} is no function of this M: docs/LANGUAGE.md says what to write in its place",
         "{word} n'est pas une fonction de ce M : docs/LANGUAGE.md dit quoi écrire à la place"),
@@ -91,7 +93,7 @@ TEXTS = {
     "help.no_value": ("{word} is a reserved word, and no value", "{word} est un mot réservé, et non une valeur"),
     "help.small": (
         "{word} has small letters, and no name of a variable has; they stand for loops",
-        "{word} a des minuscules, et aucun nom de variable n'en a ; elles désignent des boucles"),
+        "{word} a des minuscules, et aucun nom de variable n'en a ; ce sont les lettres des boucles"),
     "help.two": ("{word} has two arguments", "{word} a deux arguments"),
     "help.one": ("{word} has one argument", "{word} a un argument"),
     "help.three": ("{word} has two arguments: {word}(a, {word}(b, c)) for three", "{word} a deux arguments : {word}(a, {word}(b, c)) pour trois"),
@@ -99,16 +101,16 @@ TEXTS = {
         "the size of a table stands after tableau: {name} : tableau[{size}] calculee",
         "la taille d'un tableau suit tableau : {name} : tableau[{size}] calculee"),
     "help.no_accents": ("reserved words have no accents: {word}", "les mots réservés n'ont pas d'accents : {word}"),
-    "help.greatest": ("numbers end at {number}", "les nombres s'arrêtent à {number}"),
+    "help.greatest": ("numbers end at {number}", "le plus grand nombre est {number}"),
     "help.function": (
         "the first line of a function ends with a :, and a call stands after names and <-: A <- {name}()",
         "la première ligne d'une fonction se termine par un :, et un appel suit des noms et <- : A <- {name}()"),
-    "help.as_far": ("What begins here can be read as far as this:", "Ce qui commence ici peut être lu jusqu'à ceci :"),
+    "help.as_far": ("What begins here can be read as far as this:", "Ce qui commence ici se lit jusqu'à cet endroit :"),
     "help.gone": ("{name} can't be read now", "{name} ne peut pas être lu maintenant"),
     "help.changed": ("{name} was changed since", "{name} a été modifié depuis"),
     "help.request": (
         "No variable has this name, or a cell's number is missing or past its table; look for blanks, too.",
-        "Aucune variable ne porte ce nom, ou le numéro d'une case manque ou sort du tableau ; cherchez aussi des espaces."),
+        "Aucune variable ne porte ce nom, ou le numéro d'une cellule manque ou sort du tableau ; cherchez aussi des espaces."),
     "help.application": (
         "The first line is the application, a word of letters, digits and _; look for a blank at its end.",
         "La première ligne est l'application, un mot fait de lettres, de chiffres et de _ ; cherchez une espace à la fin."),
@@ -126,8 +128,8 @@ TEXTS = {
         "non examiné, car des éléments ne peuvent pas être lus : les déclarations, les noms, et le pilote au-delà de ses lignes"),
     "help.others": (
         "not looked at, m_tax compile tells these: ranges and sizes of loops, cycles, numbers of cells and parts, costs, requests",
-        "non examiné, m_tax compile le dit : les intervalles et les tailles des boucles, les cycles, les nombres de cases et d'éléments, les coûts, "
-        "les demandes"),
+        "non examiné ici, mais signalé par m_tax compile : les intervalles et les tailles des boucles, les cycles, les nombres de cellules et "
+        "d'éléments, les coûts, les requêtes"),
     "help.no_option": ("{word} is no option; see --help", "{word} n'est pas une option ; voir --help"),
-    "help.words": ("words: explain --all LIST [DRIVER]; see --help", "mots : explain --all LISTE [PILOTE] ; voir --help"),
+    "help.words": ("words: explain --all LIST [DRIVER]; see --help", "usage : explain --all LISTE [PILOTE] ; voir --help"),
 }

@@ -4,8 +4,8 @@ TEXTS = {
     "other.usage": (
         'The words are no command: run, serve, batch and cases have four words after them, compile, lint and check three, exec two; - stands for no '
         'driver or no requests.',
-        "Ces mots ne sont pas une commande : run, serve, batch et cases sont suivis de quatre mots, compile, lint et check de trois, exec de deux ; "
-        "- tient lieu d'un pilote absent ou de demandes absentes."),
+        "Ces arguments ne forment pas une commande : run, serve, batch et cases en prennent quatre, compile, lint et check trois, exec deux ; "
+        "- tient lieu d'un pilote absent ou de requêtes absentes."),
     "other.input": (
         'The standard input could not be read.',
         "L'entrée standard n'a pas pu être lue."),
@@ -14,7 +14,7 @@ TEXTS = {
         "Le fichier est absent, est un dossier, ou ne peut pas être lu ; les noms d'une liste sont relatifs au dossier où le programme est lancé."),
     "other.file_long": (
         'A file has at most 16,777,216 bytes, and all rule files together 67,108,864: split it.',
-        'Un fichier a au plus 16 777 216 octets, et tous les fichiers de règles ensemble 67 108 864 : partagez-le.'),
+        'Un fichier a au plus 16 777 216 octets, et tous les fichiers de règles ensemble 67 108 864 : scindez-le.'),
     "other.files_many": (
         'A list has at most 1,024 names: join some rule files.',
         'Une liste a au plus 1 024 noms : réunissez des fichiers de règles.'),
@@ -35,34 +35,34 @@ TEXTS = {
         'Au plus 100 000 valeurs peuvent être demandées à la fois : demandez-en moins.'),
     "other.header": (
         'The first line is code,amount with a comma and no blanks; that of a table begins with name; tools/table-in writes both.',
-        "La première ligne est code,amount avec une virgule et sans espace ; celle d'un tableau commence par name ; tools/table-in écrit les deux."),
+        "La première ligne est code,amount avec une virgule et sans espace ; celle d'une table commence par name ; tools/table-in écrit les deux."),
     "other.rows": (
         'At most 100,000 rows: split the table, as tools/scale does.',
-        'Au plus 100 000 lignes : partagez le tableau, comme le fait tools/scale.'),
+        'Au plus 100 000 lignes : découpez la table, comme le fait tools/scale.'),
     "other.code_unknown": (
         'No input has the code after set or clear.',
         "Aucune variable saisie n'a le code qui suit set ou clear."),
     "other.variable_unknown": (
         'No variable has the name after why; a cell of a table is written T[2], and the table itself is none.',
-        "Aucune variable ne porte le nom qui suit why ; la case d'un tableau s'écrit T[2], et le tableau lui-même n'est pas une variable."),
+        "Aucune variable ne porte le nom qui suit why ; une cellule de tableau s'écrit T[2], et le tableau lui-même n'est pas une variable."),
     "other.amount": (
         'The amount after set is digits, a point and digits, perhaps with a -, at most 10000000000000.',
-        "Le montant qui suit set est fait de chiffres, d'un point et de chiffres, peut-être avec un -, et vaut au plus 10000000000000."),
+        "Le montant qui suit set s'écrit en chiffres, au besoin après un - et avec un point et des décimales ; il vaut au plus 10000000000000."),
     "other.type": (
         "The amount after set isn't one that the input may have: a box takes 0 and 1, a count whole units.",
-        "La variable saisie n'admet pas le montant qui suit set : une case prend 0 ou 1, un nombre des unités entières."),
+        "La variable saisie n'admet pas le montant qui suit set : une case à cocher admet 0 ou 1, un nombre des unités entières."),
     "other.command": (
         'A session knows set CODE AMOUNT, clear CODE, show and why NAME.',
         'Une session connaît set CODE AMOUNT, clear CODE, show et why NAME.'),
     "other.report_line": (
         'A line of a report is NAME = AMOUNT, NAME undefined or NAME over, with one blank between.',
-        "Une ligne d'un rapport est NAME = AMOUNT, NAME undefined ou NAME over, avec une espace entre les mots."),
+        "Une ligne d'une justification est NAME = AMOUNT, NAME undefined ou NAME over, avec une espace entre les mots."),
     "other.report_sound": (
         "The line doesn't follow from those above it: a cell twice, a cell that it reads and no line has, or another value.",
-        "La ligne ne découle pas de celles qui la précèdent : une case figure deux fois, une case lue n'a pas de ligne, ou la valeur est autre."),
+        "La ligne ne découle pas de celles qui la précèdent : une cellule figure deux fois, une cellule lue n'a pas de ligne, ou la valeur est autre."),
     "other.line_long": (
         'A line of a session has at most 4,096 bytes; this one was skipped.',
-        "Une ligne d'une session a au plus 4 096 octets ; celle-ci a été passée."),
+        "Une ligne d'une session a au plus 4 096 octets ; celle-ci a été ignorée."),
     "other.input_long": (
         'The session has taken 1,099,511,627,776 bytes: begin a new one.',
         'La session a reçu 1 099 511 627 776 octets : commencez-en une nouvelle.'),
@@ -77,7 +77,7 @@ TEXTS = {
         'La condition de la vérification dépasse 10000000000000 : cherchez un montant trop grand.'),
     "mend.code": (
         'The code file was changed or cut: write it anew by compile.',
-        'Le fichier de code a été modifié ou coupé : recréez-le par compile.'),
+        'Le fichier de code a été modifié ou tronqué : recréez-le par compile.'),
     "mend.marked": (
         'The file begins with a byte order mark: save it as UTF-8 without one; a household alone may have one.',
         "Le fichier commence par une marque d'ordre des octets : enregistrez-le en UTF-8 sans cette marque ; seul un foyer peut en avoir une."),
