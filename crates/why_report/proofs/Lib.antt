@@ -9,6 +9,8 @@ pub mod ReadLemmas
 pub mod DownLemmas
 pub mod ReasonLemmas
 pub mod MarkLemmas
+pub mod PartLemmas
+pub mod TermLemmas
 pub mod PlanLemmas
 pub mod PassLemmas
 pub mod FillLemmas

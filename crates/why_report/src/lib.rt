@@ -8,12 +8,16 @@
 #![tactic(auto)]
 
 mod check;
+mod evaluate;
 mod fault;
+mod flatten;
 mod laws;
 mod line;
 mod lines;
 mod marks;
 mod needed;
+mod packed;
+mod part;
 mod places;
 mod plan;
 mod print;
@@ -22,6 +26,7 @@ mod reporter;
 mod room;
 mod standing;
 mod starts;
+mod terms;
 
 pub use check::first_unsound;
 pub use fault::ReportFault;

@@ -8,34 +8,32 @@ ghost use Rattle.why_report.specs.Reasons.{bare_below, cells_down, targets_down}
 ghost use Rattle.why_report.specs.inner.Checked.{ArePlaces};
 ghost use Rattle.why_report.specs.inner.Plans.{AreSpotsOf, IsPlanOf};
 
-use crate::places::places_of;
 use micro_m::Base;
 use rule_order::Ordered;
 use std::alloc::{AllocError, Global};
 
-/// The plan of an ordered base: the places of the definitions, the cells, each before those that it
-/// reads, and for each cell its spot, which is its position among them.
+/// The plan of an ordered base: the cells, each before those that it reads, and for each cell its
+/// spot, which is its position among them.
 #[derive(Drop)]
 pub(crate) struct Plan {
-    pub(crate) places: Vec<usize>,
     pub(crate) cells: Vec<u32>,
     pub(crate) spots: Vec<u32>,
 }
 
 /// The plan of an ordered base.
-pub(crate) fn plan_of(alloc: Global, ordered: &Ordered) -> Result<Plan, AllocError>
+pub(crate) fn plan_of(
+    alloc: Global,
+    ordered: &Ordered,
+    places: &[usize],
+) -> Result<Plan, AllocError>
     requires valid { IsValidBase ordered.now.base }
     requires order { IsOrder ordered.now.base ordered.now.sequence }
+    requires places { ArePlaces ordered.now.base places.now }
     ensures { IfOk result (IsPlanOf ordered.now) }
 {
-    let places = places_of(alloc, &ordered.base)?;
-    let cells = cells_of(alloc, ordered, &places)?;
+    let cells = cells_of(alloc, ordered, places)?;
     let spots = spots_of(alloc, &cells, ordered.base.cells)?;
-    Ok(Plan {
-        places,
-        cells,
-        spots,
-    })
+    Ok(Plan { cells, spots })
 }
 
 // The cells, each before those that it reads.
@@ -45,7 +43,7 @@ fn cells_of(alloc: Global, ordered: &Ordered, places: &[usize]) -> Result<Vec<u3
     requires places { ArePlaces ordered.now.base places.now }
     ensures { IfOk result (λ cells. cells.items ≡ cells_down ordered.now) }
 {
-    let mut cells = Vec::new(alloc);
+    let mut cells = Vec::with_capacity(alloc, ordered.base.cells as usize)?;
     add_targets(ordered, &mut cells)?;
     add_bare(&ordered.base, places, &mut cells)?;
     Ok(cells)

@@ -12,21 +12,26 @@ ghost use Rattle.why_report.specs.Starts.{IsStart, begun, with_input, with_lines
 use crate::ReportLine;
 use crate::lines::fill_lines;
 use crate::needed::{find_needed, forget};
+use crate::places::places_of;
 use crate::plan::{Plan, plan_of};
 use crate::room::{Room, room_for};
 use crate::starts::{input_cells, start_env};
+use crate::terms::{Terms, terms_of};
 use m_fixed::Value;
 use m_symbols::Symbols;
-use micro_m::Base;
 use rule_order::Ordered;
 use std::alloc::{AllocError, Global};
 use std::marker::Model;
+use std::snapshot::Snapshot;
 
 /// An ordered base with an environment whose inputs can be set. Contracts see the base and its
 /// order, the cells and values of the inputs, the environment, and the lines that were found last.
+/// The base itself isn't kept: its terms are, in one list.
 #[derive(Drop)]
 pub struct Reporter {
-    ordered: Ordered,
+    // for contracts only: a ghost copy of no size
+    ordered: Snapshot<Ordered>,
+    terms: Terms,
     plan: Plan,
     room: Room,
     input_cells: Vec<u32>,
@@ -47,15 +52,15 @@ impl Model for Reporter {
     ghost coded = { Prim.hlevel (codes, coded_tree) };
 
     ghost view = { λ r. record {
-      ordered = r.ordered;
+      ordered = r.ordered.value;
       input_cells = r.input_cells.items;
       inputs = r.inputs.items;
       env = r.env.items;
       lines = take r.found r.room.lines.items;
     } };
 
-    ghost invariant = { λ r. IsReady r.ordered r.plan r.room r.input_cells.items (length r.inputs.items) (length r.env.items)
-        × (r.found ≤ r.ordered.base.cells) };
+    ghost invariant = { λ r. IsReady r.ordered.value r.terms r.plan r.room r.input_cells.items (length r.inputs.items) (length r.env.items)
+        × (r.found ≤ r.ordered.value.base.cells) };
 }
 
 impl Reporter {
@@ -69,13 +74,19 @@ impl Reporter {
         ensures begun { IfOk result (λ reporter. reporter ≡ begun ordered symbols.now) }
         ensures start { IfOk result (IsStart symbols.now) }
     {
-        let plan = plan_of(alloc, &ordered)?;
-        let room = room_for(alloc, ordered.base.cells)?;
+        let places = places_of(alloc, &ordered.base)?;
+        let terms = terms_of(alloc, &ordered.base, &places)?;
+        let plan = plan_of(alloc, &ordered, &places)?;
+        let room = room_for(alloc, ordered.base.cells, terms.height)?;
         let input_cells = input_cells(alloc, symbols)?;
         let inputs = vec![in alloc; Value::Undef; input_cells.len()]?;
         let env = start_env(alloc, symbols)?;
+        let kept = Snapshot::of(&ordered);
+        drop(ordered);
+        drop(places);
         Ok(Reporter {
-            ordered,
+            ordered: kept,
+            terms,
             plan,
             room,
             input_cells,
@@ -83,20 +94,6 @@ impl Reporter {
             env,
             found: 0,
         })
-    }
-
-    /// The base.
-    pub fn base(&self) -> &Base
-        ensures { result.now ≡ self.now.ordered.base }
-    {
-        &self.ordered.base
-    }
-
-    /// The value of each cell before any definition is computed.
-    pub fn env(&self) -> &[Value]
-        ensures { result.now ≡ self.now.env }
-    {
-        &self.env
     }
 
     /// Sets an input, by its number, to a value.
@@ -123,6 +120,7 @@ impl Reporter {
         let room = &mut self.room;
         let from = find_needed(
             &self.ordered,
+            &self.terms,
             &self.plan,
             cell,
             &mut room.marked,
@@ -132,11 +130,12 @@ impl Reporter {
         let cells = &room.needed[from..];
         forget(cells, &mut room.marked, &mut room.known);
         fill_lines(
-            &self.ordered.base,
-            &self.plan.places,
+            &self.ordered,
+            &self.terms,
             &self.env,
             cells,
             &mut room.values,
+            &mut room.stack,
             &mut room.lines,
         );
         self.found = cells.len();

@@ -13,7 +13,7 @@ use std::alloc::{AllocError, Global};
 pub(crate) fn start_env(alloc: Global, symbols: &Symbols) -> Result<Vec<Value>, AllocError>
     ensures { IfOk result (λ env. env.items ≡ start_env symbols.now []) }
 {
-    let mut env = Vec::new(alloc);
+    let mut env = Vec::with_capacity(alloc, symbols.cells() as usize)?;
     for number in 0..symbols.count() {
         let variable = symbols.variable(number);
         add_values(start_value(&variable.item.role), variable.cells, &mut env)?;

@@ -6,7 +6,6 @@ use Rattle.micro_m.specs.declared.table.Picked.TheVariants.{Cell, Fixed}
 use Rattle.rule_order.specs.declared.ordered.Ordered.{Ordered}
 use Rattle.why_report.specs.declared.plan.Plan.{Plan}
 use Rattle.why_report.specs.Reasons.{cells_down}
-use Rattle.why_report.specs.inner.Checked.{ArePlaces}
 
 -- ---- the plan of an ordered base
 
@@ -14,10 +13,8 @@ use Rattle.why_report.specs.inner.Checked.{ArePlaces}
 abbrev pub AreSpotsOf : List ℕ → List ℕ → Type 0
 AreSpotsOf cells spots = (s : ℕ) → s < length cells → slice_index_or spots (slice_index_or cells s 0) 0 ≡ s
 
--- The plan of an ordered base: the places of its definitions, its cells from the last of the order
--- on, and each cell's spot.
+-- The plan of an ordered base: its cells from the last of the order on, and each cell's spot.
 pub record IsPlanOf (ordered : Ordered) (plan : Plan) : Type 0 where
-  pub places : ArePlaces ordered.base plan.places.items
   pub cells : plan.cells.items ≡ cells_down ordered
   pub size : length plan.spots.items ≡ ordered.base.cells
   pub spots : AreSpotsOf plan.cells.items plan.spots.items

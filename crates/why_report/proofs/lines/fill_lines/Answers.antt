@@ -21,9 +21,10 @@ loop-position-preserved c =
     let same : c.index-values-cell.result ≡ v = c.index-values-cell.is ∙ get_or-set_same values x v c.index-values-cell.result within in
     let put : c.put_line.new.lines ≡ set lines i (record { cell = x; value = v }) = c.put_line.ensures
     ∙ ap (λ (w : Value). set lines i (record { cell = x; value = w })) same in (
-      subst (λ (ls : List ReportLine). IsFill c.args.base.now (environment c.args.env.now) cells (set values x v) ls (i + 1)) (sym put)
-          (fill-turn c.args.base.now (environment c.args.env.now) cells values lines i x v c.loop-position-test.true
-          (omega (arith, c.loop-position-test.true, c.requires.lines)) refl within c.cell_value.ensures c.loop-position.invariant.0),
+      subst (λ (ls : List ReportLine). IsFill c.args.ordered.now.value.base (environment c.args.env.now) cells (set values x v) ls (i + 1)) (sym put)
+          (fill-turn c.args.ordered.now.value.base (environment c.args.env.now) cells values lines i x v c.loop-position-test.true
+          (omega (arith, c.loop-position-test.true, c.requires.lines)) refl within c.cell_value.ensures.value c.loop-position.invariant.0),
       length-set values x v ∙ size,
       ap length put ∙ length-set lines i (record { cell = x; value = v }) ∙ long,
+      c.cell_value.ensures.stack_size ∙ c.loop-position.invariant.3,
     )

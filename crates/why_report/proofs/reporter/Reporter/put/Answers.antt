@@ -14,7 +14,7 @@ returns-clause-put c =
     ∙ get_or_default inside.input_cells.items input _ 0 low in
     let value : c.index.result.now ≡ c.args.v = c.index.ensures ∙ get_or-set_same inside.inputs.items input c.args.v _ few in
     (λ i. record {
-      ordered = inside.ordered;
+      ordered = inside.ordered.value;
       input_cells = inside.input_cells.items;
       inputs = set inside.inputs.items input c.args.v;
       env = set inside.env.items (cell i) (value i);

@@ -14,7 +14,7 @@ use Rattle.why_report.proofs.reporter.Reporter.why.Goals as goal
 
 pub forget-requires-clause-cells : goal.forget-requires-clause-cells
 forget-requires-clause-cells c =
-    let ordered = c.self.inside.ordered in
+    let ordered = c.self.inside.ordered.value in
     let ready = c.self.invariant.0 in
     let needed = c.find_needed-from.new.needed in
     let all = needed-all-below ordered c.args.cell ready.valid ready.order in
@@ -33,7 +33,7 @@ forget-requires-clause-cells c =
 
 pub fill_lines-requires-clause-cells : goal.fill_lines-requires-clause-cells
 fill_lines-requires-clause-cells c =
-    let ordered = c.self.inside.ordered in
+    let ordered = c.self.inside.ordered.value in
     let ready = c.self.invariant.0 in
     let needed = c.find_needed-from.new.needed in
     let same : c.deref.result.now ≡ needed = c.deref.ensures.value ∙ with_items_is c.self.inside.room.needed needed (search (rules, places)) in
@@ -42,7 +42,7 @@ fill_lines-requires-clause-cells c =
 
 pub fill_lines-requires-clause-following : goal.fill_lines-requires-clause-following
 fill_lines-requires-clause-following c =
-    let ordered = c.self.inside.ordered in
+    let ordered = c.self.inside.ordered.value in
     let ready = c.self.invariant.0 in
     let needed = c.find_needed-from.new.needed in
     let same : c.deref.result.now ≡ needed = c.deref.ensures.value ∙ with_items_is c.self.inside.room.needed needed (search (rules, places)) in
@@ -57,18 +57,18 @@ returns-clause-reason c =
     let needed = c.find_needed-from.new.needed in
     let lines = c.fill_lines.new.lines in
     let cells = take (length c.deref.result.now - c.find_needed-from.result) (drop c.find_needed-from.result c.deref.result.now) in
-    let low : c.args.cell < inside.ordered.base.cells = subst (λ (h : Reporting). c.args.cell < h.ordered.base.cells) (sym c.self.view_is) c.requires in
+    let low : c.args.cell < inside.ordered.value.base.cells = subst (λ (h : Reporting). c.args.cell < h.ordered.base.cells) (sym c.self.view_is) c.requires in
     let same : c.deref.result.now ≡ needed = c.deref.ensures.value ∙ with_items_is inside.room.needed needed (search (rules, places)) in
-    let is : cells ≡ needed_cells inside.ordered c.args.cell = end-slice c.deref.result.now needed (needed_cells inside.ordered c.args.cell)
+    let is : cells ≡ needed_cells inside.ordered.value c.args.cell = end-slice c.deref.result.now needed (needed_cells inside.ordered.value c.args.cell)
     c.find_needed-from.result same c.find_needed-from.ensures.needed in
-    let are : take (length cells) (with_items inside.room.lines lines).items ≡ why_lines inside.ordered given c.args.cell =
+    let are : take (length cells) (with_items inside.room.lines lines).items ≡ why_lines inside.ordered.value given c.args.cell =
     ap (take (length cells)) (with_items_is inside.room.lines lines (search (rules, places)))
     ∙ c.fill_lines.ensures.lines
-    ∙ ap (λ (vs : List Value). lines_over inside.ordered.base (environment vs) [] cells) c.deref-3.ensures.value
-    ∙ ap (lines_over inside.ordered.base given []) is in
+    ∙ ap (λ (vs : List Value). lines_over inside.ordered.value.base (environment vs) [] cells) c.deref-2.ensures.value
+    ∙ ap (lines_over inside.ordered.value.base given []) is in
     subst (λ (h : Reporting). IsReasonOf h.ordered.base (environment h.env) c.args.cell (take (length cells) (with_items inside.room.lines lines).items))
     c.self.view_is
-    (subst (IsReasonOf inside.ordered.base given c.args.cell) (sym are) (why-reason inside.ordered given c.args.cell ready.valid ready.order low))
+    (subst (IsReasonOf inside.ordered.value.base given c.args.cell) (sym are) (why-reason inside.ordered.value given c.args.cell ready.valid ready.order low))
 
 pub returns-clause-known : goal.returns-clause-known
 returns-clause-known c =
@@ -79,13 +79,13 @@ returns-clause-known c =
     let lines = c.fill_lines.new.lines in
     let cells = take (length c.deref.result.now - c.find_needed-from.result) (drop c.find_needed-from.result c.deref.result.now) in
     let same : c.deref.result.now ≡ needed = c.deref.ensures.value ∙ with_items_is inside.room.needed needed (search (rules, places)) in
-    let is : cells ≡ needed_cells inside.ordered c.args.cell = end-slice c.deref.result.now needed (needed_cells inside.ordered c.args.cell)
+    let is : cells ≡ needed_cells inside.ordered.value c.args.cell = end-slice c.deref.result.now needed (needed_cells inside.ordered.value c.args.cell)
     c.find_needed-from.result same c.find_needed-from.ensures.needed in
-    let are : take (length cells) (with_items inside.room.lines lines).items ≡ why_lines inside.ordered given c.args.cell =
+    let are : take (length cells) (with_items inside.room.lines lines).items ≡ why_lines inside.ordered.value given c.args.cell =
     ap (take (length cells)) (with_items_is inside.room.lines lines (search (rules, places)))
     ∙ c.fill_lines.ensures.lines
-    ∙ ap (λ (vs : List Value). lines_over inside.ordered.base (environment vs) [] cells) c.deref-3.ensures.value
-    ∙ ap (lines_over inside.ordered.base given []) is in
+    ∙ ap (λ (vs : List Value). lines_over inside.ordered.value.base (environment vs) [] cells) c.deref-2.ensures.value
+    ∙ ap (lines_over inside.ordered.value.base given []) is in
     subst (λ (h : Reporting). All (λ line. line.cell < h.ordered.base.cells) (take (length cells) (with_items inside.room.lines lines).items)) c.self.view_is
-    (subst (λ (ls : List ReportLine). All (λ line. line.cell < inside.ordered.base.cells) ls) (sym are)
-    (why-below inside.ordered given c.args.cell ready.valid ready.order))
+    (subst (λ (ls : List ReportLine). All (λ line. line.cell < inside.ordered.value.base.cells) ls) (sym are)
+    (why-below inside.ordered.value given c.args.cell ready.valid ready.order))
