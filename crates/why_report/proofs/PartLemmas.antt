@@ -1,5 +1,6 @@
 -- The parts of a term give its value, read what it reads, and are within what it is within.
-use Rattle.std.proofs.Common.{◌≡◌, ℕ, zero, suc, ◌+◌, ◌-◌, ◌<◌, ◌≤◌, Bool, true, false, List, [], ◌∷◌, ◌++◌, length, get_or, set, take, drop, max, None, Some, refl, ap}
+use Rattle.std.proofs.Common.{◌≡◌, ℕ, zero, suc, ◌+◌, ◌-◌, ◌<◌, ◌≤◌, Bool, true, false, List}
+use Rattle.std.proofs.Common.{[], ◌∷◌, ◌++◌, length, get_or, set, take, drop, max, None, Some, refl, ap}
 use Rattle.std.proofs.Common.{sym, ◌∙◌, subst, arith, length-append}
 use mathlib.Core.Bool.{◌||◌}
 use Rattle.std.specs.Option.{option_map_or}
@@ -22,7 +23,8 @@ use Rattle.micro_m.proofs.TurnLemmas.{option_cases}
 use Rattle.why_report.specs.Reasons.{cell_reads}
 use Rattle.why_report.specs.declared.part.Part.{Part}
 use Rattle.why_report.specs.declared.part.Part.TheVariants.{Undefined, Overflow, Number, Read, ReadAt, Do}
-use Rattle.why_report.specs.inner.Parts.{literal, selected, literal_read, table_parts, count_of, parts_of, argument_parts, step_parts, cell_parts, taken, pushed}
+use Rattle.why_report.specs.inner.Parts.{literal, selected, literal_read, table_parts, count_of}
+use Rattle.why_report.specs.inner.Parts.{parts_of, argument_parts, step_parts, cell_parts, taken, pushed}
 use Rattle.why_report.specs.inner.Parts.{stacked, executed, height, part_reads, parts_read, IsPartWithin, ArePartsWithin}
 use Rattle.why_report.specs.inner.Plans.{PickedIsWithin}
 use Rattle.why_report.proofs.CheckLemmas.{term-within}

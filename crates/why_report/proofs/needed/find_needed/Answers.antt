@@ -18,13 +18,15 @@ loop-spot-init c =
 
 pub index-found-requires : goal.index-found-requires
 index-found-requires c =
-    let room = pass-room c.args.ordered.now.value c.args.cell c.args.plan.now c.loop-spot.marked c.loop-spot.known c.loop-spot.needed c.loop-spot.from c.loop-spot.at
+    let room = pass-room c.args.ordered.now.value c.args.cell c.args.plan.now c.loop-spot.marked c.loop-spot.known c.loop-spot.needed c.loop-spot.from
+    c.loop-spot.at
     c.in-Some.spot c.loop-spot.invariant c.in-Some.ensures.next.from c.in-Some.ensures.within.0 in
     omega (arith, room.2, down-length c.args.ordered.now.value c.requires.valid c.requires.order, ap length c.requires.plan.cells, c.args.plan.now.cells.ok)
 
 pub mark_read-requires-clause-cell : goal.mark_read-requires-clause-cell
 mark_read-requires-clause-cell c =
-    let room = pass-room c.args.ordered.now.value c.args.cell c.args.plan.now c.loop-spot.marked c.loop-spot.known c.loop-spot.needed c.loop-spot.from c.loop-spot.at
+    let room = pass-room c.args.ordered.now.value c.args.cell c.args.plan.now c.loop-spot.marked c.loop-spot.known c.loop-spot.needed c.loop-spot.from
+    c.loop-spot.at
     c.in-Some.spot c.loop-spot.invariant c.in-Some.ensures.next.from c.in-Some.ensures.within.0 in
     (found-cell c.args.ordered.now.value c.args.plan.now c.in-Some.spot c.index-found.result.now _ c.requires.valid c.requires.order c.requires.plan room.2
     c.index-found.ensures).1

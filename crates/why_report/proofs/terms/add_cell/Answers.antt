@@ -15,5 +15,6 @@ returns c =
     ∙ appended old.parts.items (cell_parts base c.args.cell) parts.items c.len-begin.result c.in_ok-append_cell.ensures begin in
     let high : height 0 (cell_parts base c.args.cell) ≤ c.height_behind.result = subst (λ (ps : List Part). height 0 ps ≤ c.height_behind.result) new
     c.height_behind.ensures in
-    terms-more base c.args.cell old (record { parts = parts; begins = c.push.new.self; height = c.higher-terms.result }) c.requires.before c.in_ok-append_cell.ensures
+    terms-more base c.args.cell old (record { parts = parts; begins = c.push.new.self; height = c.higher-terms.result }) c.requires.before
+    c.in_ok-append_cell.ensures
     (c.in_ok-push.ensures.items ∙ ap (λ n. old.begins.items ++ n ∷ []) size) c.higher-terms.ensures.first (omega (arith, high, c.higher-terms.ensures.second))
