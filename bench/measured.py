@@ -68,6 +68,18 @@ def least(command, folder, typed=b""):
     return min(run[0] for run in runs), max(run[1] for run in runs), runs[0][2], runs[0][3]
 
 
+def scanned(scanner, files, folder):
+    """Seconds of the processor that the plain scanner (bench/lexer/plain.rs) takes for files: the least of its five turns over each.
+
+    It prints a count and the microseconds of each turn. What takes a time that depends on the machine is measured beside it, in the same run.
+    """
+    times = 0.0
+    for name in files:
+        printed = used([scanner, name], folder)[3].decode().split("\n")
+        times += min(int(line.split()[1]) for line in printed if line) / 1e6
+    return times
+
+
 def figure(name, value, aim="-"):
     """Reports a figure to bench/all: a name without blanks, a number, and the aim, as `<=3` or `>=60`, or `-` for none."""
     print(f"figure {name} {value:.4g} {aim}" if value < 1000 else f"figure {name} {value:.0f} {aim}", flush=True)
