@@ -158,7 +158,7 @@ class Base:
         again = [*self.variables.of(name), *self.targets.of(name)]
         if kind in ("variable", "maybe"):
             again += self.readers.of(name)
-        return again + (self.raisers.of(name) if kind == "maybe" else [])
+        return again + ([*self.raisers.of(name), *self.errors.of(name)] if kind == "maybe" else [])
 
     def facts(self, pieces: list[Piece]) -> set[tuple[Any, ...]]:
         """What the faults of other pieces may rest on."""
