@@ -22,7 +22,7 @@ use Rattle.code_answers.specs.Replies.{FileReplies}
 use Rattle.code_answers.specs.Shown.{TableReplies}
 use Rattle.code_answers.proofs.OneLaws.{one_file}
 use Rattle.m_cases.specs.Cases.{cases_of}
-use Rattle.m_cases.specs.declared.cases.Cases.{Cases}
+use Rattle.m_cases.specs.declared.cases.Cases.{Cases as CaseTable}
 use Rattle.command_answers.specs.LargeAnswers as large
 use Rattle.code_answers.specs.Larges.{large_line}
 use Rattle.code_answers.specs.Schemes.{Scheme, observation_for}
@@ -71,7 +71,7 @@ one_cases : (source : Source) (table t u : List ℕ) (s r : Status) → SourceRe
     → SourceReplies source (λ scheme. ComparedReplies scheme table) u r → AreOneOutput t s u r
 one_cases source table t u s r a b =
     one_of_source source (λ (scheme : Scheme). cases_of scheme.inputs scheme.names table) cases_fault_line cases_text
-    (λ scheme (cases : Cases). count_status (cases_count scheme cases.rows cases.expected)) t u s r a b
+    (λ scheme (cases : CaseTable). count_status (cases_count scheme cases.rows cases.expected)) t u s r a b
 
 -- ---- `large N`
 
