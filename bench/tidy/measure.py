@@ -34,5 +34,5 @@ for shape, name in enumerate(SHAPES):
     print(f"| {name} | {left:,} | {seconds:.2f} | {seconds / scanner:.1f} | {memory:.0f} |", flush=True)
 dearest = max(seconds for seconds, _ in worst.values())
 figure(f"tidy.{NODES}_nodes_s", dearest)
-figure(f"tidy.{NODES}_nodes_to_scanner_of_16_MiB", dearest / scanner, "<=12")
+figure(f"tidy.{NODES}_nodes_to_scanner_of_16_MiB", dearest / scanner, "<=10")
 figure("tidy.bytes_a_node_above_the_program", max(memory for _, memory in worst.values()), "<=100")
