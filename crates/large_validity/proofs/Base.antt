@@ -1,10 +1,11 @@
 -- The base of `large N` over cells.
-use Rattle.std.proofs.Common.{◌≡◌, ℕ, zero, suc, ◌+◌, ◌-◌, ◌<◌, ◌≤◌, ◌==◌, false, ◌||◌, List, [], ◌∷◌, ◌++◌, codes, decimal, Ok, Some, refl, sym, ap, ◌∙◌}
+use Rattle.std.proofs.Common.{◌≡◌, ℕ, zero, suc, ◌+◌, ◌-◌, ◌<◌, ◌≤◌, ◌==◌, false, ◌||◌, List, [], ◌∷◌, ◌++◌, codes, decimal, Ok, Err, Some, refl, sym, ap, ◌∙◌}
 use Rattle.std.proofs.Common.{subst, append_assoc, append-nil, arith}
 use Rattle.std.proofs.lemmas.Bool.{ne_eqb}
 use Rattle.std.proofs.lemmas.Fmt.{decimal_digit}
 use Rattle.std.proofs.lemmas.List.{map-append}
 use Rattle.std.proofs.lemmas.List.Folds.{list_any-append}
+use Rattle.std.specs.Option.{ok_or, option_map_or}
 use Rattle.m_places.specs.declared.place.Place.{Place}
 use Rattle.m_fixed.specs.declared.amount.Value.TheVariants.{Num}
 use Rattle.m_fixed.specs.declared.operator.Op.TheVariants as ops
@@ -12,12 +13,15 @@ use Rattle.m_ast.specs.Syntax.{Syntax}
 use Rattle.micro_m.specs.Trees.{Tree, lit, cell, apply, chain, none, more, end, step}
 use Rattle.micro_m.specs.Bases.{Definition as CellDefinition, is_among}
 use Rattle.micro_m.specs.declared.base.Base.{Base}
+use Rattle.m_ast.specs.Items.{variable_size}
+use Rattle.m_symbols.specs.declared.variable.Variable.{Variable}
 use Rattle.m_symbols.specs.Declarations.{Declared}
 use Rattle.m_symbols.specs.Cells.{variable_named}
 use Rattle.m_ast.specs.declared.plain_rules.Definition.{Definition}
-use Rattle.m_resolve.specs.Terms.{if_resolved, resolved_term, resolved_cell, cell_of_variable}
-use Rattle.m_resolve.specs.Bases.{target_of, resolved_target, new_target, cells_of, resolved_definition, resolved_definitions, resolved_conditions, label_of}
+use Rattle.m_resolve.specs.Terms.{if_resolved, resolved_term, resolved_cell}
+use Rattle.m_resolve.specs.Bases.{target_in, resolved_target, new_target, cells_of, resolved_definition, resolved_definitions, resolved_conditions, label_of}
 use Rattle.m_resolve.specs.Bases.{base_with, resolved}
+use Rattle.m_resolve.specs.declared.fault.ResolveFault.TheVariants.{UnknownName, IsATable}
 use Rattle.large_validity.proofs.Names.{input_name, sum_name}
 use Rattle.large_validity.proofs.Pieces.{amount, after}
 use Rattle.large_validity.proofs.Lines.{declared_after, rules_after, numbered_line}
@@ -62,11 +66,23 @@ maximum_of k at = maximum_term (decimal k) at
 abbrev sum_of : ℕ → ℕ → Place → Place → Syntax
 sum_of k j at other = sum_term (decimal k) (decimal j) at other
 
+-- the cell and the target of a name, given its variable
+cell_by : (d : Declared) (name : List ℕ) (at : Place) (v : Variable) → variable_named d name ≡ Some v
+    → resolved_cell d name at ≡ option_map_or (λ size. Err (IsATable name at)) (variable_size v.item) (Ok v.first_cell)
+cell_by d name at v e = ap (λ o. if_resolved (λ (v : Variable). option_map_or (λ size. Err (IsATable name at)) (variable_size v.item) (Ok v.first_cell))
+    (ok_or o (UnknownName name at))) e
+
+target_by : (d : Declared) (definition : Definition) (v : Variable) → variable_named d definition.target ≡ Some v
+    → resolved_target d definition ≡ target_in definition.target definition.place v.first_cell definition.slot v.item.role
+target_by d definition v e =
+    ap (λ o. if_resolved (λ (v : Variable). target_in definition.target definition.place v.first_cell definition.slot v.item.role)
+    (ok_or o (UnknownName definition.target definition.place))) e
+
 input_declared : (p : Place) (n k : ℕ) (at : Place) → k < n → n ≤ 100000 → resolved_cell (declared p n) (input_name k) at ≡ Ok (k + k)
-input_declared p n k at l h = ap (cell_of_variable (input_name k) at) (input_found p n k l h)
+input_declared p n k at l h = cell_by (declared p n) (input_name k) at _ (input_found p n k l h)
 
 resolved_sum : (p : Place) (n k : ℕ) (at : Place) → k < n → n ≤ 100000 → resolved_cell (declared p n) (sum_name k) at ≡ Ok (k + k + 1)
-resolved_sum p n k at l h = ap (cell_of_variable (sum_name k) at) (sum_found p n k l h)
+resolved_sum p n k at l h = cell_by (declared p n) (sum_name k) at _ (sum_found p n k l h)
 
 maximum_stated : (p : Place) (n k : ℕ) (at : Place) → k < n → n ≤ 100000 → resolved_term (declared p n) (maximum_of k at) ≡ Ok (maximum_tree k)
 maximum_stated p n k at l h = rw (input_declared p n k at l h) refl
@@ -119,7 +135,8 @@ resolved_ruled p m h q (suc j) before xs l f =
     let d = declared p m in
     let r = after q (numbered_line j) in
     let here = numbered_cell q j in
-    let target : resolved_target d (numbered_definition q j) ≡ Ok (suc j + suc j + 1) = ap (target_of (numbered_definition q j)) (sum_found p m (suc j) l h) in
+    let target : resolved_target d (numbered_definition q j) ≡ Ok (suc j + suc j + 1) =
+    target_by d (numbered_definition q j) _ (sum_found p m (suc j) l h) in
     let stated : resolved_definition d before (numbered_definition q j) ≡ Ok here =
     definition_is d before (numbered_definition q j) (suc j + suc j + 1) (sum_tree (suc j) j) target (f (suc j + suc j + 1) (omega arith))
     (resolved_sum_term p m (suc j) j (read_place q j) (further_place q j) l (omega arith) h) in
@@ -140,7 +157,7 @@ base_resolved p n some few =
     let r = rules_after q (n - 1) in
     let cells = cell_definitions q (n - 1) in
     let first : resolved_definition d cells (first_definition r) ≡ Ok (first_cell r) =
-    definition_is d cells (first_definition r) 1 (maximum_tree 0) (ap (target_of (first_definition r)) (first_target p n some few))
+    definition_is d cells (first_definition r) 1 (maximum_tree 0) (target_by d (first_definition r) _ (first_target p n some few))
     (ruled_fresh q (n - 1) 1 (omega arith))
     (first_stated p n (first_read r) some few) in
     let stated : resolved_definitions d [] (plain_definitions q (n - 1) ++ (first_definition r ∷ [])) ≡ Ok (cells ++ first_cell r ∷ []) =

@@ -3,15 +3,13 @@ use Rattle.std.proofs.Common.{◌≡◌, ◌<◌, ◌+◌, ℕ, suc, List, [], �
 use Rattle.std.proofs.Math.Seq.{drop-cons}
 use Rattle.m_ast.specs.Syntax.{Syntax}
 use Rattle.m_ast.specs.View.{terms_of}
-use Rattle.m_ast.specs.PlainView.{links_of, members_of}
+use Rattle.m_ast.specs.PlainView.{links_of}
 use Rattle.m_ast.specs.declared.plain_term.PLink.{PLink}
-use Rattle.m_ast.specs.declared.plain_term.PMember.{PMember}
 use Rattle.m_symbols.specs.Declarations.{Declared}
 use Rattle.micro_m.specs.Trees.{Tree, chain}
 use Rattle.micro_m.specs.Views.{steps_of}
 use Rattle.micro_m.specs.declared.term.Step.{Step}
-use Rattle.m_fixed.specs.declared.operator.Op.TheVariants.{Or}
-use Rattle.m_resolve.specs.Terms.{if_resolved, resolved_term, resolved_terms, resolved_links, resolved_members, resolved_member}
+use Rattle.m_resolve.specs.Terms.{if_resolved, resolved_term, resolved_terms, resolved_links}
 use Rattle.micro_m.specs.Bases.{Definition as CellDefinition}
 use Rattle.m_ast.specs.declared.plain_rules.Definition.{Definition}
 use Rattle.m_ast.specs.declared.plain_rules.Condition.{Condition}

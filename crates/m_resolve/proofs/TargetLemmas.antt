@@ -2,7 +2,7 @@
 use Rattle.std.proofs.Common.{◌≡◌, ◌≤◌, ◌<◌, ◌+◌, ℕ, Bool, true, false, cond, nat_lt, List, length, Option, None, Some, Result, Ok, Err, refl, sym, ap, ◌∙◌}
 use Rattle.std.proofs.Common.{subst, arith, slice_get}
 use Rattle.std.specs.Prelude.{IfOk, IfSome}
-use Rattle.std.specs.Option.{option_and_then}
+use Rattle.std.specs.Option.{ok_or, option_and_then}
 use Rattle.std.proofs.lemmas.Bool.{ltb-true}
 use Rattle.m_places.specs.declared.place.Place.{Place}
 use Rattle.m_places.specs.Refusals.{Outcome}
@@ -18,9 +18,10 @@ use Rattle.m_symbols.specs.Cells.{variable_named}
 use Rattle.m_symbols.specs.Placed.{IsPlaced}
 use Rattle.m_symbols.proofs.Placing.{placed_ends, fits, table_sized}
 use Rattle.m_ast.specs.declared.plain_rules.Definition.{Definition}
-use Rattle.m_resolve.specs.Bases.{target_in, target_of, resolved_target, computed_target, table_target}
+use Rattle.m_resolve.specs.Terms.{if_resolved}
+use Rattle.m_resolve.specs.Bases.{target_in, resolved_target, single_target, table_target}
 use Rattle.m_resolve.specs.declared.fault.ResolveFault.{ResolveFault}
-use Rattle.m_resolve.specs.declared.fault.ResolveFault.TheVariants.{BadTarget, Memory}
+use Rattle.m_resolve.specs.declared.fault.ResolveFault.TheVariants.{BadTarget, UnknownName, Memory}
 
 -- the variable with a name is at some index
 at_place : (vs : List Variable) (o : Option ℕ) (v : Variable) → option_and_then (slice_get vs) o ≡ Some v → (i : ℕ) × (slice_get vs i ≡ Some v)
@@ -42,20 +43,25 @@ in_table : (name : List ℕ) (place : Place) (first size all k : ℕ) (b : Bool)
 in_table name place first size all k true e h = let l = ltb-true k size e in omega (arith, h, l)
 in_table name place first size all k false e h = tt
 
-in_computed : (name : List ℕ) (place : Place) (first all cells : ℕ) (size : Option ℕ) (slot : Slot) → cells ≡ cells_in size → first + cells ≤ all
-    → IfOk (computed_target name place first size slot) (λ c. c < all)
-in_computed name place first all cells None Whole e h = omega (arith, e, h)
-in_computed name place first all cells None (Cell k) e h = tt
-in_computed name place first all cells None Every e h = tt
-in_computed name place first all cells (Some size) Whole e h = tt
-in_computed name place first all cells (Some size) (Cell k) e h = in_table name place first size all k (nat_lt k size) refl (omega (arith, e, h))
-in_computed name place first all cells (Some size) Every e h = tt
+in_size : (name : List ℕ) (place : Place) (first size all : ℕ) (slot : Slot) → first + size ≤ all
+    → IfOk (table_target name place first size slot) (λ c. c < all)
+in_size name place first size all Whole h = tt
+in_size name place first size all (Cell k) h = in_table name place first size all k (nat_lt k size) refl h
+in_size name place first size all Every h = tt
+
+in_single : (name : List ℕ) (place : Place) (first all : ℕ) (is_computed : Bool) (slot : Slot) → first + 1 ≤ all
+    → IfOk (single_target name place first is_computed slot) (λ c. c < all)
+in_single name place first all true Whole h = omega (arith, h)
+in_single name place first all false Whole h = tt
+in_single name place first all _ (Cell k) h = tt
+in_single name place first all _ Every h = tt
 
 in_variable : (name : List ℕ) (place : Place) (first all cells : ℕ) (slot : Slot) (role : Role) → cells ≡ cells_in (size_in role) → first + cells ≤ all
     → IfOk (target_in name place first slot role) (λ c. c < all)
-in_variable name place first all cells slot (Computed size) e h = in_computed name place first all cells size slot e h
-in_variable name place first all cells slot (Input code) e h = tt
-in_variable name place first all cells slot (Constant amount) e h = tt
+in_variable name place first all cells slot (Computed (Some size)) e h = in_size name place first size all slot (omega (arith, e, h))
+in_variable name place first all cells slot (Computed None) e h = in_single name place first all true slot (omega (arith, e, h))
+in_variable name place first all cells slot (Input code) e h = in_single name place first all false slot (omega (arith, e, h))
+in_variable name place first all cells slot (Constant amount) e h = in_single name place first all false slot (omega (arith, e, h))
 
 if_target : (stated : Result ℕ ResolveFault) (cell all : ℕ) → stated ≡ Ok cell → IfOk stated (λ c. c < all) → cell < all
 if_target stated cell all e h = subst (λ r. IfOk r (λ c. c < all)) e h
@@ -73,17 +79,22 @@ target_known d name place slot v (Ok cell) p e o =
     (omega (arith, m.ends)))
 target_known d name place slot v (Err fault) p e o = tt
 
+-- the cell of a definition's target, given its variable
+abbrev target_by : Definition → Option Variable → Result ℕ ResolveFault
+target_by definition o = if_resolved (λ v. target_in definition.target definition.place v.first_cell definition.slot v.item.role)
+    (ok_or o (UnknownName definition.target definition.place))
+
 -- the cell of a definition's target is a declared cell
 pub resolved_target_within : (d : Declared) (definition : Definition) (cell : ℕ) → IsPlaced d → resolved_target d definition ≡ Ok cell
     → cell < length (owners_from 0 d.variables)
 resolved_target_within d definition cell p e = by_variable (variable_named d definition.target) refl
   where
     by_variable : (o : Option Variable) → variable_named d definition.target ≡ o → cell < length (owners_from 0 d.variables)
-    by_variable None n = let s = sym (ap (target_of definition) n) ∙ e in absurd (cc)
+    by_variable None n = let s = sym (ap (target_by definition) n) ∙ e in absurd (cc)
     by_variable (Some v) n =
         let k = named_at d definition.target v n in
         let m = placed_ends d k.0 v p k.1 in
         if_target (target_in definition.target definition.place v.first_cell definition.slot v.item.role) cell (length (owners_from 0 d.variables))
-        (sym (ap (target_of definition) n) ∙ e)
+        (sym (ap (target_by definition) n) ∙ e)
         (in_variable definition.target definition.place v.first_cell (length (owners_from 0 d.variables)) v.cells definition.slot v.item.role m.cells
         (omega (arith, m.ends)))

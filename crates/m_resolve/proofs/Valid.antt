@@ -1,11 +1,12 @@
 -- The base of expanded rules is valid.
-use Rattle.std.proofs.Common.{◌≡◌, ◌≤◌, ◌<◌, ◌+◌, ℕ, zero, suc, ℤ, Bool, true, false, cond, List, [], ◌∷◌, ◌++◌, length, map, All, Option, None, Some, Result}
+use Rattle.std.proofs.Common.{◌≡◌, ◌≤◌, ◌<◌, ◌+◌, ℕ, ℤ, Bool, true, false, cond, List, [], ◌∷◌, ◌++◌, length, map, All, Option, None, Some, Result}
 use Rattle.std.proofs.Common.{Ok, Err, refl, sym, ap, ◌∙◌, subst, arith, nat_eq, replicate, length-append}
 use mathlib.Core.Bool.{◌||◌}
-use Rattle.std.specs.List.{AllByRecursion, filter_map, cons_option, list_any}
+use Rattle.std.specs.List.{AllByRecursion, filter_map, cons_option}
 use Rattle.std.proofs.lemmas.Bool.{eqb-true}
 use Rattle.std.proofs.lemmas.List.{map_push, length-replicate}
 use Rattle.std.proofs.lemmas.List.Elements.{All-nil, All-cons}
+use Rattle.std.specs.Option.{ok_or, option_map_or}
 use Rattle.m_places.specs.declared.place.Place.{Place}
 use Rattle.m_fixed.specs.declared.operator.Op.TheVariants.{Or}
 use Rattle.m_ast.specs.Syntax.{Syntax, lit, named, the_x, cell, apply, chain, among, loop, Terms, no_terms, a_term, Links, no_links, a_link, Members}
@@ -19,7 +20,6 @@ use Rattle.m_symbols.specs.Declarations.{Declared, owners_from, placed_from}
 use Rattle.micro_m.specs.Trees.{Tree, lit as lit_tree, cell as cell_tree, pick, apply as apply_tree, chain as chain_tree}
 use Rattle.micro_m.specs.Views.{trees_of, steps_of}
 use Rattle.micro_m.specs.declared.term.Step.{Step}
-use Rattle.micro_m.specs.declared.base.Base.{Base}
 use Rattle.micro_m.specs.Bases.{Definition as CellDefinition, is_among, AreDistinctCells, IsWithin, AreWithin, StepsAreWithin, IsValidBase}
 use Rattle.micro_m.specs.Failures.{Check}
 use Rattle.micro_m.proofs.NumberLemmas.{AreDistinct-push}
@@ -30,11 +30,12 @@ use Rattle.m_ast.specs.Members.{is_single}
 use Rattle.m_ast.specs.declared.plain_rules.Plain.{Plain}
 use Rattle.m_ast.specs.declared.plain_rules.Definition.{Definition}
 use Rattle.m_ast.specs.declared.plain_rules.Condition.{Condition}
-use Rattle.m_resolve.specs.Terms.{if_resolved, resolved_cell, cell_of_variable, whole_cell, resolved_table, table_of_variable, table_cells, member_by, any_of}
+use Rattle.m_resolve.specs.Terms.{if_resolved, resolved_cell, resolved_table, member_by, any_of}
 use Rattle.m_resolve.specs.Terms.{membership, resolved_term, resolved_terms, resolved_links, resolved_members}
 use Rattle.m_resolve.specs.Bases.{resolved_target, new_target, cells_of, resolved_definition, resolved_definitions, Checks, with_condition, resolved_conditions}
-use Rattle.m_resolve.specs.Bases.{resolved_label, error_named, constant_in, constants_of, base_with, resolved}
+use Rattle.m_resolve.specs.Bases.{resolved_label, error_named, constant_in, constants_of, base_with}
 use Rattle.m_resolve.specs.declared.fault.ResolveFault.{ResolveFault}
+use Rattle.m_resolve.specs.declared.fault.ResolveFault.TheVariants.{UnknownName, NotATable, IsATable}
 use Rattle.m_resolve.proofs.TargetLemmas.{named_at, resolved_target_within}
 
 -- ---- results
@@ -61,6 +62,19 @@ all_of P (x ∷ xs) h = All-cons P x xs h.0 (all_of P xs h.1)
 option_cases : {X : Type 0} (o : Option X) {P : Type 0} → (o ≡ None → P) → ((x : X) → o ≡ Some x → P) → P
 option_cases None n s = n refl
 option_cases (Some x) n s = s x refl
+
+-- the cell and the table of a name, given its variable
+abbrev whole_cell : List ℕ → Place → ℕ → Option ℕ → Result ℕ ResolveFault
+whole_cell name place first size = option_map_or (λ size. Err (IsATable name place)) size (Ok first)
+
+abbrev cell_of_variable : List ℕ → Place → Option Variable → Result ℕ ResolveFault
+cell_of_variable name place o = if_resolved (λ v. whole_cell name place v.first_cell (variable_size v.item)) (ok_or o (UnknownName name place))
+
+abbrev table_cells : List ℕ → Place → ℕ → Option ℕ → Result (ℕ × ℕ) ResolveFault
+table_cells name place first size = option_map_or (λ size. Ok (first, size)) size (Err (NotATable name place))
+
+abbrev table_of_variable : List ℕ → Place → Option Variable → Result (ℕ × ℕ) ResolveFault
+table_of_variable name place o = if_resolved (λ v. table_cells name place v.first_cell (variable_size v.item)) (ok_or o (UnknownName name place))
 
 whole_known : (name : List ℕ) (place : Place) (first cells all c : ℕ) (size : Option ℕ) → cells ≡ cells_in size → first + cells ≤ all
     → whole_cell name place first size ≡ Ok c → c < all

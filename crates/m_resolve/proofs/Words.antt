@@ -7,7 +7,7 @@ use Rattle.m_ast.specs.declared.item.ErrorItem.{ErrorItem}
 use Rattle.m_ast.specs.declared.plain_rules.Condition.{Condition}
 use Rattle.m_resolve.specs.declared.checks.ErrorWords.{ErrorWords}
 use Rattle.m_resolve.specs.Bases.{resolved_label}
-use Rattle.m_resolve.specs.inner.Words.{words_of, label_with, resolved_with}
+use Rattle.m_resolve.specs.inner.Words.{words_of, resolved_with}
 
 -- the words of the errors up to here, and of one more
 pub words_more : (errors : List ErrorItem) (i : ℕ) (e : ErrorItem) (before now : List ErrorWords) → i < length errors → slice_get errors i ≡ Some e

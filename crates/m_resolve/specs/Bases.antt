@@ -1,65 +1,54 @@
 -- The base of expanded rules, or their first error.
-use Rattle.std.specs.Prelude.{ℕ, ◌+◌, nat_lt, ◌==◌, Bool, true, false, ℤ, List, [], ◌∷◌, ◌++◌, length, map, drop, Option, Some, None, Result, Ok, Err}
-use Rattle.std.specs.Prelude.{if◌then◌else◌, codes, slice_get}
+use Rattle.std.specs.Prelude.{ℕ, ◌+◌, nat_lt, ◌||◌, Bool, not, ℤ, List, [], ◌∷◌, ◌++◌, length, map, drop, Option, Some, None, Result, Ok, Err}
+use Rattle.std.specs.Prelude.{if◌then◌else◌, slice_get}
 use Rattle.std.specs.List.{filter_map, flat_map}
-use Rattle.std.specs.Option.{option_and_then}
+use Rattle.std.specs.Option.{option_and_then, option_map_or}
 use Rattle.m_places.specs.declared.place.Place.{Place}
 use Rattle.m_places.specs.declared.verification.Label.{Label}
 use Rattle.m_names.specs.Names.{index_of}
 use Rattle.m_ast.specs.declared.item.ErrorItem.{ErrorItem}
 use Rattle.m_ast.specs.declared.item.Slot.{Slot}
 use Rattle.m_ast.specs.declared.item.Slot.TheVariants.{Whole, Cell, Every}
+use Rattle.m_ast.specs.Items.{size_in, is_input, is_constant}
 use Rattle.m_ast.specs.declared.variable.Role.{Role}
 use Rattle.m_ast.specs.declared.variable.Role.TheVariants.{Input, Computed, Constant}
-use Rattle.m_symbols.specs.declared.variable.Variable.{Variable}
 use Rattle.m_symbols.specs.Declarations.{Declared, owners_from, error_names_of}
 use Rattle.micro_m.specs.Bases.{Definition as CellDefinition, is_among}
 use Rattle.micro_m.specs.Failures.{Check}
 use Rattle.micro_m.specs.declared.base.Base.{Base}
-use Rattle.m_symbols.specs.Cells.{cell_name, variable_named}
+use Rattle.m_symbols.specs.Cells.{cell_name}
 use Rattle.m_ast.specs.declared.plain_rules.Plain.{Plain}
 use Rattle.m_ast.specs.declared.plain_rules.Definition.{Definition}
 use Rattle.m_ast.specs.declared.plain_rules.Condition.{Condition}
 use Rattle.m_resolve.specs.declared.fault.ResolveFault.{ResolveFault}
-use Rattle.m_resolve.specs.declared.fault.ResolveFault.TheVariants.{UnknownName, NotATable, IsATable, BadTarget, DefinedTwice, UnknownError}
-use Rattle.m_resolve.specs.Terms.{if_resolved, resolved_term}
+use Rattle.m_resolve.specs.declared.fault.ResolveFault.TheVariants.{NotATable, IsATable, BadTarget, DefinedTwice, UnknownError}
+use Rattle.m_resolve.specs.Terms.{if_resolved, resolved_variable, resolved_term}
 
 -- ---- targets
 
--- the fault of a target that is an input or a constant
-abbrev pub unsettable_fault : List ℕ → Place → Slot → ResolveFault
-unsettable_fault name place Whole = BadTarget name place
-unsettable_fault name place (Cell k) = NotATable name place
-unsettable_fault name place Every = NotATable name place
+-- the cell of a target that isn't a table: it has no index, and is computed, neither an input nor a
+-- constant
+abbrev pub single_target : List ℕ → Place → ℕ → Bool → Slot → Result ℕ ResolveFault
+single_target name place first is_computed Whole = if is_computed then Ok first else Err (BadTarget name place)
+single_target name place first is_computed _ = Err (NotATable name place)
 
--- the cell of a table at this index
-abbrev pub table_target : List ℕ → Place → ℕ → ℕ → ℕ → Result ℕ ResolveFault
-table_target name place first size k = if nat_lt k size then Ok (first + k) else Err (BadTarget name place)
-
--- the cell of a computed variable that is a target: a table needs an index, and any other variable
--- has none. The expansion has replaced `T[X]` of a declared table by its cells, so that case is an
--- error only to make this a total function.
-abbrev pub computed_target : List ℕ → Place → ℕ → Option ℕ → Slot → Result ℕ ResolveFault
-computed_target name place first None Whole = Ok first
-computed_target name place first None (Cell k) = Err (NotATable name place)
-computed_target name place first None Every = Err (NotATable name place)
-computed_target name place first (Some size) Whole = Err (IsATable name place)
-computed_target name place first (Some size) (Cell k) = table_target name place first size k
-computed_target name place first (Some size) Every = Err (BadTarget name place)
+-- The cell of a target that is a table of this size: it has an index below the size. The expansion
+-- has replaced `T[X]` of a declared table by its cells, so that case is an error only to make this a
+-- total function.
+abbrev pub table_target : List ℕ → Place → ℕ → ℕ → Slot → Result ℕ ResolveFault
+table_target name place first size Whole = Err (IsATable name place)
+table_target name place first size (Cell k) = if nat_lt k size then Ok (first + k) else Err (BadTarget name place)
+table_target name place first size Every = Err (BadTarget name place)
 
 -- the cell of a variable that is a target
 abbrev pub target_in : List ℕ → Place → ℕ → Slot → Role → Result ℕ ResolveFault
-target_in name place first slot (Computed size) = computed_target name place first size slot
-target_in name place first slot (Input code) = Err (unsettable_fault name place slot)
-target_in name place first slot (Constant amount) = Err (unsettable_fault name place slot)
-
-abbrev pub target_of : Definition → Option Variable → Result ℕ ResolveFault
-target_of definition None = Err (UnknownName definition.target definition.place)
-target_of definition (Some v) = target_in definition.target definition.place v.first_cell definition.slot v.item.role
+target_in name place first slot role = option_map_or (λ size. table_target name place first size slot) (size_in role)
+    (single_target name place first (not (is_input role || is_constant role)) slot)
 
 -- the cell of a definition's target, regardless of other definitions
 abbrev pub resolved_target : Declared → Definition → Result ℕ ResolveFault
-resolved_target declared definition = target_of definition (variable_named declared definition.target)
+resolved_target declared definition = if_resolved (λ v. target_in definition.target definition.place v.first_cell definition.slot v.item.role)
+    (resolved_variable declared definition.target definition.place)
 
 -- the cell, unless an earlier definition defines it
 abbrev pub new_target : Declared → Place → List ℕ → ℕ → Result ℕ ResolveFault
@@ -130,8 +119,7 @@ resolved_conditions declared before (condition ∷ conditions) = if_resolved (λ
 -- the cell of a constant and its amount
 abbrev pub constant_in : ℕ → Role → Option (ℕ × ℤ)
 constant_in first (Constant amount) = Some (first, amount)
-constant_in first (Input code) = None
-constant_in first (Computed size) = None
+constant_in first _ = None
 
 -- the cells of constants and their amounts, in order of declaration
 abbrev pub constants_of : Declared → List (ℕ × ℤ)

@@ -1,6 +1,7 @@
 -- Terms over cells: each name is a cell, each table read a pick, each membership expanded into
 -- comparisons.
-use Rattle.std.specs.Prelude.{ℕ, Bool, true, false, List, [], ◌∷◌, ◌++◌, Option, Some, None, Result, Ok, Err, if◌then◌else◌, codes}
+use Rattle.std.specs.Prelude.{ℕ, Bool, true, false, List, [], ◌∷◌, ◌++◌, Result, Ok, Err, codes}
+use Rattle.std.specs.Option.{ok_or, option_map_or}
 use Rattle.m_fixed.specs.declared.operator.Op.TheVariants.{Eq, Ge, Le, And, Or, Not}
 use Rattle.m_fixed.specs.declared.amount.Value.TheVariants.{Undef}
 use Rattle.m_places.specs.declared.place.Place.{Place}
@@ -24,31 +25,19 @@ if_resolved next (Err fault) = Err fault
 
 -- ---- names
 
--- the cell of a variable that isn't a table
-abbrev pub whole_cell : List ℕ → Place → ℕ → Option ℕ → Result ℕ ResolveFault
-whole_cell name place first None = Ok first
-whole_cell name place first (Some size) = Err (IsATable name place)
+-- the variable with a name
+abbrev pub resolved_variable : Declared → List ℕ → Place → Result Variable ResolveFault
+resolved_variable declared name place = ok_or (variable_named declared name) (UnknownName name place)
 
-abbrev pub cell_of_variable : List ℕ → Place → Option Variable → Result ℕ ResolveFault
-cell_of_variable name place None = Err (UnknownName name place)
-cell_of_variable name place (Some v) = whole_cell name place v.first_cell (variable_size v.item)
-
--- the cell of a name without an index
+-- the cell of a name without an index, whose variable isn't a table
 abbrev pub resolved_cell : Declared → List ℕ → Place → Result ℕ ResolveFault
-resolved_cell declared name place = cell_of_variable name place (variable_named declared name)
+resolved_cell declared name place = if_resolved (λ v. option_map_or (λ size. Err (IsATable name place)) (variable_size v.item) (Ok v.first_cell))
+    (resolved_variable declared name place)
 
--- the first cell of a table, and its size
-abbrev pub table_cells : List ℕ → Place → ℕ → Option ℕ → Result (ℕ × ℕ) ResolveFault
-table_cells name place first None = Err (NotATable name place)
-table_cells name place first (Some size) = Ok (first, size)
-
-abbrev pub table_of_variable : List ℕ → Place → Option Variable → Result (ℕ × ℕ) ResolveFault
-table_of_variable name place None = Err (UnknownName name place)
-table_of_variable name place (Some v) = table_cells name place v.first_cell (variable_size v.item)
-
--- the table of a name with an index
+-- the first cell of a table with an index, and its size
 abbrev pub resolved_table : Declared → List ℕ → Place → Result (ℕ × ℕ) ResolveFault
-resolved_table declared name place = table_of_variable name place (variable_named declared name)
+resolved_table declared name place = if_resolved (λ v. option_map_or (λ size. Ok (v.first_cell, size)) (variable_size v.item) (Err (NotATable name place)))
+    (resolved_variable declared name place)
 
 -- ---- memberships
 
@@ -69,10 +58,6 @@ membership true members = apply_tree Not (more (any_of members) none)
 
 -- ---- terms
 
--- the name that errors have for `X` in a term
-abbrev pub x_name : List ℕ
-x_name = codes "X"
-
 -- A term over the declared cells, or the first of its errors from left to right. `A + T[1]` with
 -- `A` at cell 0 and the table `T` at the cells 1 to 3 is a chain of cell 0 and `+` the pick at
 -- index 1 of the 3 cells from 1 on. `A dans (1, 3..5)` is `A = 1 ou (A >= 3 et A <= 5)`. An
@@ -81,7 +66,7 @@ abbrev mutual
   pub resolved_term : Declared → Syntax → Result Tree ResolveFault
   resolved_term declared (lit value) = Ok (lit_tree value)
   resolved_term declared (named name place) = if_resolved (λ c. Ok (cell_tree c)) (resolved_cell declared name place)
-  resolved_term declared (the_x place) = Err (UnknownName x_name place)
+  resolved_term declared (the_x place) = Err (UnknownName (codes "X") place)
   resolved_term declared (cell name index place) = if_resolved (λ table. if_resolved (λ i. Ok (pick table.0 table.1 i)) (resolved_term declared index))
       (resolved_table declared name place)
   resolved_term declared (apply op all) = if_resolved (λ arguments. Ok (apply_tree op (trees_of arguments))) (resolved_terms declared [] all)

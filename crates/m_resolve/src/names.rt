@@ -4,7 +4,7 @@ ghost use Rattle.std.specs.Prelude.{◌≡◌, Ok, Err};
 ghost use Rattle.std.specs.Option.{option_copied};
 ghost use Rattle.m_places.specs.Refusals.{Says};
 ghost use Rattle.m_symbols.specs.Cells.{variable_named};
-ghost use Rattle.m_resolve.specs.Terms.{resolved_cell, cell_of_variable, resolved_table, table_of_variable};
+ghost use Rattle.m_resolve.specs.Terms.{resolved_cell, resolved_table};
 ghost use Rattle.m_resolve.specs.declared.fault.ResolveFault.TheVariants.{Memory};
 
 use crate::ResolveFault;

@@ -5,7 +5,7 @@ ghost use Rattle.m_places.specs.Refusals.{Outcome, Says};
 ghost use Rattle.m_ast.specs.Items.{variable_size};
 ghost use Rattle.m_symbols.specs.Declarations.{owners_from};
 ghost use Rattle.m_symbols.specs.Placed.{IsPlaced};
-ghost use Rattle.m_resolve.specs.Bases.{resolved_target, target_in, table_target, unsettable_fault};
+ghost use Rattle.m_resolve.specs.Bases.{resolved_target, target_in, table_target, single_target};
 ghost use Rattle.m_resolve.specs.declared.fault.ResolveFault.TheVariants.{Memory};
 
 use crate::ResolveFault;
@@ -56,46 +56,62 @@ fn target_in(
 {
     let place = definition.place;
     match &variable.item.role {
-        Role::Computed(Some(size)) => match definition.slot {
-            Slot::Whole => Err(ResolveFault::IsATable(name, place)),
-            Slot::Cell(k) => table_target(name, place, variable.first_cell, *size, k),
-            Slot::Every => Err(ResolveFault::BadTarget(name, place)),
-        },
-        Role::Computed(None) => match definition.slot {
-            Slot::Whole => Ok(variable.first_cell),
-            Slot::Cell(_) => Err(ResolveFault::NotATable(name, place)),
-            Slot::Every => Err(ResolveFault::NotATable(name, place)),
-        },
-        Role::Input(_) => unsettable(name, place, definition.slot),
-        Role::Constant(_) => unsettable(name, place, definition.slot),
+        Role::Computed(Some(size)) => {
+            table_target(name, place, variable.first_cell, *size, definition.slot)
+        }
+        Role::Computed(None) => {
+            single_target(name, place, variable.first_cell, true, definition.slot)
+        }
+        Role::Input(_) => single_target(name, place, variable.first_cell, false, definition.slot),
+        Role::Constant(_) => {
+            single_target(name, place, variable.first_cell, false, definition.slot)
+        }
     }
 }
 
-// The error of a target that is an input or a constant.
-fn unsettable(name: Name, place: Place, slot: Slot) -> Result<u32, ResolveFault>
-    ensures { Outcome Memory result (λ cell. ⊥) (λ fault. fault ≡ unsettable_fault name place slot) }
+// The cell of a target that isn't a table, and is computed or not.
+fn single_target(
+    name: Name,
+    place: Place,
+    first: u32,
+    is_computed: bool,
+    slot: Slot,
+) -> Result<u32, ResolveFault>
+    ensures { Says Memory result (λ cell. cell) (single_target name place first is_computed slot) }
 {
     match slot {
-        Slot::Whole => Err(ResolveFault::BadTarget(name, place)),
+        Slot::Whole => {
+            if is_computed {
+                Ok(first)
+            } else {
+                Err(ResolveFault::BadTarget(name, place))
+            }
+        }
         Slot::Cell(_) => Err(ResolveFault::NotATable(name, place)),
         Slot::Every => Err(ResolveFault::NotATable(name, place)),
     }
 }
 
-// The cell of a table at this index.
+// The cell of a target that is a table.
 fn table_target(
     name: Name,
     place: Place,
     first: u32,
     size: u32,
-    k: u32,
+    slot: Slot,
 ) -> Result<u32, ResolveFault>
     requires { first + size < 2 ^ 32 }
-    ensures { Says Memory result (λ cell. cell) (table_target name place first size k) }
+    ensures { Says Memory result (λ cell. cell) (table_target name place first size slot) }
 {
-    if k < size {
-        Ok(first + k)
-    } else {
-        Err(ResolveFault::BadTarget(name, place))
+    match slot {
+        Slot::Whole => Err(ResolveFault::IsATable(name, place)),
+        Slot::Cell(k) => {
+            if k < size {
+                Ok(first + k)
+            } else {
+                Err(ResolveFault::BadTarget(name, place))
+            }
+        }
+        Slot::Every => Err(ResolveFault::BadTarget(name, place)),
     }
 }

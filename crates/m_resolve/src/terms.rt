@@ -7,7 +7,7 @@ ghost use Rattle.micro_m.specs.Views.{tree_of, trees_of, steps_of};
 ghost use Rattle.m_ast.specs.View.{terms_of};
 ghost use Rattle.m_ast.specs.PlainView.{links_of, members_of};
 ghost use Rattle.m_resolve.specs.Terms.{resolved_cell, resolved_table, resolved_term, resolved_terms, resolved_links};
-ghost use Rattle.m_resolve.specs.Terms.{resolved_members, resolved_member, member_by, membership, any_of, x_name, if_resolved};
+ghost use Rattle.m_resolve.specs.Terms.{resolved_members, resolved_member, member_by, membership, any_of, if_resolved};
 ghost use Rattle.m_resolve.specs.declared.fault.ResolveFault.TheVariants.{Memory};
 
 use crate::ResolveFault;

@@ -1,4 +1,4 @@
-use Rattle.std.proofs.Common.{◌≡◌, ◌++◌, ◌∷◌, [], take, map}
+use Rattle.std.proofs.Common.{◌≡◌, ◌++◌, ◌∷◌, take, map}
 use Rattle.m_resolve.specs.Bases.{printable}
 use Rattle.m_resolve.proofs.checks.add_behind_colon.Given as goal
 

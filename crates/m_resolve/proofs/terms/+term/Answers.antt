@@ -1,4 +1,4 @@
-use Rattle.std.proofs.Common.{arith, ap, sym}
+use Rattle.std.proofs.Common.{arith, ap}
 use Rattle.m_ast.specs.Syntax.{nodes}
 use Rattle.m_ast.specs.PlainView.{syntax_of}
 use Rattle.m_resolve.proofs.Sizes.{term_size, link_size, member_size}
