@@ -1,5 +1,6 @@
 pub mod PlainCore
 pub mod NameLemmas
+pub mod Assembled
 pub mod ListLemmas
 pub mod CallLemmas
 pub mod OneLaws

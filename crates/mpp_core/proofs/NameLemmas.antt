@@ -1,8 +1,8 @@
 -- The variable of a name, and the cells of a kind.
-use Rattle.std.proofs.Common.{◌≡◌, ◌≤◌, ◌+◌, ℕ, ℤ, Bool, true, false, cond, List, [], ◌∷◌, ◌++◌, length, Option, None, Some, refl, sym, subst, ◌∙◌}
-use Rattle.std.proofs.Common.{append_assoc, arith, slice_get}
+use Rattle.std.proofs.Common.{◌≡◌, ◌≤◌, ◌+◌, ℕ, ℤ, Bool, true, false, cond, List, [], ◌∷◌, ◌++◌, length, Option, None, Some, refl, sym, ap, subst, ◌∙◌}
+use Rattle.std.proofs.Common.{arith, slice_get}
 use Rattle.std.specs.Prelude.{IfSome}
-use Rattle.std.proofs.lemmas.List.{append-nil}
+use Rattle.std.specs.List.{flat_map}
 use Rattle.std.specs.Option.{option_and_then}
 use Rattle.m_names.specs.Names.{index_of}
 use Rattle.m_ast.specs.declared.variable.VariableItem.{VariableItem}
@@ -13,14 +13,14 @@ use Rattle.m_symbols.specs.Kinds.{is_of_kind}
 use Rattle.driver_core.specs.declared.kind_index.KindIndex.{KindIndex}
 use Rattle.driver_core.specs.Ascending.{ascending, Ascends}
 use Rattle.driver_core.specs.Groups.{groups_in}
-use Rattle.driver_core.specs.Kinds.{cells_with, IsIndexOf}
+use Rattle.driver_core.specs.Kinds.{of_kind, cells_with, IsIndexOf}
 use Rattle.driver_core.proofs.Orders.{same, ascending-ascends, ascends-from, times-ascending}
 use Rattle.driver_core.proofs.GroupLemmas.{groups-with}
 use Rattle.m_symbols.specs.Cells.{variable_named}
 use Rattle.m_symbols.specs.Placed.{IsPlaced, items_of}
 use Rattle.m_symbols.proofs.Placing.{fits, table_sized}
 use Rattle.mpp_parser.specs.declared.term.Kind.TheVariants.{Attribute}
-use Rattle.mpp_core.specs.Names.{with_kind, cells_of_kind, kind_cells}
+use Rattle.mpp_core.specs.Names.{kind_cells}
 
 at_place : (vs : List Variable) (o : Option ℕ) (v : Variable) → option_and_then (slice_get vs) o ≡ Some v → (i : ℕ) × (slice_get vs i ≡ Some v)
 at_place vs None v e = absurd (cc)
@@ -36,17 +36,10 @@ named_fits d name count v p e c = let k = named_at d name v e in fits d k.0 coun
 pub named_sized : (d : Declared) (name : List ℕ) (v : Variable) → IsPlaced d → variable_named d name ≡ Some v → IfSome (variable_size v.item) (λ s. v.cells ≡ s)
 named_sized d name v p e = let k = named_at d name v e in table_sized d k.0 v p k.1
 
--- the cells of a kind are those of its values, appended
-kind-by : (b : Bool) (cell : ℕ) (before rest : List ℕ) → cond b (before ++ cell ∷ []) before ++ rest ≡ before ++ (cond b (cell ∷ []) [] ++ rest)
-kind-by true cell before rest = append_assoc before (cell ∷ []) rest
-kind-by false cell before rest = refl
-
-kind-behind : (a : List ℕ) (values : List ℤ) (before : List ℕ) (vs : List Variable) → cells_of_kind (Attribute a values) before vs ≡ before
-    ++ cells_with a values vs
-kind-behind a values before [] = sym (append-nil before)
-kind-behind a values before (v ∷ vs) =
-    kind-behind a values (with_kind (Attribute a values) before v) vs
-    ∙ kind-by (is_of_kind v a values) v.first_cell before (cells_with a values vs)
+-- the cells of a kind are those that an index is compared with
+kind-with : (a : List ℕ) (values : List ℤ) (vs : List Variable) → flat_map (of_kind a values) vs ≡ cells_with a values vs
+kind-with a values [] = refl
+kind-with a values (v ∷ vs) = ap (λ cells. of_kind a values v ++ cells) (kind-with a values vs)
 
 -- the cells of a kind ascend, since cells are numbered in order
 ascends-by : (first cell size : ℕ) (b : Bool) (rest : List ℕ) → first ≡ cell → Ascends (first + size) rest → Ascends first (cond b (cell ∷ []) [] ++ rest)
@@ -68,4 +61,4 @@ kind-is d index a values p h =
     (ascending-ascends (groups_in index a values))
     (subst (λ (l : List Variable). Ascends 0 (cells_with a values l)) (sym p) (kind-ascends a values 0 (items_of d.variables)))
     (λ c. times-ascending c (groups_in index a values) ∙ groups-with c d.variables index a values h)
-    ∙ sym (kind-behind a values [] d.variables)
+    ∙ sym (kind-with a values d.variables)

@@ -4,10 +4,13 @@ use Rattle.std.specs.Prelude.{IfOk}
 use Rattle.std.proofs.lemmas.List.Elements.{All-nil, All-cons, All-filter}
 use Rattle.m_symbols.specs.Declarations.{Declared, owners_from}
 use Rattle.driver_core.specs.declared.program.Core.{Core}
-use Rattle.driver_core.specs.Actions.{Action}
+use Rattle.driver_core.specs.Actions.{Action, solve}
 use Rattle.driver_core.specs.ActionView.{block_of}
 use Rattle.driver_core.specs.Valid.{body_among, BlockCalls, BlockIsWithin, IsRing, IsValidCore}
-use Rattle.mpp_core.specs.Cores.{plain_core, received_alone, received_cells, is_constant_cell}
+use Rattle.mpp_core.specs.Cores.{plain_core, received_cells, is_constant_cell}
+
+abbrev received_alone : List ℕ → Action
+received_alone cells = solve 1 (length cells) cells
 
 no_calls : (received : List ℕ) (f g : ℕ) → BlockCalls (body_among ((received_alone received ∷ []) ∷ []) f) g → ⊥
 no_calls received zero g (inl e) = e

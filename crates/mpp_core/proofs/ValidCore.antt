@@ -1,9 +1,9 @@
 -- A driver whose names resolve has its numbers in range.
 use Rattle.std.proofs.Common.{◌≡◌, ◌≤◌, ◌<◌, ◌+◌, ◌^◌, ℕ, ℤ, suc, Bool, true, false, cond, nat_lt, List, [], ◌∷◌, ◌++◌, length, map, length-append, All, Option}
-use Rattle.std.proofs.Common.{None, Some, Result, Ok, Err, refl, sym, ap, ◌∙◌, subst, arith, slice_get}
+use Rattle.std.proofs.Common.{None, Some, Result, Ok, Err, refl, ap, ◌∙◌, subst, arith, slice_get}
 use Rattle.std.specs.Prelude.{◌&&◌, codes, ◌==◌}
-use Rattle.std.specs.List.{AllByRecursion}
-use Rattle.std.specs.Option.{option_map_or, option_map}
+use Rattle.std.specs.List.{AllByRecursion, flat_map}
+use Rattle.std.specs.Option.{ok_or, option_and_then, option_map_or, option_map}
 use Rattle.std.specs.Str.{bytes_eq}
 use Rattle.std.proofs.lemmas.Bool.{ltb-true}
 use Rattle.std.proofs.lemmas.List.{length-map}
@@ -11,7 +11,7 @@ use Rattle.std.proofs.lemmas.List.Elements.{All-nil, All-cons}
 use Rattle.m_names.specs.Names.{index_of}
 use Rattle.m_ast.specs.declared.variable.Role.{Role}
 use Rattle.m_ast.specs.declared.variable.Role.TheVariants.{Input, Computed, Constant}
-use Rattle.m_ast.specs.Items.{cells_in, size_in, is_input, variable_cells, variable_size, is_constant}
+use Rattle.m_ast.specs.Items.{cells_in, size_in, is_input, variable_cells, variable_size}
 use Rattle.m_symbols.specs.declared.variable.Variable.{Variable}
 use Rattle.m_symbols.specs.Declarations.{Declared, owners_from}
 use Rattle.m_symbols.specs.Kinds.{is_of_kind, is_one_of, last_value}
@@ -31,16 +31,17 @@ use Rattle.micro_m.specs.Bases.{IsWithin, AreWithin, StepsAreWithin}
 use Rattle.micro_m.specs.Trees.{Tree, lit as lit_tree, cell as cell_tree, apply as apply_tree, chain as chain_tree}
 use Rattle.micro_m.specs.Views.{trees_of, steps_of}
 use Rattle.micro_m.specs.declared.term.Step.{Step}
+use Rattle.driver_core.specs.Kinds.{of_kind}
 use Rattle.driver_core.specs.Leaves.{then_present, any_present}
 use Rattle.driver_core.specs.Actions.{Action, assign, clear, branch, partition as partition_action, call as call_action, solve}
 use Rattle.driver_core.specs.ActionView.{block_of}
 use Rattle.driver_core.specs.Valid.{ActionIsWithin, BlockIsWithin, IsInRange}
 use Rattle.mpp_core.specs.declared.fault.CoreFault.{CoreFault}
-use Rattle.mpp_core.specs.declared.fault.CoreFault.TheVariants.{FunctionTwice}
-use Rattle.mpp_core.specs.Names.{if_resolved, table_cell, cell_at, cell_of_variable, resolved_cell, constant_target, target_of_variable, resolved_target}
-use Rattle.mpp_core.specs.Names.{resolved_targets, with_cell, each_once, with_kind, cells_of_kind, kind_cells, name_in, resolved_name, resolved_names}
+use Rattle.mpp_core.specs.declared.fault.CoreFault.TheVariants.{FunctionTwice, BadTargetInDriver}
+use Rattle.mpp_core.specs.Names.{if_resolved, cell_at, resolved_cell, is_constant_named, resolved_target}
+use Rattle.mpp_core.specs.Names.{resolved_each, with_cell, each_once, kind_cells, resolved_name, resolved_names}
 use Rattle.mpp_core.specs.Names.{resolved_main, resolved_function, rules_name}
-use Rattle.mpp_core.specs.Bodies.{resolved_term, resolved_terms, resolved_links, resolved_call, resolved_act, resolved_acts, resolved_bodies}
+use Rattle.mpp_core.specs.Bodies.{resolved_term, resolved_terms, resolved_links, resolved_call, resolved_act, resolved_acts}
 use Rattle.mpp_core.specs.Cores.{core_of}
 use Rattle.mpp_core.proofs.NameLemmas.{named_at}
 
@@ -68,53 +69,46 @@ all_of P (x ∷ xs) h = All-cons P x xs h.0 (all_of P xs h.1)
 
 -- ---- cells
 
-in_table : (name : List ℕ) (line first size k c all : ℕ) (b : Bool) → nat_lt k size ≡ b → first + size ≤ all → table_cell name line first size k ≡ Ok c
-    → c < all
-in_table name line first size k c all true t h e =
-    let s : ◌≡◌ {A = Result ℕ CoreFault} (Ok (first + k)) (Ok c) = rw t at e in
-    omega (arith, h, ltb-true k size t, value_of_ok (first + k) c s)
-in_table name line first size k c all false t h e = let s = rw t at e in absurd (cc)
+in_table : (first size k c all : ℕ) (b : Bool) → nat_lt k size ≡ b → first + size ≤ all → cond b (Some (first + k)) None ≡ Some c → c < all
+in_table first size k c all true t h e = let s : first + k ≡ c = cc in omega (arith, h, ltb-true k size t, s)
+in_table first size k c all false t h e = absurd (cc)
 
-at_within : (name : List ℕ) (line first cells all c : ℕ) (index size : Option ℕ) → cells ≡ cells_in size → first + cells ≤ all
-    → cell_at name line first index size ≡ Ok c → c < all
-at_within name line first cells all c None None e h s = omega (arith, e, h, value_of_ok first c s)
-at_within name line first cells all c None (Some size) e h s = absurd (cc)
-at_within name line first cells all c (Some k) None e h s = absurd (cc)
-at_within name line first cells all c (Some k) (Some size) e h s = in_table name line first size k c all (nat_lt k size) refl (omega (arith, e, h)) s
+at_within : (first cells all c : ℕ) (index size : Option ℕ) → cells ≡ cells_in size → first + cells ≤ all → cell_at first index size ≡ Some c → c < all
+at_within first cells all c None None e h s = let k : first ≡ c = cc in omega (arith, e, h, k)
+at_within first cells all c None (Some size) e h s = absurd (cc)
+at_within first cells all c (Some k) None e h s = absurd (cc)
+at_within first cells all c (Some k) (Some size) e h s = in_table first size k c all (nat_lt k size) refl (omega (arith, e, h)) s
+
+given_by : {A : Type 0} (o : Option A) (fault : CoreFault) (a : A) → ok_or o fault ≡ Ok a → o ≡ Some a
+given_by None fault a e = absurd (cc)
+given_by (Some b) fault a e = ap Some (value_of_ok b a e)
 
 cell_within : (d : Declared) (line c : ℕ) (cell : CellName) → IsPlaced d → resolved_cell d line cell ≡ Ok c → c < length (owners_from 0 d.variables)
-cell_within d line c cell p e = option_cases (variable_named d cell.name)
-    (λ (none : variable_named d cell.name ≡ None). let s = sym (ap (cell_of_variable line cell) none) ∙ e in absurd (cc))
-    (λ (v : Variable) (some : variable_named d cell.name ≡ Some v).
-    let at = named_at d cell.name v some in
-    let m = placed_ends d at.0 v p at.1 in
-    at_within cell.name line v.first_cell v.cells (length (owners_from 0 d.variables)) c cell.index (variable_size v.item) m.cells (omega (arith, m.ends))
-    (sym (ap (cell_of_variable line cell) some) ∙ e))
+cell_within d line c cell p e = by_variable (variable_named d cell.name) refl (given_by _ _ c e)
+  where
+    by_variable : (o : Option Variable) → variable_named d cell.name ≡ o
+        → option_and_then (λ v. cell_at v.first_cell cell.index (variable_size v.item)) o ≡ Some c → c < length (owners_from 0 d.variables)
+    by_variable None n s = absurd (cc)
+    by_variable (Some v) n s =
+        let at = named_at d cell.name v n in
+        let m = placed_ends d at.0 v p at.1 in
+        at_within v.first_cell v.cells (length (owners_from 0 d.variables)) c cell.index (variable_size v.item) m.cells (omega (arith, m.ends)) s
 
-no_constant : (name : List ℕ) (line c : ℕ) (index : Option ℕ) → constant_target name line index ≡ Ok c → ⊥
-no_constant name line c None e = cc
-no_constant name line c (Some k) e = cc
-
-by_role : (name : List ℕ) (line first cells all c : ℕ) (index size : Option ℕ) (b : Bool) → cells ≡ cells_in size → first + cells ≤ all
-    → cond b (constant_target name line index) (cell_at name line first index size) ≡ Ok c → c < all
-by_role name line first cells all c index size true e h s = absurd (no_constant name line c index s)
-by_role name line first cells all c index size false e h s = at_within name line first cells all c index size e h s
+no_constant : (is : Bool) (fault : CoreFault) (a c : ℕ) → cond is (Err fault) (Ok a) ≡ Ok c → a ≡ c
+no_constant true fault a c e = absurd (cc)
+no_constant false fault a c e = value_of_ok a c e
 
 target_within : (d : Declared) (line c : ℕ) (cell : CellName) → IsPlaced d → resolved_target d line cell ≡ Ok c → c < length (owners_from 0 d.variables)
-target_within d line c cell p e = option_cases (variable_named d cell.name)
-    (λ (none : variable_named d cell.name ≡ None). let s = sym (ap (target_of_variable line cell) none) ∙ e in absurd (cc))
-    (λ (v : Variable) (some : variable_named d cell.name ≡ Some v).
-    let at = named_at d cell.name v some in
-    let m = placed_ends d at.0 v p at.1 in
-    by_role cell.name line v.first_cell v.cells (length (owners_from 0 d.variables)) c cell.index (variable_size v.item) (is_constant v.item.role) m.cells
-    (omega (arith, m.ends)) (sym (ap (target_of_variable line cell) some) ∙ e))
+target_within d line c cell p e =
+    let k = resolved_by (λ a. cond (is_constant_named d cell.name) (Err (BadTargetInDriver cell.name line)) (Ok a)) (resolved_cell d line cell) c e in
+    cell_within d line c cell p (k.1 ∙ ap Ok (no_constant (is_constant_named d cell.name) _ k.0 c k.2))
 
 targets_within : (d : Declared) (line : ℕ) (before : List ℕ) (cells : List CellName) (stated : List ℕ) → IsPlaced d
     → AllByRecursion (λ c. c < length (owners_from 0 d.variables)) before
-    → resolved_targets d line before cells ≡ Ok stated → AllByRecursion (λ c. c < length (owners_from 0 d.variables)) stated
+    → resolved_each (resolved_target d line) before cells ≡ Ok stated → AllByRecursion (λ c. c < length (owners_from 0 d.variables)) stated
 targets_within d line before [] stated p h e = subst (AllByRecursion (λ c. c < length (owners_from 0 d.variables))) (value_of_ok before stated e) h
 targets_within d line before (cell ∷ cells) stated p h e =
-    let k = resolved_by (λ c. resolved_targets d line (before ++ c ∷ []) cells) (resolved_target d line cell) stated e in
+    let k = resolved_by (λ c. resolved_each (resolved_target d line) (before ++ c ∷ []) cells) (resolved_target d line cell) stated e in
     targets_within d line (before ++ k.0 ∷ []) cells stated p (all_push _ before k.0 h (target_within d line k.0 cell p k.1)) k.2
 
 put_within : (n c d : ℕ) (ds : List ℕ) (less same : Bool) → c < n → d < n → AllByRecursion (λ x. x < n) ds → AllByRecursion (λ x. x < n) (with_cell c ds)
@@ -154,23 +148,22 @@ input_cells (Input code) e = refl
 input_cells (Computed size) e = absurd (cc)
 input_cells (Constant amount) e = absurd (cc)
 
-put_if : (n cell : ℕ) (b : Bool) (before : List ℕ) → (b ≡ true → cell < n) → AllByRecursion (λ c. c < n) before
-    → AllByRecursion (λ c. c < n) (cond b (before ++ cell ∷ []) before)
-put_if n cell true before h a = all_push _ before cell a (h refl)
-put_if n cell false before h a = a
+one_within : (n cell : ℕ) (b : Bool) (rest : List ℕ) → (b ≡ true → cell < n) → AllByRecursion (λ c. c < n) rest
+    → AllByRecursion (λ c. c < n) (cond b (cell ∷ []) [] ++ rest)
+one_within n cell true rest h a = (h refl, a)
+one_within n cell false rest h a = a
 
-kinds_within : (n : ℕ) (attribute : List ℕ) (values : List ℤ) (before : List ℕ) (vs : List Variable) → AllByRecursion (IsWithinCount n) vs
-    → AllByRecursion (λ c. c < n) before
-    → AllByRecursion (λ c. c < n) (cells_of_kind (Attribute attribute values) before vs)
-kinds_within n attribute values before [] h a = a
-kinds_within n attribute values before (v ∷ vs) h a =
-    kinds_within n attribute values (with_kind (Attribute attribute values) before v) vs h.1
-    (put_if n v.first_cell (is_of_kind v attribute values) before
+kinds_within : (n : ℕ) (attribute : List ℕ) (values : List ℤ) (vs : List Variable) → AllByRecursion (IsWithinCount n) vs
+    → AllByRecursion (λ c. c < n) (flat_map (of_kind attribute values) vs)
+kinds_within n attribute values [] h = tt
+kinds_within n attribute values (v ∷ vs) h =
+    one_within n v.first_cell (is_of_kind v attribute values) (flat_map (of_kind attribute values) vs)
     (λ e. let one = input_cells v.item.role (both (is_input v.item.role) (is_one_of (last_value attribute v.item.pairs) values) e) in
-    let cells = h.0.0 in let room = h.0.1 in omega (arith, one, cells, room)) a)
+    let cells = h.0.0 in let room = h.0.1 in omega (arith, one, cells, room))
+    (kinds_within n attribute values vs h.1)
 
 kind_within : (d : Declared) (kind : Kind) → IsPlaced d → AllByRecursion (λ c. c < length (owners_from 0 d.variables)) (kind_cells d kind)
-kind_within d (Attribute attribute values) p = kinds_within (length (owners_from 0 d.variables)) attribute values [] d.variables (all_stand d p) tt
+kind_within d (Attribute attribute values) p = kinds_within (length (owners_from 0 d.variables)) attribute values d.variables (all_stand d p)
 
 -- ---- terms
 
@@ -299,7 +292,7 @@ mutual
             (acts_within d names [] block k.0 p tt k.1),
       )
   act_within d names (call line cs name) action p e =
-      let k = resolved_by (resolved_call names line name) (resolved_targets d line [] cs) action e in
+      let k = resolved_by (resolved_call names line name) (resolved_each (resolved_target d line) [] cs) action e in
       call_cases (length (owners_from 0 d.variables)) line names name k.0 action (bytes_eq name rules_name) (targets_within d line [] cs k.0 p tt k.1) k.2
 
   acts_within : (d : Declared) (names : List (List ℕ)) (before : List Action) (all : Acts) (stated : List Action) → IsPlaced d
@@ -313,25 +306,32 @@ mutual
 
 -- ---- whole drivers
 
+-- the body of a function, and its name
+abbrev stated_body : Declared → List (List ℕ) → Function → Result (List Action) CoreFault
+stated_body d names f = resolved_acts d names [] (acts_of f.body)
+
+abbrev name_in : Function → List ℕ
+name_in f = f.name
+
 abbrev BodyIsWithin : ℕ → ℕ → List Action → Type 0
 BodyIsWithin n functions commands = BlockIsWithin n functions (block_of commands)
 
 bodies_within : (d : Declared) (names : List (List ℕ)) (before : List (List Action)) (fs : List Function) (bodies : List (List Action)) → IsPlaced d
-    → AllByRecursion (BodyIsWithin (length (owners_from 0 d.variables)) (length names)) before → resolved_bodies d names before fs ≡ Ok bodies
+    → AllByRecursion (BodyIsWithin (length (owners_from 0 d.variables)) (length names)) before → resolved_each (stated_body d names) before fs ≡ Ok bodies
     → AllByRecursion (BodyIsWithin (length (owners_from 0 d.variables)) (length names)) bodies
 bodies_within d names before [] bodies p h e = subst (AllByRecursion (BodyIsWithin (length (owners_from 0 d.variables)) (length names)))
     (value_of_ok before bodies e) h
 bodies_within d names before (f ∷ fs) bodies p h e =
-    let k = resolved_by (λ body. resolved_bodies d names (before ++ body ∷ []) fs) (resolved_acts d names [] (acts_of f.body)) bodies e in
+    let k = resolved_by (λ body. resolved_each (stated_body d names) (before ++ body ∷ []) fs) (resolved_acts d names [] (acts_of f.body)) bodies e in
     bodies_within d names (before ++ k.0 ∷ []) fs bodies p
     (all_push _ before k.0 h (block_within _ _ k.0 (acts_within d names [] (acts_of f.body) k.0 p tt k.1))) k.2
 
 bodies_count : (d : Declared) (names : List (List ℕ)) (before : List (List Action)) (fs : List Function) (bodies : List (List Action))
-    → resolved_bodies d names before fs ≡ Ok bodies
+    → resolved_each (stated_body d names) before fs ≡ Ok bodies
     → length bodies ≡ length before + length fs
 bodies_count d names before [] bodies e = let s = ap length (value_of_ok before bodies e) in omega (arith, s)
 bodies_count d names before (f ∷ fs) bodies e =
-    let k = resolved_by (λ body. resolved_bodies d names (before ++ body ∷ []) fs) (resolved_acts d names [] (acts_of f.body)) bodies e in
+    let k = resolved_by (λ body. resolved_each (stated_body d names) (before ++ body ∷ []) fs) (resolved_acts d names [] (acts_of f.body)) bodies e in
     omega (arith, bodies_count d names (before ++ k.0 ∷ []) fs bodies k.2, length-append before (k.0 ∷ []))
 
 name_count : (b : Bool) (fault : CoreFault) (before stated : List (List ℕ)) (name : List ℕ) → cond b (Err fault) (Ok (before ++ name ∷ [])) ≡ Ok stated
@@ -357,11 +357,11 @@ core_in_range driver d core p e =
     let cells = length (owners_from 0 d.variables) in
     let k = resolved_by (λ names. if_resolved
     (λ main. if_resolved (λ bodies. Ok (record { cells = cells; names = map name_in driver.functions; bodies = bodies; main = main }))
-    (resolved_bodies d names [] driver.functions)) (resolved_main names)) (resolved_names [] driver.functions) core e in
+    (resolved_each (stated_body d names) [] driver.functions)) (resolved_main names)) (resolved_names [] driver.functions) core e in
     let m = resolved_by (λ main. if_resolved (λ bodies. Ok (record { cells = cells; names = map name_in driver.functions; bodies = bodies; main = main }))
-    (resolved_bodies d k.0 [] driver.functions)) (resolved_main k.0) core k.2 in
+    (resolved_each (stated_body d k.0) [] driver.functions)) (resolved_main k.0) core k.2 in
     let b = resolved_by (λ bodies. Ok (record { cells = cells; names = map name_in driver.functions; bodies = bodies; main = m.0 }))
-    (resolved_bodies d k.0 [] driver.functions) core m.2 in
+    (resolved_each (stated_body d k.0) [] driver.functions) core m.2 in
     let count = bodies_count d k.0 [] driver.functions b.0 b.1 in
     let named = names_count [] driver.functions k.0 k.1 in
     let same : length k.0 ≡ length b.0 = omega (arith, count, named) in
@@ -380,11 +380,11 @@ functions_count driver d core names e stated =
     let cells = length (owners_from 0 d.variables) in
     let k = resolved_by (λ names. if_resolved
     (λ main. if_resolved (λ bodies. Ok (record { cells = cells; names = map name_in driver.functions; bodies = bodies; main = main }))
-    (resolved_bodies d names [] driver.functions)) (resolved_main names)) (resolved_names [] driver.functions) core e in
+    (resolved_each (stated_body d names) [] driver.functions)) (resolved_main names)) (resolved_names [] driver.functions) core e in
     let m = resolved_by (λ main. if_resolved (λ bodies. Ok (record { cells = cells; names = map name_in driver.functions; bodies = bodies; main = main }))
-    (resolved_bodies d k.0 [] driver.functions)) (resolved_main k.0) core k.2 in
+    (resolved_each (stated_body d k.0) [] driver.functions)) (resolved_main k.0) core k.2 in
     let b = resolved_by (λ bodies. Ok (record { cells = cells; names = map name_in driver.functions; bodies = bodies; main = m.0 }))
-    (resolved_bodies d k.0 [] driver.functions) core m.2 in
+    (resolved_each (stated_body d k.0) [] driver.functions) core m.2 in
     let count = bodies_count d k.0 [] driver.functions b.0 b.1 in
     let named = names_count [] driver.functions names stated in
     let same : length names ≡ length b.0 = omega (arith, count, named) in

@@ -5,15 +5,13 @@ use Rattle.std.specs.Str.{bytes_eq}
 use Rattle.m_symbols.specs.Declarations.{Declared}
 use Rattle.mpp_parser.specs.Trees.{Term, lit, named, apply, chain, exists, Terms, no_terms, a_term, Links, no_links, a_link}
 use Rattle.mpp_parser.specs.Commands.{Act, set, del, when, partition, call, Acts, no_acts, an_act}
-use Rattle.mpp_parser.specs.CommandView.{block_of as acts_of}
-use Rattle.mpp_parser.specs.declared.command.Function.{Function}
 use Rattle.micro_m.specs.Trees.{Tree, lit as lit_tree, cell as cell_tree, apply as apply_tree, chain as chain_tree}
 use Rattle.micro_m.specs.Views.{trees_of, steps_of}
 use Rattle.micro_m.specs.declared.term.Step.{Step}
 use Rattle.driver_core.specs.Leaves.{any_present}
 use Rattle.driver_core.specs.Actions.{Action, assign, clear, branch, partition as partition_action, call as call_action, solve}
 use Rattle.driver_core.specs.ActionView.{block_of}
-use Rattle.mpp_core.specs.Names.{if_resolved, resolved_cell, resolved_target, resolved_targets, each_once, kind_cells, rules_name, resolved_function}
+use Rattle.mpp_core.specs.Names.{if_resolved, resolved_cell, resolved_target, resolved_each, each_once, kind_cells, rules_name, resolved_function}
 use Rattle.mpp_core.specs.declared.fault.CoreFault.{CoreFault}
 
 -- ---- terms
@@ -61,18 +59,10 @@ abbrev mutual
       (resolved_acts declared names [] first)) (resolved_term declared line condition)
   resolved_act declared names (partition line kind block) = if_resolved (λ a. Ok (partition_action line (kind_cells declared kind) (block_of a)))
       (resolved_acts declared names [] block)
-  resolved_act declared names (call line cs name) = if_resolved (resolved_call names line name) (resolved_targets declared line [] cs)
+  resolved_act declared names (call line cs name) = if_resolved (resolved_call names line name) (resolved_each (resolved_target declared line) [] cs)
 
   -- commands in sequence, appended to those already resolved
   pub resolved_acts : Declared → List (List ℕ) → List Action → Acts → Result (List Action) CoreFault
   resolved_acts declared names before no_acts = Ok before
   resolved_acts declared names before (an_act a rest) = if_resolved (λ action. resolved_acts declared names (before ++ action ∷ []) rest)
       (resolved_act declared names a)
-
--- ---- functions
-
--- the bodies of functions in sequence, appended to those already resolved
-abbrev pub resolved_bodies : Declared → List (List ℕ) → List (List Action) → List Function → Result (List (List Action)) CoreFault
-resolved_bodies declared names before [] = Ok before
-resolved_bodies declared names before (f ∷ fs) = if_resolved (λ body. resolved_bodies declared names (before ++ body ∷ []) fs)
-    (resolved_acts declared names [] (acts_of f.body))

@@ -1,18 +1,19 @@
 -- The driver over cells that a driver resolves to, the errors of a driver, and the driver of a
 -- source without one.
-use Rattle.std.specs.Prelude.{◌≡◌, ◌⊎◌, ℕ, List, [], ◌∷◌, Option, Some, None, Result, Ok, Err, Bool, false, not, codes, length, map, filter, slice_get}
-use Rattle.std.specs.Option.{option_map_or}
+use Rattle.std.specs.Prelude.{◌≡◌, ◌⊎◌, ℕ, List, [], ◌∷◌, Result, Ok, Err, Bool, false, not, codes, length, map, filter, slice_get}
+use Rattle.std.specs.Option.{option_map_or, unwrap_or}
 use Rattle.m_ast.specs.Items.{is_constant}
 use Rattle.m_symbols.specs.declared.variable.Variable.{Variable}
 use Rattle.m_symbols.specs.Declarations.{Declared, owners_from}
 use Rattle.micro_m.specs.Reads.{BeginsWithLeast}
 use Rattle.m_symbols.specs.Cells.{owner_of}
+use Rattle.mpp_parser.specs.CommandView.{block_of as acts_of}
 use Rattle.mpp_parser.specs.declared.command.Driver.{Driver}
 use Rattle.driver_core.specs.declared.program.Core.{Core}
-use Rattle.driver_core.specs.Actions.{Action, solve}
+use Rattle.driver_core.specs.Actions.{solve}
 use Rattle.driver_core.specs.Valid.{IsRing, HasNoRing}
-use Rattle.mpp_core.specs.Names.{if_resolved, name_in, resolved_names, resolved_main}
-use Rattle.mpp_core.specs.Bodies.{resolved_bodies}
+use Rattle.mpp_core.specs.Names.{if_resolved, resolved_each, resolved_names, resolved_main}
+use Rattle.mpp_core.specs.Bodies.{resolved_acts}
 use Rattle.mpp_core.specs.declared.fault.CoreFault.{CoreFault}
 use Rattle.mpp_core.specs.declared.fault.CoreFault.TheVariants.{DriverRecursion}
 
@@ -24,8 +25,8 @@ abbrev pub core_of : Driver → Declared → Result Core CoreFault
 core_of driver declared =
     if_resolved
     (λ names. if_resolved (λ main. if_resolved
-    (λ bodies. Ok (record { cells = length (owners_from 0 declared.variables); names = map name_in driver.functions; bodies = bodies; main = main }))
-    (resolved_bodies declared names [] driver.functions)) (resolved_main names))
+    (λ bodies. Ok (record { cells = length (owners_from 0 declared.variables); names = map (λ f. f.name) driver.functions; bodies = bodies; main = main }))
+    (resolved_each (λ f. resolved_acts declared names [] (acts_of f.body)) [] driver.functions)) (resolved_main names))
     (resolved_names [] driver.functions)
 
 -- The driver's names resolve to this driver over cells, and no function reaches itself by calls.
@@ -34,12 +35,8 @@ pub record IsCore (driver : Driver) (declared : Declared) (core : Core) : Type 0
   pub no_ring : HasNoRing core
 
 -- the name of a function
-abbrev pub name_or_none : Option (List ℕ) → List ℕ
-name_or_none None = []
-name_or_none (Some name) = name
-
 abbrev pub function_name : List (List ℕ) → ℕ → List ℕ
-function_name names f = name_or_none (slice_get names f)
+function_name names f = unwrap_or (slice_get names f) []
 
 -- These are the names of a cycle of calls: distinct functions, each calling the next and the last
 -- the first, beginning with the one that is first in the file.
@@ -73,17 +70,13 @@ is_constant_cell declared cell = option_map_or (λ (v : Variable). is_constant v
 abbrev pub received_cells : List ℕ → Declared → List ℕ
 received_cells requests declared = filter (λ cell. not (is_constant_cell declared cell)) requests
 
--- a call of the rules on line 1 that receives these cells
-abbrev pub received_alone : List ℕ → Action
-received_alone cells = solve 1 (length cells) cells
-
--- `main` with one call of the rules that receives the requested cells except those of constants
+-- `main` with one call of the rules on line 1 that receives the requested cells except those of constants
 abbrev pub plain_core : List ℕ → Declared → Core
 plain_core requests declared =
     record {
       cells = length (owners_from 0 declared.variables);
       names = codes "main" ∷ [];
-      bodies = (received_alone (received_cells requests declared) ∷ [])
+      bodies = (solve 1 (length (received_cells requests declared)) (received_cells requests declared) ∷ [])
           ∷ [];
       main = 0;
     }

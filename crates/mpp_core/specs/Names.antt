@@ -1,13 +1,13 @@
 -- Resolves the names of a driver: to cells, to targets, to the inputs of a kind, and to functions.
-use Rattle.std.specs.Prelude.{ℕ, ◌+◌, nat_lt, ◌==◌, ◌||◌, List, [], ◌∷◌, ◌++◌, Option, Some, None, Result, Ok, Err, if◌then◌else◌, codes}
-use Rattle.std.specs.Option.{option_map_or}
+use Rattle.std.specs.Prelude.{ℕ, ◌+◌, nat_lt, ◌==◌, ◌||◌, Bool, false, List, [], ◌∷◌, ◌++◌, Option, Some, None, Result, Ok, Err, if◌then◌else◌, codes}
+use Rattle.std.specs.List.{flat_map}
+use Rattle.std.specs.Option.{ok_or, option_and_then, option_map_or}
 use Rattle.std.specs.Str.{bytes_eq}
 use Rattle.m_names.specs.Names.{has, index_of}
 use Rattle.m_ast.specs.Items.{variable_size, is_constant}
-use Rattle.m_symbols.specs.declared.variable.Variable.{Variable}
 use Rattle.m_symbols.specs.Declarations.{Declared}
-use Rattle.m_symbols.specs.Kinds.{is_of_kind}
 use Rattle.m_symbols.specs.Cells.{variable_named}
+use Rattle.driver_core.specs.Kinds.{of_kind}
 use Rattle.mpp_parser.specs.declared.term.CellName.{CellName}
 use Rattle.mpp_parser.specs.declared.term.Kind.{Kind}
 use Rattle.mpp_parser.specs.declared.term.Kind.TheVariants.{Attribute}
@@ -20,47 +20,33 @@ abbrev pub if_resolved : {A B : Type 0} → (A → Result B CoreFault) → Resul
 if_resolved next (Ok thing) = next thing
 if_resolved next (Err fault) = Err fault
 
+-- things in sequence, appended to those already resolved, or the first error
+abbrev pub resolved_each : {A B : Type 0} → (A → Result B CoreFault) → List B → List A → Result (List B) CoreFault
+resolved_each resolved before [] = Ok before
+resolved_each resolved before (x ∷ xs) = if_resolved (λ y. resolved_each resolved (before ++ y ∷ []) xs) (resolved x)
+
 -- ---- cells
 
--- the cell at this index of a table with this size
-abbrev pub table_cell : List ℕ → ℕ → ℕ → ℕ → ℕ → Result ℕ CoreFault
-table_cell name line first size k = if nat_lt k size then Ok (first + k) else Err (UnknownInDriver name line)
-
--- The cell of a variable with this first cell and size, at an index or without one: a table needs
--- an index below its size, and any other variable none.
-abbrev pub cell_at : List ℕ → ℕ → ℕ → Option ℕ → Option ℕ → Result ℕ CoreFault
-cell_at name line first None None = Ok first
-cell_at name line first None (Some size) = Err (UnknownInDriver name line)
-cell_at name line first (Some k) None = Err (UnknownInDriver name line)
-cell_at name line first (Some k) (Some size) = table_cell name line first size k
-
-abbrev pub cell_of_variable : ℕ → CellName → Option Variable → Result ℕ CoreFault
-cell_of_variable line c None = Err (UnknownInDriver c.name line)
-cell_of_variable line c (Some v) = cell_at c.name line v.first_cell c.index (variable_size v.item)
+-- The cell of a variable with this first cell, at an index or without one, by its size if it is a
+-- table: a table needs an index below its size, and any other variable none.
+abbrev pub cell_at : ℕ → Option ℕ → Option ℕ → Option ℕ
+cell_at first None None = Some first
+cell_at first (Some k) (Some size) = if nat_lt k size then Some (first + k) else None
+cell_at first _ _ = None
 
 -- The cell that a name on this line resolves to: if `T` is a table of 3 cells from the cell 5 on,
 -- `T[1]` is the cell 6, and `T` and `T[3]` don't resolve.
 abbrev pub resolved_cell : Declared → ℕ → CellName → Result ℕ CoreFault
-resolved_cell declared line c = cell_of_variable line c (variable_named declared c.name)
+resolved_cell declared line c =
+    ok_or (option_and_then (λ v. cell_at v.first_cell c.index (variable_size v.item)) (variable_named declared c.name)) (UnknownInDriver c.name line)
 
--- a constant is a bad target, and a constant with an index doesn't resolve
-abbrev pub constant_target : List ℕ → ℕ → Option ℕ → Result ℕ CoreFault
-constant_target name line None = Err (BadTargetInDriver name line)
-constant_target name line (Some k) = Err (UnknownInDriver name line)
-
-abbrev pub target_of_variable : ℕ → CellName → Option Variable → Result ℕ CoreFault
-target_of_variable line c None = Err (UnknownInDriver c.name line)
-target_of_variable line c (Some v) =
-    if is_constant v.item.role then constant_target c.name line c.index else cell_at c.name line v.first_cell c.index (variable_size v.item)
+abbrev pub is_constant_named : Declared → List ℕ → Bool
+is_constant_named declared name = option_map_or (λ v. is_constant v.item.role) (variable_named declared name) false
 
 -- the cell of a target, which is assigned, deleted or received: that of any variable but a constant
 abbrev pub resolved_target : Declared → ℕ → CellName → Result ℕ CoreFault
-resolved_target declared line c = target_of_variable line c (variable_named declared c.name)
-
--- targets from left to right, appended to those already resolved
-abbrev pub resolved_targets : Declared → ℕ → List ℕ → List CellName → Result (List ℕ) CoreFault
-resolved_targets declared line before [] = Ok before
-resolved_targets declared line before (c ∷ cs) = if_resolved (λ cell. resolved_targets declared line (before ++ cell ∷ []) cs) (resolved_target declared line c)
+resolved_target declared line c = if_resolved (λ cell. if is_constant_named declared c.name then Err (BadTargetInDriver c.name line) else Ok cell)
+    (resolved_cell declared line c)
 
 -- inserts a cell into an ascending list, unless it is in it
 abbrev pub with_cell : ℕ → List ℕ → List ℕ
@@ -74,27 +60,15 @@ each_once (c ∷ cs) = with_cell c (each_once cs)
 
 -- ---- kinds
 
--- appends the cell of a variable, if it is of a kind
-abbrev pub with_kind : Kind → List ℕ → Variable → List ℕ
-with_kind (Attribute attribute values) before v = if is_of_kind v attribute values then before ++ v.first_cell ∷ [] else before
-
--- appends the cells of the variables that are of a kind
-abbrev pub cells_of_kind : Kind → List ℕ → List Variable → List ℕ
-cells_of_kind kind before [] = before
-cells_of_kind kind before (v ∷ vs) = cells_of_kind kind (with_kind kind before v) vs
-
 -- the cells of the inputs of a kind in order of declaration; a kind that no input has is empty
 abbrev pub kind_cells : Declared → Kind → List ℕ
-kind_cells declared kind = cells_of_kind kind [] declared.variables
+kind_cells declared (Attribute attribute values) = flat_map (of_kind attribute values) declared.variables
 
 -- ---- functions
 
 -- the name that calls the rules
 abbrev pub rules_name : List ℕ
 rules_name = codes "call_m"
-
-abbrev pub name_in : Function → List ℕ
-name_in f = f.name
 
 -- appends the name of a function, which must be new and not `call_m`
 abbrev pub resolved_name : List (List ℕ) → Function → Result (List (List ℕ)) CoreFault

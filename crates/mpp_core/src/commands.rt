@@ -6,7 +6,7 @@ ghost use Rattle.m_symbols.specs.Placed.{IsPlaced};
 ghost use Rattle.mpp_parser.specs.CommandView.{block_of as acts_of};
 ghost use Rattle.driver_core.specs.Actions.{assign, clear, branch, partition};
 ghost use Rattle.driver_core.specs.ActionView.{action_of, block_of};
-ghost use Rattle.mpp_core.specs.Names.{if_resolved, resolved_target, resolved_targets, kind_cells, resolved_function, rules_name};
+ghost use Rattle.mpp_core.specs.Names.{if_resolved, resolved_target, resolved_each, kind_cells, resolved_function, rules_name};
 ghost use Rattle.mpp_core.specs.Bodies.{resolved_term, resolved_act, resolved_acts, resolved_call};
 ghost use Rattle.mpp_core.specs.declared.fault.CoreFault.TheVariants.{Memory};
 

@@ -3,8 +3,9 @@
 ghost use Rattle.std.specs.Prelude.{◌≡◌, ◌≢◌, ◌<◌, ◌^◌, Ok, Err, [], IfOk, length, map};
 ghost use Rattle.m_places.specs.Refusals.{Says};
 ghost use Rattle.m_symbols.specs.Placed.{IsPlaced};
-ghost use Rattle.mpp_core.specs.Names.{resolved_name, resolved_names, resolved_main, name_in};
-ghost use Rattle.mpp_core.specs.Bodies.{resolved_bodies};
+ghost use Rattle.mpp_parser.specs.CommandView.{block_of as acts_of};
+ghost use Rattle.mpp_core.specs.Names.{resolved_name, resolved_names, resolved_main, resolved_each};
+ghost use Rattle.mpp_core.specs.Bodies.{resolved_acts};
 ghost use Rattle.mpp_core.specs.declared.fault.CoreFault.TheVariants.{Memory, FunctionTwice};
 
 use crate::CoreFault;
@@ -72,7 +73,7 @@ pub(crate) fn main_of(names: &Names) -> Result<u32, CoreFault>
 
 /// The names of functions in order, as a list.
 pub(crate) fn copied_names(alloc: Global, functions: &[Function]) -> Result<Seq<Name>, AllocError>
-    ensures { IfOk result (λ names. names ≡ map name_in functions.now) }
+    ensures { IfOk result (λ names. names ≡ map (λ f. f.name) functions.now) }
 {
     let mut names = Vec::with_capacity(alloc, functions.len())?;
     for function in functions {
@@ -92,7 +93,8 @@ pub(crate) fn bodies(
 ) -> Result<Seq<Seq<CCommand>>, CoreFault>
     requires placed { IsPlaced scope.now }
     requires few { length names.now < 2 ^ 32 }
-    ensures { Says Memory result (λ bodies. bodies) (resolved_bodies scope.now names.now [] functions.now) }
+    ensures { Says Memory result (λ bodies. bodies)
+        (resolved_each (λ f. resolved_acts scope.now names.now [] (acts_of f.body)) [] functions.now) }
 {
     let mut bodies = Vec::with_capacity(alloc, functions.len())?;
     for function in functions {

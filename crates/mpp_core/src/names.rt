@@ -1,13 +1,13 @@
 //! Resolves names to cells.
 
 ghost use Rattle.std.specs.Prelude.{◌≡◌, ◌≢◌, ◌+◌, ◌≤◌, ◌<◌, Ok, Err, Some, IfSome, []};
-ghost use Rattle.std.specs.Option.{option_copied};
+ghost use Rattle.std.specs.Option.{option_copied, ok_or};
 ghost use Rattle.m_places.specs.Refusals.{Says};
 ghost use Rattle.m_ast.specs.Items.{variable_size};
 ghost use Rattle.m_symbols.specs.Cells.{variable_named};
 ghost use Rattle.m_symbols.specs.Placed.{IsPlaced};
-ghost use Rattle.mpp_core.specs.Names.{resolved_cell, cell_at, resolved_target, constant_target, resolved_targets, each_once};
-ghost use Rattle.mpp_core.specs.declared.fault.CoreFault.TheVariants.{Memory, UnknownInDriver};
+ghost use Rattle.mpp_core.specs.Names.{resolved_cell, cell_at, resolved_target, resolved_each, each_once};
+ghost use Rattle.mpp_core.specs.declared.fault.CoreFault.TheVariants.{Memory, UnknownInDriver, BadTargetInDriver};
 
 use crate::CoreFault;
 use m_ast::Role;
@@ -60,7 +60,8 @@ fn cell_at(
 ) -> Result<u32, CoreFault>
     requires fits { variable.now.first_cell + variable.now.cells ≤ all }
     requires size { IfSome (variable_size variable.now.item) (λ size. variable.now.cells ≡ size) }
-    ensures { Says Memory result (λ cell. cell) (cell_at name.now.name line variable.now.first_cell name.now.index (variable_size variable.now.item)) }
+    ensures { Says Memory result (λ cell. cell)
+        (ok_or (cell_at variable.now.first_cell name.now.index (variable_size variable.now.item)) (UnknownInDriver name.now.name line)) }
 {
     match (size_of(variable), name.index) {
         (None, None) => Ok(variable.first_cell),
@@ -92,20 +93,18 @@ pub(crate) fn target_of(
     let Some(variable) = variable_named(symbols, &name.name) else {
         return Err(unknown(alloc, &name.name, line));
     };
+    let cell = cell_at(alloc, variable, line, name, symbols.cells())?;
     if let Role::Constant(_) = &variable.item.role {
-        return Err(constant_fault(alloc, line, name));
+        return Err(bad_target(alloc, &name.name, line));
     }
-    cell_at(alloc, variable, line, name, symbols.cells())
+    Ok(cell)
 }
 
 // The error of a target that is a constant.
-fn constant_fault(alloc: Global, line: u32, name: &CellName) -> CoreFault
-    ensures { result ≢ Memory → constant_target name.now.name line name.now.index ≡ Err result }
+fn bad_target(alloc: Global, name: &Name, line: u32) -> CoreFault
+    ensures { result ≢ Memory → result ≡ BadTargetInDriver name.now line }
 {
-    if let Some(_) = name.index {
-        return unknown(alloc, &name.name, line);
-    }
-    match name.name.copy(alloc) {
+    match name.copy(alloc) {
         Ok(name) => CoreFault::BadTargetInDriver(name, line),
         Err(_) => CoreFault::Memory,
     }
@@ -119,7 +118,7 @@ pub(crate) fn targets_of(
     names: &[CellName],
 ) -> Result<Vec<u32>, CoreFault>
     requires { IsPlaced symbols.now }
-    ensures { Says Memory result (λ cells. cells.items) (resolved_targets symbols.now line [] names.now) }
+    ensures { Says Memory result (λ cells. cells.items) (resolved_each (resolved_target symbols.now line) [] names.now) }
 {
     let mut cells = Vec::with_capacity(alloc, names.len())?;
     for name in names {
