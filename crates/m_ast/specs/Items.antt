@@ -28,24 +28,20 @@ errors_of = filter_map error_in
 -- the code of an input, as `1AJ`
 abbrev pub code_in : Role → Option (List ℕ)
 code_in (Input code) = Some code
-code_in (Computed size) = None
-code_in (Constant amount) = None
+code_in _ = None
 
 -- the declared size of a table
 abbrev pub size_in : Role → Option ℕ
-size_in (Input code) = None
 size_in (Computed size) = size
-size_in (Constant amount) = None
+size_in _ = None
 
 abbrev pub is_input : Role → Bool
 is_input (Input code) = true
-is_input (Computed size) = false
-is_input (Constant amount) = false
+is_input _ = false
 
 abbrev pub is_constant : Role → Bool
-is_constant (Input code) = false
-is_constant (Computed size) = false
 is_constant (Constant amount) = true
+is_constant _ = false
 
 -- the number of cells of a variable: the size of a table, and 1 for any other
 abbrev pub cells_in : Option ℕ → ℕ

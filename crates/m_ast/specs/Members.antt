@@ -3,15 +3,14 @@ use Rattle.std.specs.Prelude.{ℤ, ℕ, Bool, true, false, ◌||◌, List, Optio
 use Rattle.std.specs.Str.{bytes_eq}
 use Rattle.std.specs.Ordering.{int_eq}
 use Rattle.m_fixed.specs.declared.amount.Value.{Value}
-use Rattle.m_fixed.specs.declared.amount.Value.TheVariants.{Num, Undef, Over}
+use Rattle.m_fixed.specs.declared.amount.Value.TheVariants.{Num}
 use Rattle.m_fixed.specs.declared.operator.Op.{Op}
 use Rattle.m_fixed.specs.declared.operator.Op.TheVariants.{Neg}
 use Rattle.m_ast.specs.Syntax.{Syntax, lit, named, apply, Terms, no_terms, a_term}
 
 abbrev pub amount_in : Value → Option ℤ
 amount_in (Num z) = Some z
-amount_in Undef = None
-amount_in Over = None
+amount_in _ = None
 
 -- the amount of a literal
 abbrev pub amount_of : Syntax → Option ℤ
@@ -38,19 +37,14 @@ abbrev pub word_of : Syntax → Option (List ℕ)
 word_of (named w p) = Some w
 word_of _ = None
 
-abbrev pub is_same_amount : Option ℤ → Option ℤ → Bool
-is_same_amount (Some a) (Some b) = int_eq a b
-is_same_amount (Some a) None = false
-is_same_amount None b = false
-
-abbrev pub is_same_word : Option (List ℕ) → Option (List ℕ) → Bool
-is_same_word (Some a) (Some b) = bytes_eq a b
-is_same_word (Some a) None = false
-is_same_word None b = false
+-- whether there are two, and they are equal
+abbrev pub are_equal : {A : Type 0} → (A → A → Bool) → Option A → Option A → Bool
+are_equal equal (Some a) (Some b) = equal a b
+are_equal equal _ _ = false
 
 -- Whether a member is a single value: both ends are the same amount, the same negated amount, or
 -- the same word. `3..3.0` is single, and `-0..0` is a range.
 abbrev pub is_single : Syntax → Syntax → Bool
 is_single low high =
-    is_same_amount (amount_of low) (amount_of high)
-    || (is_same_amount (opposite_of low) (opposite_of high) || is_same_word (word_of low) (word_of high))
+    are_equal int_eq (amount_of low) (amount_of high)
+    || (are_equal int_eq (opposite_of low) (opposite_of high) || are_equal bytes_eq (word_of low) (word_of high))

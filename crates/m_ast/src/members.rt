@@ -1,5 +1,7 @@
 //! Single members of a membership.
 ghost use Rattle.std.specs.Prelude.{◌≡◌, option_copied};
+ghost use Rattle.std.specs.Str.{bytes_eq};
+ghost use Rattle.std.specs.Ordering.{int_eq};
 ghost use Rattle.m_ast.specs.View.{terms_of};
 ghost use Rattle.m_ast.specs.Members as spec;
 
@@ -17,7 +19,7 @@ pub fn is_single(low: &Term, high: &Term) -> bool
 }
 
 pub(crate) fn is_same_amount(a: Option<Amount>, b: Option<Amount>) -> bool
-    ensures { result ≡ spec.is_same_amount a b }
+    ensures { result ≡ spec.are_equal int_eq a b }
 {
     match (a, b) {
         (Some(a), Some(b)) => a.millionths() == b.millionths(),
@@ -26,7 +28,7 @@ pub(crate) fn is_same_amount(a: Option<Amount>, b: Option<Amount>) -> bool
 }
 
 fn is_same_word(a: Option<&[u8]>, b: Option<&[u8]>) -> bool
-    ensures { result ≡ spec.is_same_word (option_copied a.entry) (option_copied b.entry) }
+    ensures { result ≡ spec.are_equal bytes_eq (option_copied a.entry) (option_copied b.entry) }
 {
     match a {
         Some(a) => match b {

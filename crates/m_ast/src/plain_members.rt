@@ -27,7 +27,7 @@ fn is_same_name(
     a: Option<&PlainName>,
     b: Option<&PlainName>,
 ) -> Result<bool, AllocError>
-    ensures { IfOk result (λ same. same ≡ spec.is_same_word (option_copied a.entry) (option_copied b.entry)) }
+    ensures { IfOk result (λ same. same ≡ spec.are_equal bytes_eq (option_copied a.entry) (option_copied b.entry)) }
 {
     match a {
         Some(a) => match b {
