@@ -6,6 +6,7 @@ use Rattle.std.specs.List.{filter_map}
 use Rattle.std.proofs.lemmas.Bool.{le-ltb}
 use Rattle.std.proofs.lemmas.List.{map-append}
 use Rattle.std.proofs.lemmas.List.Elements.{filter_map-append}
+use Rattle.std.specs.Option.{option_or}
 use Rattle.m_places.specs.declared.place.Place.{Place}
 use Rattle.m_names.specs.Names.{has}
 use Rattle.m_names.proofs.NameLemmas.{or-false}
@@ -16,8 +17,9 @@ use Rattle.m_ast.specs.Items.{variable_in, error_in, variables_of, errors_of, va
 use Rattle.m_symbols.specs.declared.variable.Variable.{Variable}
 use Rattle.m_symbols.specs.declared.fault.DeclareFault.{DeclareFault}
 use Rattle.m_symbols.specs.Declarations.{Declared, declared_by, placed_from, names_of, codes_of, owners_from}
-use Rattle.m_symbols.specs.Faults.{first_of, paired_place, placed_name, placed_code, name_fault, code_fault, cells_fault, variable_fault, fault_at}
+use Rattle.m_symbols.specs.Faults.{paired_place, placed_name, placed_code, name_fault, code_fault, cells_fault, variable_fault, fault_at}
 use Rattle.m_symbols.specs.Faults.{fault_behind, first_fault}
+use Rattle.m_symbols.proofs.Faultless.{parts}
 use Rattle.large_validity.proofs.Names.{names, input_name, new_input, new_second, new_code}
 use Rattle.large_validity.proofs.Pieces.{after}
 use Rattle.large_validity.proofs.Lines.{first_line, declared_after, rules_after, numbered_line}
@@ -65,31 +67,27 @@ input_free vs es d p n c k =
     let beside : paired_place (67 ∷ d) (filter_map placed_code (placed_from 0 vs)) ≡ None = code-free (67 ∷ d) (placed_from 0 vs)
     (ap (has (67 ∷ d)) (codes-placed 0 vs) ∙ c) in
     let coded : code_fault (with_variables vs es) (the_input d p) ≡ None = rw beside refl in
-    ap (λ f. first_of f (first_of (code_fault (with_variables vs es) (the_input d p)) (first_of None (cells_fault (with_variables vs es) (the_input d p)))))
+    ap (λ f. option_or f (option_or (code_fault (with_variables vs es) (the_input d p)) (option_or None (cells_fault (with_variables vs es) (the_input d p)))))
     (name_free vs es (the_input d p) n)
-    ∙ ap (λ f. first_of f (first_of None (cells_fault (with_variables vs es) (the_input d p)))) coded
+    ∙ ap (λ f. option_or f (option_or None (cells_fault (with_variables vs es) (the_input d p)))) coded
     ∙ cells_free vs es (the_input d p) k
 
 sum_free : (vs : List VariableItem) (es : List ErrorItem) (d : List ℕ) (p : Place) → has (84 ∷ d) (map (λ (w : VariableItem). w.name) vs) ≡ false
     → cells_in_all vs + 1 ≤ 1000000
     → variable_fault (with_variables vs es) (the_sum d p) ≡ None
 sum_free vs es d p n k =
-    ap (λ f. first_of f (first_of None (first_of None (cells_fault (with_variables vs es) (the_sum d p))))) (name_free vs es (the_sum d p) n)
+    ap (λ f. option_or f (option_or None (option_or None (cells_fault (with_variables vs es) (the_sum d p))))) (name_free vs es (the_sum d p) n)
     ∙ cells_free vs es (the_sum d p) k
 
 -- ---- one item after another
 
-first_none : (f g : Option DeclareFault) → f ≡ None → g ≡ None → first_of f g ≡ None
-first_none f g a b = ap (λ x. first_of x g) a ∙ b
-
-none_first : (f g : Option DeclareFault) → first_of f g ≡ None → (f ≡ None) × (g ≡ None)
-none_first None g h = (refl, h)
-none_first (Some x) g h = cc
+first_none : (f g : Option DeclareFault) → f ≡ None → g ≡ None → option_or f g ≡ None
+first_none f g a b = ap (λ x. option_or x g) a ∙ b
 
 pub faults-append : (e a b : List Item) → fault_behind e a ≡ None → fault_behind (e ++ a) b ≡ None → fault_behind e (a ++ b) ≡ None
 faults-append e [] b h k = subst (λ x. fault_behind x b ≡ None) (append-nil e) k
 faults-append e (x ∷ a) b h k =
-    let l = none_first (fault_at (declared_by e) x) (fault_behind (e ++ x ∷ []) a) h in
+    let l = parts (fault_at (declared_by e) x) (fault_behind (e ++ x ∷ []) a) h in
     first_none _ _ l.0 (faults-append (e ++ x ∷ []) a b l.1 (subst (λ y. fault_behind y b ≡ None) (sym (append_assoc e (x ∷ []) a)) k))
 
 declared_free : (p : Place) (n : ℕ) → n ≤ 100000 → fault_behind [] (declared_items p n) ≡ None

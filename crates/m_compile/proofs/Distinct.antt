@@ -11,12 +11,11 @@ use Rattle.m_ast.specs.Items.{code_in}
 use Rattle.m_names.specs.Names.{AreDistinct, has}
 use Rattle.m_names.proofs.Distinct.{AreDistinct-push}
 use Rattle.m_symbols.specs.Declarations.{Declared, code_of, codes_of, declared_by, inputs_from, name_of, names_of}
-use Rattle.m_symbols.specs.Faults.{fault_at, fault_behind, first_fault, first_of, variable_fault}
-use Rattle.m_symbols.specs.declared.fault.DeclareFault.{DeclareFault}
+use Rattle.m_symbols.specs.Faults.{fault_at, fault_behind, first_fault, variable_fault}
 use Rattle.m_symbols.specs.declared.variable.Variable.{Variable as Declaration}
 use Rattle.m_symbols.specs.inner.Tables.{with_item, with_variable}
 use Rattle.m_symbols.proofs.Added.{codes-push, declared-push, map-push}
-use Rattle.m_symbols.proofs.Faultless.{new_code, new_name}
+use Rattle.m_symbols.proofs.Faultless.{new_code, new_name, parts}
 use Rattle.m_symbols.proofs.Numbered.{as_many_codes}
 use Rattle.micro_m.specs.declared.base.Base.{Base}
 use Rattle.observables.specs.declared.inputs.Coded.{Coded}
@@ -25,10 +24,6 @@ use Rattle.observables.specs.Inputs.{codes_of as codes_shown}
 use Rattle.rule_base.specs.Base.{IsBaseOf}
 use Rattle.m_places.specs.declared.source.Text.{Text}
 use Rattle.driver_core.specs.Inputs.{input_declared, inputs_declared, type_declared}
-
-parts : (a b : Option DeclareFault) → first_of a b ≡ None → (a ≡ None) × (b ≡ None)
-parts None b e = (refl, e)
-parts (Some f) b e = (cc, cc)
 
 -- one more code, which is new
 more : (code : Option (List ℕ)) (codes : List (List ℕ)) → AreDistinct codes → IfSome code (λ c. has c codes ≡ false)

@@ -3,10 +3,11 @@ use Rattle.std.proofs.Common.{◌≡◌, ℕ, ◌+◌, ◌<◌, suc, List, [], �
 use Rattle.std.specs.Prelude.{Option, Some, None}
 use Rattle.std.proofs.Math.Seq.{drop-cons}
 use Rattle.std.proofs.lemmas.List.{take_more}
+use Rattle.std.specs.Option.{option_or}
 use Rattle.m_ast.specs.declared.item.Item.{Item}
 use Rattle.m_symbols.specs.declared.fault.DeclareFault.{DeclareFault}
 use Rattle.m_symbols.specs.Declarations.{Declared, declared_by}
-use Rattle.m_symbols.specs.Faults.{first_of, fault_at, fault_behind}
+use Rattle.m_symbols.specs.Faults.{fault_at, fault_behind}
 use Rattle.m_symbols.specs.inner.Tables.{with_item}
 use Rattle.m_symbols.proofs.Added.{declared-push}
 
@@ -19,9 +20,9 @@ front items i item l at = take_more items i item l ∙ ap (λ x. take i items ++
 -- the remaining items, split at the next one
 opened : (items : List Item) (i : ℕ) (item : Item) (d : Declared) (all : Option DeclareFault) → i < length items → item ≡ get_or items i item
     → d ≡ declared_by (take i items) → fault_behind (take i items) (drop i items) ≡ all
-    → first_of (fault_at d item) (fault_behind (take (i + 1) items) (drop (i + 1) items)) ≡ all
+    → option_or (fault_at d item) (fault_behind (take (i + 1) items) (drop (i + 1) items)) ≡ all
 opened items i item d all l at e h =
-    (λ k. first_of (fault_at (e k) item) (fault_behind (front items i item l at k) (drop (i + 1) items)))
+    (λ k. option_or (fault_at (e k) item) (fault_behind (front items i item l at k) (drop (i + 1) items)))
     ∙ sym (ap (fault_behind (take i items)) (here items i item l at)) ∙ h
 
 pub turn : (items : List Item) (i : ℕ) (item : Item) (d next : Declared) (all : Option DeclareFault) → i < length items → item ≡ get_or items i item
@@ -30,11 +31,11 @@ pub turn : (items : List Item) (i : ℕ) (item : Item) (d next : Declared) (all 
     × (fault_behind (take (i + 1) items) (drop (i + 1) items) ≡ all)
 turn items i item d next all l at e h f n = (
   n ∙ ap (λ x. with_item x item) e ∙ sym (declared-push (take i items) item) ∙ ap declared_by (sym (front items i item l at)),
-  ap (λ x. first_of x (fault_behind (take (i + 1) items) (drop (i + 1) items))) (sym f) ∙ opened items i item d all l at e h,
+  ap (λ x. option_or x (fault_behind (take (i + 1) items) (drop (i + 1) items))) (sym f) ∙ opened items i item d all l at e h,
 )
 
 pub stop : (items : List Item) (i : ℕ) (item : Item) (d : Declared) (all : Option DeclareFault) (fault : DeclareFault) → i < length items
     → item ≡ get_or items i item → d ≡ declared_by (take i items) → fault_behind (take i items) (drop i items) ≡ all
     → fault_at d item ≡ Some fault → all ≡ Some fault
 stop items i item d all fault l at e h f =
-    sym (opened items i item d all l at e h) ∙ ap (λ x. first_of x (fault_behind (take (i + 1) items) (drop (i + 1) items))) f
+    sym (opened items i item d all l at e h) ∙ ap (λ x. option_or x (fault_behind (take (i + 1) items) (drop (i + 1) items))) f

@@ -1,7 +1,7 @@
 -- The error of a list of items: that of the earliest wrong declaration.
 use Rattle.std.specs.Prelude.{ℕ, ◌+◌, ◌==◌, ◌||◌, nat_lt, List, [], ◌∷◌, ◌++◌, length, map, Option, Some, None, if◌then◌else◌}
 use Rattle.std.specs.List.{filter_map}
-use Rattle.std.specs.Option.{option_map}
+use Rattle.std.specs.Option.{option_and_then, option_map, option_or}
 use Rattle.std.specs.Str.{bytes_eq}
 use Rattle.m_places.specs.declared.place.Place.{Place}
 use Rattle.m_places.specs.declared.limits.TheConstants.{TABLE_CELLS, CELLS}
@@ -14,11 +14,6 @@ use Rattle.m_symbols.specs.declared.variable.Variable.{Variable as Declaration}
 use Rattle.m_symbols.specs.declared.fault.DeclareFault.{DeclareFault}
 use Rattle.m_symbols.specs.declared.fault.DeclareFault.TheVariants.{DeclaredTwice, AliasTwice, TableSize, TooManyCells}
 use Rattle.m_symbols.specs.Declarations.{Declared, declared_by, owners_from}
-
--- the first of two faults, where there is one
-abbrev pub first_of : Option DeclareFault → Option DeclareFault → Option DeclareFault
-first_of (Some fault) other = Some fault
-first_of None other = other
 
 -- the place of a name, in a list of names and places
 abbrev pub paired_place : List ℕ → List (List ℕ × Place) → Option Place
@@ -39,21 +34,15 @@ placed_error e = (e.name, e.place)
 abbrev pub name_fault : Declared → VariableItem → Option DeclareFault
 name_fault earlier v = option_map (λ place. DeclaredTwice v.name place v.place) (paired_place v.name (map placed_name earlier.variables))
 
-abbrev pub taken_code : List Declaration → Place → Option (List ℕ) → Option DeclareFault
-taken_code earlier here None = None
-taken_code earlier here (Some code) = option_map (λ place. AliasTwice code place here) (paired_place code (filter_map placed_code earlier))
-
 -- a code that an earlier input has
 abbrev pub code_fault : Declared → VariableItem → Option DeclareFault
-code_fault earlier v = taken_code earlier.variables v.place (variable_code v)
-
-abbrev pub wrong_size : Place → Option ℕ → Option DeclareFault
-wrong_size here None = None
-wrong_size here (Some size) = if (size == 0) || nat_lt TABLE_CELLS size then Some (TableSize here) else None
+code_fault earlier v = option_and_then
+    (λ code. option_map (λ place. AliasTwice code place v.place) (paired_place code (filter_map placed_code earlier.variables))) (variable_code v)
 
 -- a table without cells, or with too many
 abbrev pub size_fault : VariableItem → Option DeclareFault
-size_fault v = wrong_size v.place (variable_size v)
+size_fault v =
+    option_and_then (λ size. if (size == 0) || nat_lt TABLE_CELLS size then Some (TableSize v.place) else None) (variable_size v)
 
 -- with this variable, more cells than a base may have
 abbrev pub cells_fault : Declared → VariableItem → Option DeclareFault
@@ -61,7 +50,7 @@ cells_fault earlier v = if nat_lt CELLS (length (owners_from 0 earlier.variables
 
 -- the fault of a variable, given the earlier declarations
 abbrev pub variable_fault : Declared → VariableItem → Option DeclareFault
-variable_fault earlier v = first_of (name_fault earlier v) (first_of (code_fault earlier v) (first_of (size_fault v) (cells_fault earlier v)))
+variable_fault earlier v = option_or (name_fault earlier v) (option_or (code_fault earlier v) (option_or (size_fault v) (cells_fault earlier v)))
 
 -- the fault of an error item, given the earlier declarations: variables and errors have separate
 -- names
@@ -77,7 +66,7 @@ fault_at earlier _ = None
 -- the fault of the first item that has one, given the items before them
 abbrev pub fault_behind : List Item → List Item → Option DeclareFault
 fault_behind earlier [] = None
-fault_behind earlier (item ∷ later) = first_of (fault_at (declared_by earlier) item) (fault_behind (earlier ++ item ∷ []) later)
+fault_behind earlier (item ∷ later) = option_or (fault_at (declared_by earlier) item) (fault_behind (earlier ++ item ∷ []) later)
 
 -- The fault of items. For `A : .. ; B : .. ; A : .. ;` it is `DeclaredTwice A` with the places of
 -- the first and the third item.

@@ -17,8 +17,8 @@ use Rattle.m_ast.specs.declared.item.CheckItem.{CheckItem}
 use Rattle.m_ast.specs.Items.{variables_of, variable_cells}
 use Rattle.m_symbols.specs.Declarations.{Declared, declared_by, placed_from, owners_from}
 use Rattle.m_symbols.specs.declared.fault.DeclareFault.{DeclareFault}
-use Rattle.m_symbols.specs.Faults.{first_of, fault_at, fault_behind, first_fault}
-use Rattle.m_symbols.proofs.Faultless.{few_cells}
+use Rattle.m_symbols.specs.Faults.{fault_at, fault_behind, first_fault}
+use Rattle.m_symbols.proofs.Faultless.{few_cells, parts as apart}
 use Rattle.m_ast.specs.declared.plain_rules.Condition.{Condition}
 use Rattle.index_expand.specs.declared.fault.ExpandFault.{ExpandFault}
 use Rattle.index_expand.specs.declared.fault.ExpandFault.TheVariants.{TooManyParts}
@@ -71,10 +71,6 @@ cells-more (Verif v ∷ items) others = cells-more items others
 cells-more (Error e ∷ items) others = cells-more items others
 cells-more (Silent p ∷ items) others = cells-more items others
 
-both : (a b : Option DeclareFault) → first_of a b ≡ None → (a ≡ None) × (b ≡ None)
-both None b e = (refl, e)
-both (Some f) b e = (cc, cc)
-
 item-within : (earlier : List Item) (item : Item) → fault_at (declared_by earlier) item ≡ None → cells_in_items earlier ≤ CELLS
     → cells_in_items earlier + cells_in_items (item ∷ []) ≤ CELLS
 item-within earlier (Variable v) e h = omega (arith, few_cells (declared_by earlier) v e, owned 0 0 earlier)
@@ -87,7 +83,7 @@ cells-within : (earlier items : List Item) → fault_behind earlier items ≡ No
     → cells_in_items earlier + cells_in_items items ≤ CELLS
 cells-within earlier [] e h = omega (arith, h)
 cells-within earlier (item ∷ later) e h =
-    let parts = both (fault_at (declared_by earlier) item) (fault_behind (earlier ++ item ∷ []) later) e in
+    let parts = apart (fault_at (declared_by earlier) item) (fault_behind (earlier ++ item ∷ []) later) e in
     let one = item-within earlier item parts.0 h in
     omega (
       arith,

@@ -1,20 +1,16 @@
 -- Words of declarations, and sizes of tables.
-use Rattle.std.proofs.Common.{◌≡◌, ◌≤◌, ℕ, ◌+◌, Bool, true, false, cond, List, [], ◌∷◌, ◌++◌, Option, Some, None, refl}
-use Rattle.std.specs.Prelude.{IfSome, nat_lt, ◌==◌}
+use Rattle.std.proofs.Common.{◌≡◌, ◌≢◌, ◌≤◌, ℕ, ◌+◌, Bool, true, false, cond, List, [], ◌∷◌, ◌++◌, Option, Some, None, refl}
+use Rattle.std.specs.Prelude.{IfSome}
 use Rattle.std.specs.List.{AllByRecursion, filter_map, cons_option}
-use Rattle.std.proofs.lemmas.Bool.{ltb-false}
-use Rattle.m_places.specs.declared.place.Place.{Place}
 use Rattle.m_places.specs.declared.limits.TheConstants.{TABLE_CELLS}
-use Rattle.m_names.proofs.NameLemmas.{or-false}
 use Rattle.m_ast.specs.declared.item.Item.{Item}
 use Rattle.m_ast.specs.declared.item.Item.TheVariants.{Variable, Rule, Verif, Error, Silent}
 use Rattle.m_ast.specs.declared.variable.VariableItem.{VariableItem}
 use Rattle.m_ast.specs.Items.{variable_in, error_in, variables_of, variable_size, variable_cells}
-use Rattle.m_symbols.specs.declared.fault.DeclareFault.{DeclareFault}
-use Rattle.m_symbols.specs.declared.fault.DeclareFault.TheVariants.{TableSize}
 use Rattle.m_symbols.specs.declared.variable.Variable.{Variable as Declaration}
 use Rattle.m_symbols.specs.Declarations.{Declared, declared_by, placed_from}
-use Rattle.m_symbols.specs.Faults.{first_of, fault_at, fault_behind, first_fault, name_fault, code_fault, size_fault, cells_fault, wrong_size}
+use Rattle.m_symbols.specs.Faults.{fault_at, fault_behind, first_fault}
+use Rattle.m_symbols.proofs.Faultless.{parts, table_cells}
 use Rattle.m_compile.proofs.words.Items.{IsWorded, IsWordedVariable, IsWordedError}
 
 -- ---- lists
@@ -45,23 +41,12 @@ IsSmall (Verif v) = Unit {0}
 IsSmall (Error e) = Unit {0}
 IsSmall (Silent p) = Unit {0}
 
-parts : (a b : Option DeclareFault) → first_of a b ≡ None → (a ≡ None) × (b ≡ None)
-parts None b e = (refl, e)
-parts (Some f) b e = (cc, cc)
-
-unless : (b : Bool) (f : DeclareFault) → cond b (Some f) None ≡ None → b ≡ false
-unless true f e = cc
-unless false f e = refl
-
-small : (here : Place) (size : Option ℕ) → wrong_size here size ≡ None → IfSome size (λ s. s ≤ TABLE_CELLS)
-small here None e = tt
-small here (Some size) e =
-    let p = or-false (size == 0) (nat_lt TABLE_CELLS size) (unless _ (TableSize here) e) in
-    ltb-false TABLE_CELLS size p.1
+small : (size : Option ℕ) → IfSome size (λ n. (n ≢ 0) × (n ≤ TABLE_CELLS)) → IfSome size (λ n. n ≤ TABLE_CELLS)
+small None h = tt
+small (Some n) h = h.1
 
 item_small : (d : Declared) (i : Item) → fault_at d i ≡ None → IsSmall i
-item_small d (Variable v) e = small v.place (variable_size v)
-    (parts (size_fault v) (cells_fault d v) (parts (code_fault d v) _ (parts (name_fault d v) _ e).1).1).0
+item_small d (Variable v) e = small (variable_size v) (table_cells d v e)
 item_small d (Rule r) e = tt
 item_small d (Verif v) e = tt
 item_small d (Error x) e = tt
