@@ -15,6 +15,8 @@ use Rattle.m_ast.specs.Items.{variable_cells, variable_size, cells_in}
 use Rattle.m_symbols.specs.declared.variable.Variable.{Variable}
 use Rattle.m_symbols.specs.Declarations.{Declared, placed_from, owners_from}
 use Rattle.m_symbols.specs.Placed.{IsPlaced, items_of}
+use Rattle.m_symbols.specs.Spans.{span_of}
+use Rattle.m_symbols.specs.declared.spans.Span.{Span}
 use Rattle.m_symbols.specs.Cells.{cell_within, parsed_index, cell_by, returned_by}
 
 -- the cells of a variable are within all cells
@@ -81,6 +83,23 @@ known_by declared i v index cell p e c =
     let k = placed_ends declared i v p e in
     subst (λ o. IfSome o (λ n. n < length (owners_from 0 declared.variables))) (sym c)
     (by_index index (variable_size v.item) v.first_cell v.cells (length (owners_from 0 declared.variables)) k.cells (omega (arith, k.ends)))
+
+within : (size : Option ℕ) (first cells all : ℕ) → IfSome size (λ n. cells ≡ n) → first + cells ≤ all → IfSome size (λ n. first + n ≤ all)
+within None first cells all e h = tt
+within (Some n) first cells all e h = omega (arith, e, h)
+
+-- a table's cells are among all cells
+pub span_fits : (declared : Declared) (i count : ℕ) (v : Variable) (s : Span) → IsPlaced declared → slice_get declared.variables i ≡ Some v → s ≡ span_of v
+    → count ≡ length (owners_from 0 declared.variables) → IfSome s.size (λ n. s.first_cell + n ≤ count)
+span_fits declared i count v s p e h c =
+    subst (λ (t : Span). IfSome t.size (λ n. t.first_cell + n ≤ count)) (sym h)
+    (within (variable_size v.item) v.first_cell v.cells count (table_sized declared i v p e) (fits declared i count v p e c))
+
+-- the cell that a request finds is one of all
+pub span_known : (declared : Declared) (i : ℕ) (v : Variable) (s : Span) (index : Option (List ℕ)) (cell : Option ℕ) → IsPlaced declared
+    → slice_get declared.variables i ≡ Some v → s ≡ span_of v → cell ≡ cell_by index s.size s.first_cell
+    → IfSome cell (λ c. c < length (owners_from 0 declared.variables))
+span_known declared i v s index cell p e h c = known_by declared i v index cell p e (c ∙ ap (λ (t : Span). cell_by index t.size t.first_cell) h)
 
 -- ---- returned cells
 

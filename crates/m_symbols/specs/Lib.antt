@@ -5,4 +5,5 @@ pub mod TableSizes
 pub mod Placed
 pub mod Cells
 pub mod Requests
+pub mod Spans
 pub mod inner

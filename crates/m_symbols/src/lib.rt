@@ -12,6 +12,7 @@ mod lookup;
 mod names;
 mod request_fault;
 mod requests;
+mod spans;
 mod symbols;
 mod variable;
 
@@ -21,5 +22,6 @@ pub use fault::DeclareFault;
 pub use names::{cell_name, cell_names};
 pub use request_fault::RequestFault;
 pub use requests::read_requests;
+pub use spans::{Span, cell_at_index, cell_without_index, span_of};
 pub use symbols::Symbols;
 pub use variable::Variable;

@@ -1,7 +1,7 @@
 use Rattle.std.proofs.Common.{◌-◌, length, arith, sym, ◌∙◌}
 use Rattle.std.proofs.lemmas.Bool.{eqb-false}
 use Rattle.m_symbols.proofs.Closing.{closing_there, other_there}
-use Rattle.m_symbols.proofs.cells.before_closing.Goals as goal
+use Rattle.m_symbols.proofs.spans.before_closing.Goals as goal
 
 pub returns-then-text-last-eq93 : goal.returns-then-text-last-eq93
 returns-then-text-last-eq93 c =
