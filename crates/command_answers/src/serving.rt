@@ -36,22 +36,29 @@ use why_session::Explainer;
 
 /// Compiles a source, without register code, and keeps its rules, reads the household of these bytes, and then executes the lines of the input
 /// to its end. If the source or the household is rejected, or memory runs out, nothing is read from the input. No
-/// memory is taken after the first read.
+/// memory is taken after the first read. The source's bytes are given back once it is compiled: a session needs none.
 pub fn serve_source<R: Threads + Sync, S: Input, K: Sink>(
     rt: &R,
     alloc: Global,
-    source: &Source,
+    source: Source,
     household: &[u8],
     input: &mut S,
     out: &mut K,
 ) -> Status
-    requires { SourceKeepsLimits source.now }
-    ensures { IsServed source.now household.now (input_view S.left S.faults input.old) (input_view S.left S.faults input.new)
+    requires { SourceKeepsLimits source }
+    ensures { IsServed source household.now (input_view S.left S.faults input.old) (input_view S.left S.faults input.new)
         (output_view K.written K.faults out.old) (output_view K.written K.faults out.new) result }
 {
-    match compile_with_rules(rt, alloc, source) {
-        Ok((made, program)) => answer_serve(alloc, program, made, household, input, out),
-        Err(fault) => report_source(source, fault, out),
+    match compile_with_rules(rt, alloc, &source) {
+        Ok((made, program)) => {
+            drop(source);
+            answer_serve(alloc, program, made, household, input, out)
+        }
+        Err(fault) => {
+            let status = report_source(&source, fault, out);
+            drop(source);
+            status
+        }
     }
 }
 

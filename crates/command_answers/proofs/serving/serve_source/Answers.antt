@@ -6,17 +6,17 @@ use Rattle.command_answers.proofs.serving.serve_source.Goals as goal
 
 pub answer_serve-requires-clause-many : goal.answer_serve-requires-clause-many
 answer_serve-requires-clause-many g c =
-    as_many_inputs c.args.source.now c.in-Ok.program c.in-Ok.made.symbols c.in-Ok.made.ordered.base
-    (is_prepared c.args.source.now c.in-Ok.program c.in-Ok.ensures.outcome) c.in-Ok.ensures.rules
+    as_many_inputs c.args.source c.in-Ok.program c.in-Ok.made.symbols c.in-Ok.made.ordered.base
+    (is_prepared c.args.source c.in-Ok.program c.in-Ok.ensures.outcome) c.in-Ok.ensures.rules
 
 pub returns-in-Ok : goal.returns-in-Ok
 returns-in-Ok g c =
-    let is = is_prepared c.args.source.now c.in-Ok.program c.in-Ok.ensures.outcome in
-    serve_answered c.args.source.now c.in-Ok.program c.args.household.now _ _ _ _ _ (explains_by c.in-Ok.made.symbols c.in-Ok.made.ordered) is
-    (is_explained c.args.source.now c.in-Ok.made.symbols c.in-Ok.made.ordered c.in-Ok.ensures.rules c.in-Ok.ensures.valid c.in-Ok.ensures.order)
+    let is = is_prepared c.args.source c.in-Ok.program c.in-Ok.ensures.outcome in
+    serve_answered c.args.source c.in-Ok.program c.args.household.now _ _ _ _ _ (explains_by c.in-Ok.made.symbols c.in-Ok.made.ordered) is
+    (is_explained c.args.source c.in-Ok.made.symbols c.in-Ok.made.ordered c.in-Ok.ensures.rules c.in-Ok.ensures.valid c.in-Ok.ensures.order)
     (c.answer_serve.ensures is.scheme is.shows)
 
 pub returns-in-Err : goal.returns-in-Err
 returns-in-Err g c =
-    serve_refused c.args.source.now c.args.household.now c.in-Err.fault _ _ _ _
-    (fault_reported c.args.source.now c.in-Err.fault _ _ _ c.in-Err.ensures.outcome c.report_source.ensures)
+    serve_refused c.args.source c.args.household.now c.in-Err.fault _ _ _ _
+    (fault_reported c.args.source c.in-Err.fault _ _ _ c.in-Err.ensures.outcome c.report_source-status.ensures)
