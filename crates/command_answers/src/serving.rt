@@ -6,7 +6,8 @@ ghost use Rattle.flat_code.specs.Runs.{flat_run};
 ghost use Rattle.observables.specs.Inputs.{AreValuesOf};
 ghost use Rattle.household.specs.Household.{household_of};
 ghost use Rattle.household.specs.declared.fault.HouseholdFault.TheVariants.{Memory};
-ghost use Rattle.m_symbols.specs.Declarations.{inputs_from, owners_from};
+ghost use Rattle.m_names.specs.Names.{AreDistinct};
+ghost use Rattle.m_symbols.specs.Declarations.{inputs_from, names_of, owners_from};
 ghost use Rattle.m_symbols.specs.Placed.{IsPlaced};
 ghost use Rattle.micro_m.specs.Bases.{IsValidBase};
 ghost use Rattle.rule_order.specs.Orders.{IsOrder};
@@ -76,6 +77,7 @@ fn answer_serve<S: Input, K: Sink>(
     requires valid { IsValidBase made.ordered.base }
     requires order { IsOrder made.ordered.base made.ordered.sequence }
     requires placed { IsPlaced made.symbols }
+    requires distinct { AreDistinct (names_of made.symbols.variables) }
     requires cells { made.ordered.base.cells ≡ length (owners_from 0 made.symbols.variables) }
     requires many { length program.face.inputs ≡ length (inputs_from 0 made.symbols.variables) }
     ensures { (scheme : Scheme) → Shows scheme program.face (flat_run program.tidy)
@@ -112,6 +114,7 @@ fn explainer_of(
     requires valid { IsValidBase made.ordered.base }
     requires order { IsOrder made.ordered.base made.ordered.sequence }
     requires placed { IsPlaced made.symbols }
+    requires distinct { AreDistinct (names_of made.symbols.variables) }
     requires cells { made.ordered.base.cells ≡ length (owners_from 0 made.symbols.variables) }
     requires many { length program.face.inputs ≡ length (inputs_from 0 made.symbols.variables) }
     ensures { Outcome Memory result (IsExplainerOf program made.symbols made.ordered household.now)
