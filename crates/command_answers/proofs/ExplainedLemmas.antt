@@ -1,11 +1,12 @@
 -- The explanations of a session are those of its source.
-use Rattle.std.proofs.Common.{◌≡◌, ℕ, List, [], ◌∷◌, ◌++◌, length, replicate, refl, ap, ◌∙◌}
+use Rattle.std.proofs.Common.{◌≡◌, ℕ, List, [], ◌∷◌, ◌++◌, length, replicate, refl, sym, ap, ◌∙◌, subst}
 use Rattle.m_fixed.specs.declared.amount.Value.{Value}
 use Rattle.m_places.specs.declared.source.Source.{Source}
+use Rattle.m_names.specs.Names.{AreDistinct}
 use Rattle.m_ast.specs.declared.variable.Role.{Role}
 use Rattle.m_ast.specs.declared.variable.Role.TheVariants.{Input, Computed, Constant}
 use Rattle.m_symbols.specs.declared.variable.Variable.{Variable}
-use Rattle.m_symbols.specs.Declarations.{Declared, inputs_from}
+use Rattle.m_symbols.specs.Declarations.{Declared, inputs_from, names_of}
 use Rattle.micro_m.specs.Bases.{IsValidBase}
 use Rattle.micro_m.specs.Values.{environment}
 use Rattle.micro_m.specs.declared.base.Base.{Base}
@@ -18,7 +19,7 @@ use Rattle.why_report.proofs.ReasonLemmas.{why-reason}
 use Rattle.why_session.specs.Explains.{explanation}
 use Rattle.why_session.specs.Joined.{explains_by}
 use Rattle.m_compile.specs.Sources.{HasRules}
-use Rattle.m_compile.proofs.Distinct.{many_inputs}
+use Rattle.m_compile.proofs.Distinct.{distinct_names, many_inputs}
 use Rattle.m_compile.proofs.OneLaws.{one_rules}
 use Rattle.command_answers.specs.Explained.{IsExplained}
 use Rattle.command_answers.specs.inner.Answers.{IsPrepared}
@@ -58,3 +59,8 @@ as_many_inputs source program declared base is rules =
     let same = (one_rules source is.valid.declared declared is.valid.base base is.valid.valid.rules rules).0 in
     ap length is.shows.inputs ∙ ap (λ (s : Scheme). length s.inputs) is.valid.stated ∙ many_inputs is.valid.declared
     ∙ ap (λ (d : Declared). length (inputs_from 0 d.variables)) same
+
+-- the variables of a source have distinct names
+pub distinct_variables : (source : Source) (declared : Declared) (base : Base) → HasRules source declared base → AreDistinct (names_of declared.variables)
+distinct_variables source declared base rules =
+    subst (λ (d : Declared). AreDistinct (names_of d.variables)) (sym rules.made.symbols) (distinct_names rules.made.items rules.made.declares.faultless)

@@ -6,7 +6,8 @@ ghost use Rattle.flat_code.specs.Runs.{flat_run};
 ghost use Rattle.observables.specs.Inputs.{AreValuesOf};
 ghost use Rattle.household.specs.Household.{household_of};
 ghost use Rattle.household.specs.declared.fault.HouseholdFault.TheVariants.{Memory};
-ghost use Rattle.m_symbols.specs.Declarations.{inputs_from, owners_from};
+ghost use Rattle.m_names.specs.Names.{AreDistinct};
+ghost use Rattle.m_symbols.specs.Declarations.{inputs_from, names_of, owners_from};
 ghost use Rattle.m_symbols.specs.Placed.{IsPlaced};
 ghost use Rattle.micro_m.specs.Bases.{IsValidBase};
 ghost use Rattle.rule_order.specs.Orders.{IsOrder};
@@ -36,22 +37,29 @@ use why_session::Explainer;
 
 /// Compiles a source, without register code, and keeps its rules, reads the household of these bytes, and then executes the lines of the input
 /// to its end. If the source or the household is rejected, or memory runs out, nothing is read from the input. No
-/// memory is taken after the first read.
+/// memory is taken after the first read. The source's bytes are given back once it is compiled: a session needs none.
 pub fn serve_source<R: Threads + Sync, S: Input, K: Sink>(
     rt: &R,
     alloc: Global,
-    source: &Source,
+    source: Source,
     household: &[u8],
     input: &mut S,
     out: &mut K,
 ) -> Status
-    requires { SourceKeepsLimits source.now }
-    ensures { IsServed source.now household.now (input_view S.left S.faults input.old) (input_view S.left S.faults input.new)
+    requires { SourceKeepsLimits source }
+    ensures { IsServed source household.now (input_view S.left S.faults input.old) (input_view S.left S.faults input.new)
         (output_view K.written K.faults out.old) (output_view K.written K.faults out.new) result }
 {
-    match compile_with_rules(rt, alloc, source) {
-        Ok((made, program)) => answer_serve(alloc, program, made, household, input, out),
-        Err(fault) => report_source(source, fault, out),
+    match compile_with_rules(rt, alloc, &source) {
+        Ok((made, program)) => {
+            drop(source);
+            answer_serve(alloc, program, made, household, input, out)
+        }
+        Err(fault) => {
+            let status = report_source(&source, fault, out);
+            drop(source);
+            status
+        }
     }
 }
 
@@ -69,6 +77,7 @@ fn answer_serve<S: Input, K: Sink>(
     requires valid { IsValidBase made.ordered.base }
     requires order { IsOrder made.ordered.base made.ordered.sequence }
     requires placed { IsPlaced made.symbols }
+    requires distinct { AreDistinct (names_of made.symbols.variables) }
     requires cells { made.ordered.base.cells ≡ length (owners_from 0 made.symbols.variables) }
     requires many { length program.face.inputs ≡ length (inputs_from 0 made.symbols.variables) }
     ensures { (scheme : Scheme) → Shows scheme program.face (flat_run program.tidy)
@@ -105,6 +114,7 @@ fn explainer_of(
     requires valid { IsValidBase made.ordered.base }
     requires order { IsOrder made.ordered.base made.ordered.sequence }
     requires placed { IsPlaced made.symbols }
+    requires distinct { AreDistinct (names_of made.symbols.variables) }
     requires cells { made.ordered.base.cells ≡ length (owners_from 0 made.symbols.variables) }
     requires many { length program.face.inputs ≡ length (inputs_from 0 made.symbols.variables) }
     ensures { Outcome Memory result (IsExplainerOf program made.symbols made.ordered household.now)

@@ -61,11 +61,7 @@ fn act<R: Threads + Sync, F: Files, S: Source, K: Sink>(
         (output_view K.written K.faults out.old) (output_view K.written K.faults out.new) result }
 {
     match gather(alloc, files, command) {
-        Ok(work) => {
-            let status = answer(rt, alloc, &work, input, out);
-            drop(work);
-            status
-        }
+        Ok(work) => answer(rt, alloc, work, input, out),
         Err(ending) => {
             let status = report_ending(out, &ending);
             drop(ending);

@@ -1,3 +1,4 @@
+pub mod NameLemmas
 pub mod PrintLemmas
 pub mod ListLemmas
 pub mod MeaningLemmas

@@ -7,6 +7,7 @@
 //! derivation reaches no cycle, so its law requires nothing of the base.
 #![tactic(auto)]
 
+mod cell_names;
 mod check;
 mod evaluate;
 mod fault;
@@ -23,11 +24,13 @@ mod plan;
 mod print;
 mod read;
 mod reporter;
+mod request;
 mod room;
 mod standing;
 mod starts;
 mod terms;
 
+pub use cell_names::CellNames;
 pub use check::first_unsound;
 pub use fault::ReportFault;
 pub use laws::{sound_lines_hold_values, why_lines_are_a_reason};

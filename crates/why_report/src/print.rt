@@ -1,60 +1,54 @@
 //! Prints reports.
 
-ghost use Rattle.std.specs.Prelude.{◌∷◌, [], ◌<◌, All, Some, codes, length};
+ghost use Rattle.std.specs.Prelude.{◌∷◌, ◌-◌, [], ◌<◌, All, Some, codes, length};
 ghost use Rattle.m_ports.specs.Giving.{Gives};
 ghost use Rattle.m_text.specs.Pieces.{joined, new_line};
 ghost use Rattle.m_fixed.specs.Text.{printed};
 ghost use Rattle.m_symbols.specs.Declarations.{owners_from};
-ghost use Rattle.m_symbols.specs.Cells.{cell_name, cell_text, printed_cell};
+ghost use Rattle.m_symbols.specs.Cells.{cell_name, cell_text};
 ghost use Rattle.tax_print.specs.Lines.{value_line};
 ghost use Rattle.why_report.specs.Reports.{report_text};
 
-use crate::ReportLine;
+use crate::cell_names::Span;
+use crate::{CellNames, ReportLine};
 use itoa::Buffer;
-use m_ast::Role;
 use m_fixed::{Amount, Value, write_amount};
 use m_ports::{Failed, Sink, give_pieces};
-use m_symbols::{Symbols, Variable};
 
 /// Writes the lines of a derivation, each with the cell's printed name, its value and a line feed:
 /// `IRN = 2500.5`, `IRN undefined` or `IRN over`. Each cell is declared. On a failure a prefix of
 /// the text was appended. Takes no memory.
 pub fn print_report<K: Sink>(
-    symbols: &Symbols,
+    names: &CellNames,
     lines: &[ReportLine],
     out: &mut K,
 ) -> Result<(), Failed>
-    requires { All (λ line. line.cell < length (owners_from 0 symbols.now.variables)) lines.now }
-    ensures { Gives K.written K.faults out.old out.new result (report_text symbols.now lines.now) }
+    requires { All (λ line. line.cell < length (owners_from 0 names.now.variables)) lines.now }
+    ensures { Gives K.written K.faults out.old out.new result (report_text names.now lines.now) }
 {
     for line in lines {
-        print_line(symbols, *line, out)?;
+        print_line(names, *line, out)?;
     }
     Ok(())
 }
 
 // The line of a cell and its value.
-fn print_line<K: Sink>(symbols: &Symbols, line: ReportLine, out: &mut K) -> Result<(), Failed>
-    requires { line.cell < length (owners_from 0 symbols.now.variables) }
-    ensures { Gives K.written K.faults out.old out.new result (value_line (cell_name symbols.now line.cell) line.value) }
+fn print_line<K: Sink>(names: &CellNames, line: ReportLine, out: &mut K) -> Result<(), Failed>
+    requires { line.cell < length (owners_from 0 names.now.variables) }
+    ensures { Gives K.written K.faults out.old out.new result (value_line (cell_name names.now line.cell) line.value) }
 {
-    print_cell(symbols.variable(symbols.owner(line.cell)), line.cell, out)?;
+    let number = names.owner(line.cell);
+    print_cell(names.name(number), names.span(number), line.cell, out)?;
     print_value(line.value, out)
 }
 
-// The printed name of a cell of this variable.
-fn print_cell<K: Sink>(variable: &Variable, cell: u32, out: &mut K) -> Result<(), Failed>
-    ensures { Gives K.written K.faults out.old out.new result (printed_cell cell variable.now) }
+// The printed name of a cell of the variable with this name and these cells.
+fn print_cell<K: Sink>(name: &[u8], span: Span, cell: u32, out: &mut K) -> Result<(), Failed>
+    ensures { Gives K.written K.faults out.old out.new result (cell_text span.size name.now (cell - span.first_cell)) }
 {
-    match &variable.item.role {
-        Role::Computed(Some(_)) => print_index(
-            variable.item.name.bytes(),
-            cell.saturating_sub(variable.first_cell),
-            out,
-        ),
-        Role::Computed(None) => give_pieces(out, &[variable.item.name.bytes()]),
-        Role::Input(_) => give_pieces(out, &[variable.item.name.bytes()]),
-        Role::Constant(_) => give_pieces(out, &[variable.item.name.bytes()]),
+    match span.size {
+        Some(_) => print_index(name, cell.saturating_sub(span.first_cell), out),
+        None => give_pieces(out, &[name]),
     }
 }
 

@@ -2,7 +2,8 @@
 ghost use Rattle.std.specs.Prelude.{◌≡◌, ◌+◌, ◌∷◌, ◌<◌, List, ℕ, All, None, IfOk, length};
 ghost use Rattle.m_ports.specs.Giving.{Gives};
 ghost use Rattle.observables.specs.Inputs.{AreValuesOf};
-ghost use Rattle.m_symbols.specs.Declarations.{Declared, inputs_from, owners_from};
+ghost use Rattle.m_names.specs.Names.{AreDistinct};
+ghost use Rattle.m_symbols.specs.Declarations.{Declared, inputs_from, names_of, owners_from};
 ghost use Rattle.m_symbols.specs.Placed.{IsPlaced};
 ghost use Rattle.micro_m.specs.Bases.{IsValidBase};
 ghost use Rattle.rule_order.specs.Orders.{IsOrder};
@@ -16,20 +17,21 @@ ghost use Rattle.why_session.specs.Joined.{explains_in, joined_replies};
 use crate::why_line::why_name;
 use household_session::{Replier, Session};
 use m_ports::{Failed, Sink, give_pieces};
-use m_symbols::{Symbols, find_request};
+use m_symbols::Symbols;
 use rule_order::Ordered;
 use std::alloc::{AllocError, Global};
 use std::marker::Model;
 use std::sync::ledger::Ledger;
 use value_sheet::Steps;
-use why_report::{ReportLine, Reporter, print_report};
+use why_report::{CellNames, ReportLine, Reporter, print_report};
 
-/// A session, and a reporter that holds the current values of its inputs. Contracts see both, and the declarations.
+/// A session, and a reporter that holds the current values of its inputs. Contracts see both, and the declarations,
+/// of which only the names of cells are kept.
 #[derive(Drop)]
 pub struct Explainer {
     session: Session,
     reporter: Reporter,
-    symbols: Symbols,
+    names: CellNames,
 }
 
 impl Model for Explainer {
@@ -42,9 +44,9 @@ impl Model for Explainer {
 
     ghost coded = { Prim.hlevel (codes, coded_tree) };
 
-    ghost view = { λ e. record { seated = e.session; reporting = e.reporter; declared = e.symbols } };
+    ghost view = { λ e. record { seated = e.session; reporting = e.reporter; declared = e.names } };
 
-    ghost invariant = { λ e. AreJoined e.session e.reporter e.symbols };
+    ghost invariant = { λ e. AreJoined e.session e.reporter e.names };
 }
 
 impl Explainer {
@@ -59,6 +61,7 @@ impl Explainer {
         requires valid { IsValidBase ordered.base }
         requires order { IsOrder ordered.base ordered.sequence }
         requires placed { IsPlaced symbols }
+        requires distinct { AreDistinct (names_of symbols.variables) }
         requires cells { ordered.base.cells ≡ length (owners_from 0 symbols.variables) }
         requires values { AreValuesOf session.sitting.face.inputs session.sitting.values }
         requires many { length session.sitting.face.inputs ≡ length (inputs_from 0 symbols.variables) }
@@ -67,11 +70,13 @@ impl Explainer {
         ensures ordered { IfOk result (λ joined. joined.reporting.ordered ≡ ordered) }
     {
         let mut reporter = Reporter::new(alloc, ordered, &symbols)?;
+        let names = CellNames::of(alloc, &symbols)?;
+        drop(symbols);
         put_inputs(&mut reporter, &session);
         Ok(Explainer {
             session,
             reporter,
-            symbols,
+            names,
         })
     }
 
@@ -80,10 +85,10 @@ impl Explainer {
         ensures gives { Gives K.written K.faults out.old out.new result (explains_in self.old name.now) }
         ensures stays { joined_replies self.new ≡ joined_replies self.old }
     {
-        match find_request(&self.symbols, name) {
+        match self.names.find(name) {
             Some(cell) => {
                 self.reporter.why(cell);
-                print_lines(&self.symbols, self.reporter.lines(), out)
+                print_lines(&self.names, self.reporter.lines(), out)
             }
             None => give_pieces(out, &[b"refused unknown variable\n"]),
         }
@@ -152,10 +157,10 @@ fn put_inputs(reporter: &mut Reporter, session: &Session)
 }
 
 // Writes the lines of a report, and then a line with a point.
-fn print_lines<K: Sink>(symbols: &Symbols, lines: &[ReportLine], out: &mut K) -> Result<(), Failed>
-    requires { All (λ line. line.cell < length (owners_from 0 symbols.now.variables)) lines.now }
-    ensures { Gives K.written K.faults out.old out.new result (report_lines_of symbols.now lines.now) }
+fn print_lines<K: Sink>(names: &CellNames, lines: &[ReportLine], out: &mut K) -> Result<(), Failed>
+    requires { All (λ line. line.cell < length (owners_from 0 names.now.variables)) lines.now }
+    ensures { Gives K.written K.faults out.old out.new result (report_lines_of names.now lines.now) }
 {
-    print_report(symbols, lines, out)?;
+    print_report(names, lines, out)?;
     give_pieces(out, &[b".\n"])
 }

@@ -11,17 +11,17 @@ returns-in_err-print_line g c =
     let p = err_from_is_err_and c.from_residual.result c.from_residual.ensures.1 in
     let gave = c.in_err-print_line.ensures in
     piece_failed _ _ _ _ _ _ _ _ _ _ _ p.1
-    (report-at c.args.symbols.now c.args.lines.now c.loop-line.line-index c.line-item.result c.line-item.result c.loop-line-test.true c.line-item.is)
+    (report-at c.args.names.now c.args.lines.now c.loop-line.line-index c.line-item.result c.line-item.result c.loop-line-test.true c.line-item.is)
     c.loop-line.invariant gave.failed gave.prefix gave.counted
 
 pub loop-line-preserved : goal.loop-line-preserved
 loop-line-preserved g c =
     let gave = c.in_ok-print_line.ensures in
     piece_given _ _ _ _ _ _ _ _ _
-    (report-at c.args.symbols.now c.args.lines.now c.loop-line.line-index c.line-item.result c.line-item.result c.loop-line-test.true c.line-item.is)
+    (report-at c.args.names.now c.args.lines.now c.loop-line.line-index c.line-item.result c.line-item.result c.loop-line-test.true c.line-item.is)
     c.loop-line.invariant gave.all gave.faultless
 
 pub returns : goal.returns
 returns g c =
-    all_given _ _ _ _ _ _ tt refl (rw (ap (report_text c.args.symbols.now)
+    all_given _ _ _ _ _ _ tt refl (rw (ap (report_text c.args.names.now)
     (drop_all c.loop-line.line-index c.args.lines.now (omega (arith, c.loop-line-test.false)))) at c.loop-line.invariant)

@@ -22,17 +22,17 @@ put-requires g c =
 pub invariant_of-self : goal.invariant_of-self
 invariant_of-self g c =
     let inside = c.self.inside in
-    line_put inside.session c.command-replied.new.self inside.reporter c.put.new.self inside.symbols c.args.line.now c.in-Some.input c.self.invariant
+    line_put inside.session c.command-replied.new.self inside.reporter c.put.new.self inside.names c.args.line.now c.in-Some.input c.self.invariant
     c.command-replied.ensures.sitting
     (sym c.input_named-named.ensures.named ∙ c.in-Some.is) (c.put.ensures.put
     ∙ ap (λ (v : Value). with_input inside.reporter c.in-Some.input v) c.input_value.ensures)
-    (c.put.ensures.start inside.symbols c.self.invariant.start)
+    (c.put.ensures.start inside.names c.self.invariant.start)
 
 pub returns-in-Some-clause-goes_on : goal.returns-in-Some-clause-goes_on
 returns-in-Some-clause-goes_on g c = λ lines.
     let inside = c.self.inside in
-    let joined : Joined = record { seated = inside.session; reporting = inside.reporter; declared = inside.symbols } in
-    let later : Joined = record { seated = c.command-replied.new.self; reporting = c.put.new.self; declared = inside.symbols } in
+    let joined : Joined = record { seated = inside.session; reporting = inside.reporter; declared = inside.names } in
+    let later : Joined = record { seated = c.command-replied.new.self; reporting = c.put.new.self; declared = inside.names } in
     subst (λ (j : Joined). joined_replies j (c.args.line.now ∷ lines) ≡ replied_then (seated_reply j.seated c.args.line.now)
     (joined_replies later lines)) c.self.view_is
     (line_goes_on joined later c.args.line.now c.requires (λ i. record {
@@ -49,8 +49,8 @@ returns-in-None-clause-gives g c =
 pub returns-in-None-clause-goes_on : goal.returns-in-None-clause-goes_on
 returns-in-None-clause-goes_on g c = λ lines.
     let inside = c.self.inside in
-    let joined : Joined = record { seated = inside.session; reporting = inside.reporter; declared = inside.symbols } in
-    let later : Joined = record { seated = c.command-replied.new.self; reporting = inside.reporter; declared = inside.symbols } in
+    let joined : Joined = record { seated = inside.session; reporting = inside.reporter; declared = inside.names } in
+    let later : Joined = record { seated = c.command-replied.new.self; reporting = inside.reporter; declared = inside.names } in
     subst (λ (j : Joined). joined_replies j (c.args.line.now ∷ lines) ≡ replied_then (seated_reply j.seated c.args.line.now)
     (joined_replies later lines)) c.self.view_is
     (line_goes_on joined later c.args.line.now c.requires (λ i. record {
