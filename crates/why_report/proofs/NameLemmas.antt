@@ -16,10 +16,10 @@ use Rattle.m_symbols.specs.Placed.{IsPlaced}
 use Rattle.m_symbols.specs.Cells.{cell_by, cell_name, cell_text, printed_cell}
 use Rattle.m_symbols.proofs.Added.{map-push}
 use Rattle.m_symbols.proofs.Numbered.{owner-below}
-use Rattle.m_symbols.proofs.Placing.{fits, known_by, table_sized}
+use Rattle.m_symbols.proofs.Placing.{span_fits, span_known}
 use Rattle.m_ast.specs.Items.{variable_size}
-use Rattle.why_report.specs.declared.cell_names.Span.{Span}
-use Rattle.why_report.specs.inner.Named.{span_of}
+use Rattle.m_symbols.specs.declared.spans.Span.{Span}
+use Rattle.m_symbols.specs.Spans.{span_of}
 
 -- one more variable of a list
 pub mapped-more : {X : Type 0} (f : Variable → X) (vs : List Variable) (n : ℕ) (v : Variable) (before after : List X) → n < length vs → slice_get vs n ≡ Some v
@@ -48,19 +48,12 @@ spanned (Some v) s e = (v, refl, cc)
 pub has-span : (declared : Declared) (n : ℕ) (s : Span) → option_map span_of (slice_get declared.variables n) ≡ Some s → HasSpan declared n s
 has-span declared n s e = let k = spanned (slice_get declared.variables n) s e in record { variable = k.0; there = k.1; span = k.2 }
 
-within-all : (size : Option ℕ) (first cells all : ℕ) → IfSome size (λ n. cells ≡ n) → first + cells ≤ all → IfSome size (λ n. first + n ≤ all)
-within-all None first cells all e h = tt
-within-all (Some n) first cells all e h = omega (arith, e, h)
-
 -- a table's cells are among all cells
 pub span-fits : (declared : Declared) (n : ℕ) (s : Span) → IsPlaced declared → option_map span_of (slice_get declared.variables n) ≡ Some s
     → IfSome s.size (λ size. s.first_cell + size ≤ length (owners_from 0 declared.variables))
 span-fits declared n s placed e =
     let k = has-span declared n s e in
-    let all = length (owners_from 0 declared.variables) in
-    subst (λ (t : Span). IfSome t.size (λ size. t.first_cell + size ≤ all)) k.span
-    (within-all (variable_size k.variable.item) k.variable.first_cell k.variable.cells all (table_sized declared n k.variable placed k.there)
-    (fits declared n all k.variable placed k.there refl))
+    span_fits declared n (length (owners_from 0 declared.variables)) k.variable s placed k.there (sym k.span) refl
 
 -- the cell that a request finds is one of all
 pub span-known : (declared : Declared) (n : ℕ) (s : Span) (index : Option (List ℕ)) (cell : Option ℕ) → IsPlaced declared
@@ -68,7 +61,7 @@ pub span-known : (declared : Declared) (n : ℕ) (s : Span) (index : Option (Lis
     → IfSome cell (λ c. c < length (owners_from 0 declared.variables))
 span-known declared n s index cell placed e is =
     let k = has-span declared n s e in
-    known_by declared n k.variable index cell placed k.there (is ∙ ap (λ (t : Span). cell_by index t.size t.first_cell) (sym k.span))
+    span_known declared n k.variable s index cell placed k.there (sym k.span) is
 
 -- the cell of the variable with this span
 pub span-cell : (declared : Declared) (n : ℕ) (s : Span) (index : Option (List ℕ)) → option_map span_of (slice_get declared.variables n) ≡ Some s

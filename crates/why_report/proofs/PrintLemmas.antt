@@ -9,8 +9,8 @@ use Rattle.m_symbols.specs.Cells.{cell_name, cell_text}
 use Rattle.tax_print.specs.Lines.{value_line}
 use Rattle.why_report.specs.declared.line.ReportLine.{ReportLine}
 use Rattle.why_report.specs.Reports.{report_text}
-use Rattle.why_report.specs.declared.cell_names.Span.{Span}
-use Rattle.why_report.specs.inner.Named.{span_of}
+use Rattle.m_symbols.specs.declared.spans.Span.{Span}
+use Rattle.m_symbols.specs.Spans.{span_of}
 use Rattle.why_report.proofs.NameLemmas.{span-name}
 
 -- a line is a name and the rest

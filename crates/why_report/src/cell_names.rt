@@ -2,30 +2,19 @@
 
 ghost use Rattle.std.specs.Prelude.{◌≡◌, ◌+◌, ◌<◌, ◌≤◌, ◌^◌, Some, IfOk, IfSome, length, map, slice_get, slice_index};
 ghost use Rattle.std.specs.Option.{option_map};
-ghost use Rattle.m_ast.specs.Items.{size_in};
 ghost use Rattle.m_names.specs.Names.{AreDistinct, index_of};
 ghost use Rattle.m_symbols.specs.Cells.{request_cell};
 ghost use Rattle.m_symbols.specs.Declarations.{name_of, names_of, owners_from};
 ghost use Rattle.m_symbols.specs.Placed.{IsPlaced};
-ghost use Rattle.why_report.specs.inner.Named.{span_of};
+ghost use Rattle.m_symbols.specs.Spans.{span_of};
 
-use crate::request::{cell_at_index, cell_without_index};
-use m_ast::Role;
 use m_names::{Names, NamesFault};
 use m_places::Name;
-use m_symbols::{Symbols, Variable};
+use m_symbols::{Span, Symbols, cell_at_index, cell_without_index, span_of};
 use m_text::first_of;
 use std::alloc::{AllocError, Global};
 use std::marker::Model;
 use std::snapshot::Snapshot;
-
-/// Where the cells of a variable begin, and the size of a table.
-#[derive(Clone, Copy)]
-pub(crate) struct Span {
-    pub(crate) first_cell: u32,
-    /// None, if the variable isn't a table.
-    pub(crate) size: Option<u32>,
-}
 
 /// What requests and reports need of declarations: of each variable its name and its cells. Contracts
 /// see the declarations. They aren't kept: a declaration takes some 200 bytes, and its name and its
@@ -166,26 +155,6 @@ fn spans_in(alloc: Global, symbols: &Symbols) -> Result<Vec<Span>, AllocError>
         spans.push(span_of(symbols.variable(number)))?;
     }
     Ok(spans)
-}
-
-fn span_of(variable: &Variable) -> Span
-    ensures { result ≡ span_of variable.now }
-{
-    Span {
-        first_cell: variable.first_cell,
-        size: table_size(&variable.item.role),
-    }
-}
-
-// The size of a table.
-fn table_size(role: &Role) -> Option<u32>
-    ensures { result ≡ size_in role.now }
-{
-    match role {
-        Role::Computed(size) => *size,
-        Role::Input(_) => None,
-        Role::Constant(_) => None,
-    }
 }
 
 // For each cell the number of its variable.

@@ -24,7 +24,6 @@ mod plan;
 mod print;
 mod read;
 mod reporter;
-mod request;
 mod room;
 mod standing;
 mod starts;

@@ -1,14 +1,9 @@
 -- The names and the cells of variables, without their declarations.
 use Rattle.std.specs.Prelude.{◌≡◌, ℕ, ◌<◌, ◌^◌, List, length, map}
-use Rattle.m_ast.specs.Items.{variable_size}
-use Rattle.m_symbols.specs.declared.variable.Variable.{Variable}
 use Rattle.m_symbols.specs.Declarations.{Declared, names_of, owners_from}
 use Rattle.m_symbols.specs.Placed.{IsPlaced}
-use Rattle.why_report.specs.declared.cell_names.Span.{Span}
-
--- where the cells of a variable begin, and the size of a table: 1 and 3 for the table `T` of 3 cells after `A`
-abbrev pub span_of : Variable → Span
-span_of v = record { first_cell = v.first_cell; size = variable_size v.item }
+use Rattle.m_symbols.specs.Spans.{span_of}
+use Rattle.m_symbols.specs.declared.spans.Span.{Span}
 
 -- Each list has for each declared variable, or each cell, what its name states, and counts fit their types.
 pub record AreNamed (declared : Declared) (known names : List (List ℕ)) (spans : List Span) (owners : List ℕ) : Type 0 where

@@ -1,5 +1,5 @@
 use Rattle.std.proofs.Common.{◌≡◌, take, map}
-use Rattle.why_report.specs.inner.Named.{span_of}
+use Rattle.m_symbols.specs.Spans.{span_of}
 use Rattle.why_report.proofs.cell_names.spans_in.Given as goal
 
 abbrev pub invariant-loop-number : goal.invariant-loop-number

@@ -1,6 +1,6 @@
 use Rattle.std.proofs.Common.{List, get_or, ap, ◌∙◌}
-use Rattle.why_report.specs.declared.cell_names.Span.{Span}
-use Rattle.why_report.specs.inner.Named.{span_of}
+use Rattle.m_symbols.specs.declared.spans.Span.{Span}
+use Rattle.m_symbols.specs.Spans.{span_of}
 use Rattle.why_report.proofs.NameLemmas.{mapped-at, span-fits}
 use Rattle.why_report.proofs.cell_names.CellNames.span.Goals as goal
 
