@@ -9,11 +9,11 @@ ghost use Rattle.m_symbols.specs.Cells.{cell_name, cell_text};
 ghost use Rattle.tax_print.specs.Lines.{value_line};
 ghost use Rattle.why_report.specs.Reports.{report_text};
 
-use crate::cell_names::Span;
 use crate::{CellNames, ReportLine};
 use itoa::Buffer;
 use m_fixed::{Amount, Value, write_amount};
 use m_ports::{Failed, Sink, give_pieces};
+use m_symbols::Span;
 
 /// Writes the lines of a derivation, each with the cell's printed name, its value and a line feed:
 /// `IRN = 2500.5`, `IRN undefined` or `IRN over`. Each cell is declared. On a failure a prefix of
