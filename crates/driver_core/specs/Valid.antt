@@ -1,7 +1,8 @@
 -- Valid drivers: each cell and function that is named exists, and no function reaches itself by
 -- calls.
 use Rattle.std.specs.Prelude.{◌≡◌, ℕ, ◌<◌, ◌⊎◌, List, [], ◌∷◌, length, All, Option, None, Some, slice_get}
-use Rattle.micro_m.specs.Bases.{AreDistinctCells, IsWithin}
+use Rattle.micro_m.specs.Bases.{IsWithin}
+use Rattle.micro_m.specs.Reads.{IsCycle}
 use Rattle.driver_core.specs.declared.program.Core.{Core}
 use Rattle.driver_core.specs.Actions.{Action, assign, clear, branch, partition, call, solve, Block, no_actions, an_action}
 use Rattle.driver_core.specs.ActionView.{block_of}
@@ -57,21 +58,9 @@ abbrev mutual
 abbrev pub Calls : Core → ℕ → ℕ → Type 0
 Calls core f g = BlockCalls (body_of core f) g
 
--- a path of calls from a function through these, each calling the next, to a function that the last
--- calls
-abbrev pub CallsLeadTo : Core → ℕ → List ℕ → ℕ → Type 0
-CallsLeadTo core f [] last = Calls core f last
-CallsLeadTo core f (g ∷ gs) last = Calls core f g × CallsLeadTo core g gs last
-
--- A ring is a cycle of calls: distinct functions, each calling the next, and the last calling the
--- first. One function that calls itself is a ring.
-abbrev pub IsRing : Core → List ℕ → Type 0
-IsRing core [] = ⊥
-IsRing core (f ∷ fs) = AreDistinctCells (f ∷ fs) × CallsLeadTo core f fs f
-
--- no function reaches itself by calls
+-- no function reaches itself by calls: there is no cycle of calls
 abbrev pub HasNoRing : Core → Type 0
-HasNoRing core = (functions : List ℕ) → IsRing core functions → ⊥
+HasNoRing core = (functions : List ℕ) → IsCycle (Calls core) functions → ⊥
 
 -- ---- a valid driver
 

@@ -40,7 +40,7 @@ ruled_before : (q : Place) (n : ℕ) (ds : List Definition) → AllReadBefore ds
 ruled_before q zero ds h = h
 ruled_before q (suc j) ds h = (numbered_before q j, ruled_before (after q (numbered_line j)) j ds h)
 
-leads_before : (base : Base) → ((x y : ℕ) → Reads base x y → y < x) → (x : ℕ) (xs : List ℕ) (last : ℕ) → LeadsTo base x xs last → last < x
+leads_before : (base : Base) → ((x y : ℕ) → Reads base x y → y < x) → (x : ℕ) (xs : List ℕ) (last : ℕ) → LeadsTo (Reads base) x xs last → last < x
 leads_before base f x [] last h = f x last h
 leads_before base f x (y ∷ ys) last h = let a = f x y h.0 in let b = leads_before base f y ys last h.1 in omega arith
 

@@ -48,13 +48,13 @@ path-length base x ps path d =
 
 -- From y through `back` to x, and a path of further cells that leads to y: if x is one of these, it
 -- is on a cycle.
-closes : (base : Base) (x y : ℕ) (back ps : List ℕ) → LeadsTo base y back x → Path base y ps → AreDistinctCells (y ∷ back) → AreDistinctCells ps
-    → ((q : ℕ) → is_among q ps ≡ true → is_among q (y ∷ back) ≡ false) → is_among x (y ∷ ps) ≡ true → (cells : List ℕ) × IsCycle base cells
+closes : (base : Base) (x y : ℕ) (back ps : List ℕ) → LeadsTo (Reads base) y back x → Path base y ps → AreDistinctCells (y ∷ back) → AreDistinctCells ps
+    → ((q : ℕ) → is_among q ps ≡ true → is_among q (y ∷ back) ≡ false) → is_among x (y ∷ ps) ≡ true → (cells : List ℕ) × IsCycle (Reads base) cells
 closes base x y back [] leads path distinct ds apart here =
     let is : x ≡ y = same x y (cases (nat_eq x y) (λ (t : nat_eq x y ≡ true). t) (λ (f : nat_eq x y ≡ false). absurd (cc))) in
-    (y ∷ back, (distinct, subst (λ n. LeadsTo base y back n) is leads))
+    (y ∷ back, (distinct, subst (λ n. LeadsTo (Reads base) y back n) is leads))
 closes base x y back (p ∷ ps) leads path distinct ds apart here = cases (nat_eq x y)
-    (λ (t : nat_eq x y ≡ true). (y ∷ back, (distinct, subst (λ n. LeadsTo base y back n) (same x y t) leads)))
+    (λ (t : nat_eq x y ≡ true). (y ∷ back, (distinct, subst (λ n. LeadsTo (Reads base) y back n) (same x y t) leads)))
     (λ (f : nat_eq x y ≡ false). closes base x p (y ∷ back) ps (path.0, leads) path.1
     (apart p (ap (λ b. b || is_among p ps) (itself p)), distinct) ds.1
     (λ q h. cases (nat_eq q p)

@@ -34,19 +34,20 @@ abbrev mutual
 abbrev pub Reads : Base → ℕ → ℕ → Type 0
 Reads base x y = IsSomeAnd (definition_of base x) (λ term. TermReads term y)
 
--- from x through these cells, each reading the next, to a cell that the last of them reads
-abbrev pub LeadsTo : Base → ℕ → List ℕ → ℕ → Type 0
-LeadsTo base x [] last = Reads base x last
-LeadsTo base x (y ∷ ys) last = Reads base x y × LeadsTo base y ys last
+-- from x through these numbers, each in the relation with the next, to one in the relation with which
+-- the last of them is
+abbrev pub LeadsTo : (ℕ → ℕ → Type 0) → ℕ → List ℕ → ℕ → Type 0
+LeadsTo R x [] last = R x last
+LeadsTo R x (y ∷ ys) last = R x y × LeadsTo R y ys last
 
--- a cycle: distinct cells, each reading the next, and the last reading the first; a cell that reads
--- itself is one too
-abbrev pub IsCycle : Base → List ℕ → Type 0
-IsCycle base [] = ⊥
-IsCycle base (x ∷ xs) = AreDistinctCells (x ∷ xs) × LeadsTo base x xs x
+-- A cycle of a relation: distinct numbers, each in it with the next, and the last with the first. In
+-- `Reads base` they are cells, each reading the next; a cell that reads itself is one too.
+abbrev pub IsCycle : (ℕ → ℕ → Type 0) → List ℕ → Type 0
+IsCycle R [] = ⊥
+IsCycle R (x ∷ xs) = AreDistinctCells (x ∷ xs) × LeadsTo R x xs x
 
 abbrev pub HasNoCycle : Base → Type 0
-HasNoCycle base = (cells : List ℕ) → IsCycle base cells → ⊥
+HasNoCycle base = (cells : List ℕ) → IsCycle (Reads base) cells → ⊥
 
 -- the least of the cells is the first
 abbrev pub BeginsWithLeast : List ℕ → Type 0

@@ -14,7 +14,7 @@ use Rattle.micro_m.specs.declared.term.Step.{Step}
 use Rattle.driver_core.specs.declared.program.Core.{Core}
 use Rattle.driver_core.specs.Actions.{Action, assign, clear, branch, partition, call, solve, action_nodes, nodes_of_block, Block, no_actions, an_action}
 use Rattle.driver_core.specs.ActionView.{block_of}
-use Rattle.driver_core.specs.Valid.{block_or_none, ActionCalls, BlockCalls, Calls, CallsLeadTo, IsRing, HasNoRing, ActionIsWithin, BlockIsWithin, IsInRange}
+use Rattle.driver_core.specs.Valid.{block_or_none, ActionCalls, BlockCalls, Calls, HasNoRing, ActionIsWithin, BlockIsWithin, IsInRange}
 use Rattle.mpp_core.specs.inner.Calls.{action_steps, block_steps, calls_term, calls_from, calls_base}
 
 -- ---- steps
@@ -121,11 +121,11 @@ reads_call core f g k = by_body (slice_get core.bodies f) g (subst (λ o. IsSome
 calls_read : (core : Core) (f g : ℕ) → Calls core f g → Reads (calls_base core.bodies) f g
 calls_read core f g k = subst (λ o. IsSomeAnd o (λ t. TermReads t g)) (sym (found core.bodies 0 f f (omega arith))) (of_body (slice_get core.bodies f) g k)
 
-reads_lead : (core : Core) (f : ℕ) (gs : List ℕ) (last : ℕ) → LeadsTo (calls_base core.bodies) f gs last → CallsLeadTo core f gs last
+reads_lead : (core : Core) (f : ℕ) (gs : List ℕ) (last : ℕ) → LeadsTo (Reads (calls_base core.bodies)) f gs last → LeadsTo (Calls core) f gs last
 reads_lead core f [] last k = reads_call core f last k
 reads_lead core f (g ∷ gs) last k = (reads_call core f g k.0, reads_lead core g gs last k.1)
 
-calls_lead : (core : Core) (f : ℕ) (gs : List ℕ) (last : ℕ) → CallsLeadTo core f gs last → LeadsTo (calls_base core.bodies) f gs last
+calls_lead : (core : Core) (f : ℕ) (gs : List ℕ) (last : ℕ) → LeadsTo (Calls core) f gs last → LeadsTo (Reads (calls_base core.bodies)) f gs last
 calls_lead core f [] last k = calls_read core f last k
 calls_lead core f (g ∷ gs) last k = (calls_read core f g k.0, calls_lead core g gs last k.1)
 
@@ -135,7 +135,7 @@ no_ring core h [] r = r
 no_ring core h (f ∷ fs) r = h (f ∷ fs) (r.0, calls_lead core f fs f r.1)
 
 -- a cycle of a base of calls is a cycle of calls
-pub is_ring : (core : Core) (fs : List ℕ) → IsCycle (calls_base core.bodies) fs → IsRing core fs
+pub is_ring : (core : Core) (fs : List ℕ) → IsCycle (Reads (calls_base core.bodies)) fs → IsCycle (Calls core) fs
 is_ring core [] c = c
 is_ring core (f ∷ fs) c = (c.0, reads_lead core f fs f c.1)
 

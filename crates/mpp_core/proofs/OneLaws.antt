@@ -3,7 +3,8 @@ use Rattle.std.proofs.Common.{◌≡◌, inl, inr, ℕ, List, Result, Ok, Err, r
 use Rattle.m_symbols.specs.Declarations.{Declared}
 use Rattle.mpp_parser.specs.declared.command.Driver.{Driver}
 use Rattle.driver_core.specs.declared.program.Core.{Core}
-use Rattle.driver_core.specs.Valid.{IsRing}
+use Rattle.micro_m.specs.Reads.{IsCycle}
+use Rattle.driver_core.specs.Valid.{Calls}
 use Rattle.mpp_core.specs.declared.fault.CoreFault.{CoreFault}
 use Rattle.mpp_core.specs.declared.fault.CoreFault.TheVariants.{FunctionTwice, NoMain, UnknownInDriver, BadTargetInDriver, DriverRecursion, Memory}
 use Rattle.mpp_core.specs.Cores.{IsCore, ShowsRing, IsRecursion, IsCoreFault, AreOneCoreFault, the_same, both_rings}
@@ -34,7 +35,7 @@ pub no_core_and_fault : (driver : Driver) (declared : Declared) (core : Core) (f
 no_core_and_fault driver declared core fault a (inl e) = ok_or_err a.named e
 no_core_and_fault driver declared core fault a (inr h) =
     let shown = (shows h.0 fault h.2).2 in
-    a.no_ring shown.functions (subst (λ (k : Core). IsRing k shown.functions) (ok_one h.1 a.named) shown.ring)
+    a.no_ring shown.functions (subst (λ (k : Core). IsCycle (Calls k) shown.functions) (ok_one h.1 a.named) shown.ring)
 
 both_show : (core other : Core) (fault another : CoreFault) → IsRecursion core fault → IsRecursion other another → AreOneCoreFault fault another
 both_show core other fault another a b =

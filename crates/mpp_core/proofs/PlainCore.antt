@@ -3,10 +3,11 @@ use Rattle.std.proofs.Common.{◌≡◌, ◌<◌, ℕ, zero, suc, inl, inr, List
 use Rattle.std.specs.Prelude.{IfOk}
 use Rattle.std.proofs.lemmas.List.Elements.{All-nil, All-cons, All-filter}
 use Rattle.m_symbols.specs.Declarations.{Declared, owners_from}
+use Rattle.micro_m.specs.Reads.{IsCycle}
 use Rattle.driver_core.specs.declared.program.Core.{Core}
 use Rattle.driver_core.specs.Actions.{Action, solve}
 use Rattle.driver_core.specs.ActionView.{block_of}
-use Rattle.driver_core.specs.Valid.{body_among, BlockCalls, BlockIsWithin, IsRing, IsValidCore}
+use Rattle.driver_core.specs.Valid.{body_among, BlockCalls, BlockIsWithin, Calls, IsValidCore}
 use Rattle.mpp_core.specs.Cores.{plain_core, received_cells, is_constant_cell}
 
 abbrev received_alone : List ℕ → Action
@@ -17,7 +18,7 @@ no_calls received zero g (inl e) = e
 no_calls received zero g (inr e) = e
 no_calls received (suc f) g e = e
 
-no_ring : (requests : List ℕ) (d : Declared) (functions : List ℕ) → IsRing (plain_core requests d) functions → ⊥
+no_ring : (requests : List ℕ) (d : Declared) (functions : List ℕ) → IsCycle (Calls (plain_core requests d)) functions → ⊥
 no_ring requests d [] r = r
 no_ring requests d (f ∷ []) r = no_calls (received_cells requests d) f f r.1
 no_ring requests d (f ∷ g ∷ rest) r = no_calls (received_cells requests d) f g r.1.0

@@ -5,13 +5,13 @@ use Rattle.std.specs.Option.{option_map_or, unwrap_or}
 use Rattle.m_ast.specs.Items.{is_constant}
 use Rattle.m_symbols.specs.declared.variable.Variable.{Variable}
 use Rattle.m_symbols.specs.Declarations.{Declared, owners_from}
-use Rattle.micro_m.specs.Reads.{BeginsWithLeast}
+use Rattle.micro_m.specs.Reads.{IsCycle, BeginsWithLeast}
 use Rattle.m_symbols.specs.Cells.{owner_of}
 use Rattle.mpp_parser.specs.CommandView.{block_of as acts_of}
 use Rattle.mpp_parser.specs.declared.command.Driver.{Driver}
 use Rattle.driver_core.specs.declared.program.Core.{Core}
 use Rattle.driver_core.specs.Actions.{solve}
-use Rattle.driver_core.specs.Valid.{IsRing, HasNoRing}
+use Rattle.driver_core.specs.Valid.{Calls, HasNoRing}
 use Rattle.mpp_core.specs.Names.{if_resolved, resolved_each, resolved_names, resolved_main}
 use Rattle.mpp_core.specs.Bodies.{resolved_acts}
 use Rattle.mpp_core.specs.declared.fault.CoreFault.{CoreFault}
@@ -42,7 +42,7 @@ function_name names f = unwrap_or (slice_get names f) []
 -- the first, beginning with the one that is first in the file.
 pub record ShowsRing (core : Core) (names : List (List ℕ)) : Type 0 where
   pub functions : List ℕ
-  pub ring : IsRing core functions
+  pub ring : IsCycle (Calls core) functions
   pub first : BeginsWithLeast functions
   pub shown : names ≡ map (function_name core.names) functions
 

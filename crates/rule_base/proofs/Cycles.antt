@@ -23,10 +23,10 @@ reader_within base x y valid r = option_cases (definition_of base x)
     (λ (none : definition_of base x ≡ None). absurd (subst (λ o. IsSomeAnd o (λ term. TermReads term y)) none r))
     (λ (term : Tree) (some : definition_of base x ≡ Some term). defined_within base x term valid some)
 
-leads_within : (base : Base) (x : ℕ) (xs : List ℕ) (last : ℕ) → IsValidBase base → LeadsTo base x xs last → All (λ c. c < base.cells) (x ∷ xs)
+leads_within : (base : Base) (x : ℕ) (xs : List ℕ) (last : ℕ) → IsValidBase base → LeadsTo (Reads base) x xs last → All (λ c. c < base.cells) (x ∷ xs)
 leads_within base x [] last valid l = All-cons (λ c. c < base.cells) x [] (reader_within base x last valid l) (All-nil (λ c. c < base.cells))
 leads_within base x (y ∷ ys) last valid l = All-cons (λ c. c < base.cells) x (y ∷ ys) (reader_within base x y valid l.0) (leads_within base y ys last valid l.1)
 
-pub cycle_within : (base : Base) (cells : List ℕ) → IsValidBase base → IsCycle base cells → All (λ c. c < base.cells) cells
+pub cycle_within : (base : Base) (cells : List ℕ) → IsValidBase base → IsCycle (Reads base) cells → All (λ c. c < base.cells) cells
 cycle_within base [] valid c = absurd c
 cycle_within base (x ∷ xs) valid c = leads_within base x xs x valid c.1

@@ -16,7 +16,7 @@ use Rattle.index_expand.specs.Faults.{expand_fault}
 use Rattle.index_expand.specs.declared.fault.ExpandFault.{ExpandFault}
 use Rattle.m_resolve.specs.Bases.{resolved}
 use Rattle.m_resolve.specs.declared.fault.ResolveFault.{ResolveFault}
-use Rattle.micro_m.specs.Reads.{IsCycle, HasNoCycle}
+use Rattle.micro_m.specs.Reads.{Reads, IsCycle, HasNoCycle}
 use Rattle.micro_m.specs.declared.base.Base.{Base}
 use Rattle.m_symbols.specs.Cells.{cell_name}
 use Rattle.rule_base.specs.declared.fault.RuleFault.{RuleFault}
@@ -96,7 +96,7 @@ no_base_and_fault texts application declared base _ made free (of_loops {items =
 no_base_and_fault texts application declared base _ made free (of_names {items = is} {fault = f} d x e) = base_or_names texts application declared base is f
     made d e
 no_base_and_fault texts application declared base _ made free (of_a_cycle {declared = others} {base = other} cells also c b) =
-    free cells (subst (λ (k : Base). IsCycle k cells) (sym (one_base texts application declared others base other made also).1) c)
+    free cells (subst (λ (k : Base). IsCycle (Reads k) cells) (sym (one_base texts application declared others base other made also).1) c)
 
 -- An error of an earlier step excludes the errors of later ones.
 by_tokens : (texts : List Text) (application : List ℕ) (fault : LexFault) (other : RuleFault) → IsFirstFileFault 0 texts (read.Lex fault)

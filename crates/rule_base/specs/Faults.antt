@@ -14,7 +14,7 @@ use Rattle.index_expand.specs.Faults.{expand_fault}
 use Rattle.index_expand.specs.declared.fault.ExpandFault.{ExpandFault}
 use Rattle.m_resolve.specs.Bases.{resolved}
 use Rattle.m_resolve.specs.declared.fault.ResolveFault.{ResolveFault}
-use Rattle.micro_m.specs.Reads.{IsCycle, BeginsWithLeast}
+use Rattle.micro_m.specs.Reads.{Reads, IsCycle, BeginsWithLeast}
 use Rattle.micro_m.specs.declared.base.Base.{Base}
 use Rattle.m_symbols.specs.Cells.{cell_name}
 use Rattle.rule_base.specs.declared.fault.RuleFault.{RuleFault}
@@ -32,8 +32,8 @@ pub data IsRuleFault (texts : List Text) (application : List ℕ) : RuleFault �
       → IsRuleFault texts application (Expand fault)
   of_names : {items : List Item} {fault : ResolveFault} → Declares texts items → expand_fault items application (declared_by items) ≡ None
       → resolved (declared_by items) (expansion items application (declared_by items)) ≡ Err fault → IsRuleFault texts application (Resolve fault)
-  of_a_cycle : {declared : Declared} {base : Base} (cells : List ℕ) → IsBaseOf texts application declared base → IsCycle base cells → BeginsWithLeast cells
-      → IsRuleFault texts application (Cycle (map (cell_name declared) cells))
+  of_a_cycle : {declared : Declared} {base : Base} (cells : List ℕ) → IsBaseOf texts application declared base → IsCycle (Reads base) cells
+      → BeginsWithLeast cells → IsRuleFault texts application (Cycle (map (cell_name declared) cells))
 
 -- Equality of errors, up to the choice of the reported cycle.
 pub data AreOneRuleFault : RuleFault → RuleFault → Type 0 where

@@ -9,7 +9,7 @@ use Rattle.std.proofs.Math.Seq.{drop-cons}
 use Rattle.std.specs.List.{All}
 use Rattle.micro_m.specs.declared.base.Base.{Base}
 use Rattle.micro_m.specs.Bases.{is_among, AreDistinctCells}
-use Rattle.micro_m.specs.Reads.{LeadsTo, IsCycle, BeginsWithLeast}
+use Rattle.micro_m.specs.Reads.{Reads, LeadsTo, IsCycle, BeginsWithLeast}
 use Rattle.micro_m.proofs.NumberLemmas.{same, itself, cases, or-true, clash, among-append}
 use Rattle.rule_order.specs.inner.Marks.{ReadsNext, LastReads, cells_of}
 use Rattle.rule_order.specs.declared.search.Frame.{Frame}
@@ -72,34 +72,34 @@ back-last base [] ys y c h = h
 back-last base (x ∷ []) ys y c h = h
 back-last base (x ∷ z ∷ xs) ys y c h = back-last base (z ∷ xs) ys y c h
 
-leads : (base : Base) (x : ℕ) (xs : List ℕ) (c : ℕ) → ReadsNext base (x ∷ xs) → LastReads base (x ∷ xs) c → LeadsTo base x xs c
+leads : (base : Base) (x : ℕ) (xs : List ℕ) (c : ℕ) → ReadsNext base (x ∷ xs) → LastReads base (x ∷ xs) c → LeadsTo (Reads base) x xs c
 leads base x [] c h k = k
 leads base x (y ∷ ys) c h k = (h.0, leads base y ys c h.1 k)
 
-leads-split : (base : Base) (x : ℕ) (xs : List ℕ) (y : ℕ) (ys : List ℕ) (last : ℕ) → LeadsTo base x (xs ++ y ∷ ys) last
-    → LeadsTo base x xs y × LeadsTo base y ys last
+leads-split : (base : Base) (x : ℕ) (xs : List ℕ) (y : ℕ) (ys : List ℕ) (last : ℕ) → LeadsTo (Reads base) x (xs ++ y ∷ ys) last
+    → LeadsTo (Reads base) x xs y × LeadsTo (Reads base) y ys last
 leads-split base x [] y ys last h = h
 leads-split base x (z ∷ xs) y ys last h = let k = leads-split base z xs y ys last h.1 in ((h.0, k.0), k.1)
 
-leads-join : (base : Base) (x : ℕ) (xs : List ℕ) (y : ℕ) (ys : List ℕ) (last : ℕ) → LeadsTo base x xs y → LeadsTo base y ys last
-    → LeadsTo base x (xs ++ y ∷ ys) last
+leads-join : (base : Base) (x : ℕ) (xs : List ℕ) (y : ℕ) (ys : List ℕ) (last : ℕ) → LeadsTo (Reads base) x xs y → LeadsTo (Reads base) y ys last
+    → LeadsTo (Reads base) x (xs ++ y ∷ ys) last
 leads-join base x [] y ys last h k = (h, k)
 leads-join base x (z ∷ xs) y ys last h k = (h.0, leads-join base z xs y ys last h.1 k)
 
 -- a cycle that begins with c, rotated to begin with another of its cells
-turned : (base : Base) (c : ℕ) (xs : List ℕ) (y : ℕ) (ys rest : List ℕ) → c ∷ rest ≡ xs ++ y ∷ ys → AreDistinctCells (c ∷ rest) → LeadsTo base c rest c
-    → IsCycle base ((y ∷ ys) ++ xs)
+turned : (base : Base) (c : ℕ) (xs : List ℕ) (y : ℕ) (ys rest : List ℕ) → c ∷ rest ≡ xs ++ y ∷ ys → AreDistinctCells (c ∷ rest) → LeadsTo (Reads base) c rest c
+    → IsCycle (Reads base) ((y ∷ ys) ++ xs)
 turned base c [] y ys rest e d l =
-    let is : IsCycle base (y ∷ ys) = subst (λ (zs : List ℕ). IsCycle base zs) e (d, l) in
-    subst (λ (zs : List ℕ). IsCycle base zs) (sym (append-nil (y ∷ ys))) is
+    let is : IsCycle (Reads base) (y ∷ ys) = subst (λ (zs : List ℕ). IsCycle (Reads base) zs) e (d, l) in
+    subst (λ (zs : List ℕ). IsCycle (Reads base) zs) (sym (append-nil (y ∷ ys))) is
 turned base c (x ∷ xs) y ys rest e d l =
-    let is : IsCycle base (x ∷ (xs ++ y ∷ ys)) = subst (λ (zs : List ℕ). IsCycle base zs) e (d, l) in
+    let is : IsCycle (Reads base) (x ∷ (xs ++ y ∷ ys)) = subst (λ (zs : List ℕ). IsCycle (Reads base) zs) e (d, l) in
     let k = leads-split base x xs y ys x is.1 in
     (swap-distinct (x ∷ xs) (y ∷ ys) is.0, leads-join base y ys x xs y k.1 k.0)
 
 -- the returned cycle: the path from index j on, rotated by l
 pub shown : (base : Base) (zs : List ℕ) (c j l : ℕ) → AreDistinctCells zs → ReadsNext base zs → LastReads base zs c → j < length zs → get_or zs j 0 ≡ c
-    → l < length (drop j zs) → IsCycle base (drop l (drop j zs) ++ take l (drop j zs))
+    → l < length (drop j zs) → IsCycle (Reads base) (drop l (drop j zs) ++ take l (drop j zs))
 shown base zs c j l d next last low here within =
     let rest : List ℕ = drop (suc j) zs in
     let ring : drop j zs ≡ c ∷ rest = drop-cons zs j 0 low ∙ ap (λ n. n ∷ rest) here in
@@ -112,7 +112,7 @@ shown base zs c j l d next last low here within =
     let from : drop l (drop j zs) ≡ y ∷ ys = drop-cons (drop j zs) l 0 within in
     let parts : c ∷ rest ≡ take l (drop j zs) ++ y ∷ ys = sym ring ∙ sym (take-append-drop l (drop j zs))
     ∙ ap (λ (rs : List ℕ). take l (drop j zs) ++ rs) from in
-    subst (λ (ws : List ℕ). IsCycle base (ws ++ take l (drop j zs))) (sym from)
+    subst (λ (ws : List ℕ). IsCycle (Reads base) (ws ++ take l (drop j zs))) (sym from)
     (turned base c (take l (drop j zs)) y ys rest parts distinct (leads base c rest c reads closes))
 
 pub shown-least : (rs : List ℕ) (l : ℕ) → l < length rs → All (λ c. get_or rs l 0 ≤ c) rs → BeginsWithLeast (drop l rs ++ take l rs)

@@ -68,7 +68,7 @@ reads-ordered base sequence x y order r =
     subst (λ c. is_among c (cells_at base sequence) ≡ true) p.2 (among-cells base p.0 sequence (order.every p.0 p.1)))
 
 -- each cell of a cycle reads a cell of the cycle
-ring-reads : (base : Base) (x : ℕ) (xs : List ℕ) (last c : ℕ) → LeadsTo base x xs last → is_among c (x ∷ xs) ≡ true
+ring-reads : (base : Base) (x : ℕ) (xs : List ℕ) (last c : ℕ) → LeadsTo (Reads base) x xs last → is_among c (x ∷ xs) ≡ true
     → (d : ℕ) × Reads base c d × ((is_among d xs ≡ true) ⊎ (d ≡ last))
 ring-reads base x [] last c leads h = cases (nat_eq c x)
     (λ (t : nat_eq c x ≡ true). (last, subst (λ n. Reads base n last) (sym (same c x t)) leads, inr refl))
@@ -81,7 +81,7 @@ ring-reads base x (y ∷ ys) last c leads h = cases (nat_eq c x)
 
 -- a cycle can't be among cells each of which reads only earlier ones: its first cell would read a
 -- later one
-no-ring : (base : Base) (x : ℕ) (xs ps : List ℕ) → LeadsTo base x xs x → AreDistinctCells (targets_of base) → All (λ p. p < length base.definitions) ps
+no-ring : (base : Base) (x : ℕ) (xs ps : List ℕ) → LeadsTo (Reads base) x xs x → AreDistinctCells (targets_of base) → All (λ p. p < length base.definitions) ps
     → ReadsEarlier base ps → ((c : ℕ) → is_among c (x ∷ xs) ≡ true → is_among c (cells_at base ps) ≡ true) → ⊥
 no-ring base x xs [] leads once within earlier all = clash (all x (ap (λ b. b || is_among x xs) (itself x))) refl
 no-ring base x xs (p ∷ ps) leads once within earlier all =

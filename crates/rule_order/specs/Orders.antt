@@ -2,7 +2,7 @@
 use Rattle.std.specs.Prelude.{◌≡◌, ℕ, ◌<◌, true, false, List, [], ◌∷◌, map, length, All}
 use Rattle.micro_m.specs.declared.base.Base.{Base}
 use Rattle.micro_m.specs.Bases.{is_among, AreDistinctCells, target_at, term_at}
-use Rattle.micro_m.specs.Reads.{TermReads, IsCycle, BeginsWithLeast}
+use Rattle.micro_m.specs.Reads.{Reads, TermReads, IsCycle, BeginsWithLeast}
 use Rattle.rule_order.specs.declared.fault.OrderFault.{OrderFault}
 use Rattle.rule_order.specs.declared.fault.OrderFault.TheVariants.{Cycle, Memory}
 
@@ -27,5 +27,5 @@ pub record IsOrder (base : Base) (sequence : List ℕ) : Type 0 where
 
 -- the fault is a cycle of the base that begins with its least cell
 abbrev pub ShowsCycle : Base → OrderFault → Type 0
-ShowsCycle base (Cycle cells) = IsCycle base cells × BeginsWithLeast cells
+ShowsCycle base (Cycle cells) = IsCycle (Reads base) cells × BeginsWithLeast cells
 ShowsCycle base Memory = ⊥

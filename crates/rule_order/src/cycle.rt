@@ -3,7 +3,7 @@
 ghost use Rattle.std.specs.Prelude.{◌≡◌, ◌<◌, ◌≤◌, ◌^◌, ◌++◌, ℕ, true, length, map, All, IfOk, OnOk, slice_index_or};
 ghost use Rattle.micro_m.specs.declared.base.Base.{Base};
 ghost use Rattle.micro_m.specs.Bases.{is_among, AreDistinctCells};
-ghost use Rattle.micro_m.specs.Reads.{IsCycle, BeginsWithLeast};
+ghost use Rattle.micro_m.specs.Reads.{Reads, IsCycle, BeginsWithLeast};
 ghost use Rattle.rule_order.specs.inner.Marks.{ReadsNext, LastReads, cells_of};
 
 use crate::search::Frame;
@@ -16,7 +16,7 @@ pub fn shown_cycle(alloc: Global, path: &[Frame], cell: usize) -> Result<Seq<u32
     requires fits { All (λ f. f.cell < 2 ^ 32) path.now }
     requires there { is_among cell (cells_of path.now) ≡ true }
     ensures cycle { IfOk result (λ cells. (base : Base) → AreDistinctCells (cells_of path.now)
-        → ReadsNext base (cells_of path.now) → LastReads base (cells_of path.now) cell → IsCycle base cells) }
+        → ReadsNext base (cells_of path.now) → LastReads base (cells_of path.now) cell → IsCycle (Reads base) cells) }
     ensures least { IfOk result (λ cells. BeginsWithLeast cells) }
 {
     let ring = &path[place_of(path, cell)..];

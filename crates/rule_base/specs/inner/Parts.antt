@@ -13,7 +13,7 @@ use Rattle.index_expand.specs.declared.fault.ExpandFault.{ExpandFault}
 use Rattle.m_resolve.specs.Bases.{resolved}
 use Rattle.m_resolve.specs.declared.fault.ResolveFault.{ResolveFault}
 use Rattle.micro_m.specs.declared.base.Base.{Base}
-use Rattle.micro_m.specs.Reads.{IsCycle, BeginsWithLeast}
+use Rattle.micro_m.specs.Reads.{Reads, IsCycle, BeginsWithLeast}
 use Rattle.m_symbols.specs.Cells.{cell_name}
 use Rattle.rule_base.specs.declared.fault.RuleFault.{RuleFault}
 use Rattle.rule_base.specs.declared.fault.RuleFault.TheVariants.{Lex, Parse, Expand, Resolve, Cycle}
@@ -36,4 +36,4 @@ pub data IsOverFault (items : List Item) (application : List ℕ) (declared : De
 
 -- a cycle of the base, reported by the names of its cells
 pub data ShowsNamedCycle (declared : Declared) (base : Base) : RuleFault → Type 0 where
-  shown : (cells : List ℕ) → IsCycle base cells → BeginsWithLeast cells → ShowsNamedCycle declared base (Cycle (map (cell_name declared) cells))
+  shown : (cells : List ℕ) → IsCycle (Reads base) cells → BeginsWithLeast cells → ShowsNamedCycle declared base (Cycle (map (cell_name declared) cells))

@@ -1,5 +1,5 @@
 use Rattle.std.proofs.Common.{◌∙◌, ap, sym, subst}
-use Rattle.micro_m.specs.Reads.{IsCycle, HasNoCycle}
+use Rattle.micro_m.specs.Reads.{Reads, IsCycle, HasNoCycle}
 use Rattle.mpp_core.specs.Cores.{IsRecursion}
 use Rattle.mpp_core.specs.inner.Calls.{calls_base}
 use Rattle.mpp_core.proofs.CallLemmas.{valid_base, no_ring, is_ring}
@@ -16,7 +16,7 @@ returns c = λ n.
     let shown = rw c.in-Err-Cycle.field-0-is at (c.in-Err-Cycle.ensures.outcome (rw c.in-Err-Cycle.field-0-is (λ e. absurd (cc)))) in
     subst (IsRecursion c.args.core.now) (sym (c.recursion.ensures n)) (record {
       functions = c.in-Err-Cycle.ring;
-      ring = is_ring c.args.core.now c.in-Err-Cycle.ring (subst (λ base. IsCycle base c.in-Err-Cycle.ring) (c.in_ok-base.ensures
+      ring = is_ring c.args.core.now c.in-Err-Cycle.ring (subst (λ base. IsCycle (Reads base) c.in-Err-Cycle.ring) (c.in_ok-base.ensures
           ∙ ap calls_base c.as_slice.ensures) shown.0);
       first = shown.1;
       shown = rw c.as_slice-in-Err-Cycle.ensures (rw c.as_slice-in-Err-Cycle-2.ensures (cc));

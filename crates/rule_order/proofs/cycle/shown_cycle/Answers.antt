@@ -1,7 +1,7 @@
 use Rattle.std.proofs.Common.{◌≡◌, ℕ, ◌≤◌, ◌-◌, List, length, get_or, take, drop, refl, ap, sym, subst, arith}
 use Rattle.std.proofs.Math.ListN.{length-map}
 use Rattle.std.specs.List.{All}
-use Rattle.micro_m.specs.Reads.{IsCycle, BeginsWithLeast}
+use Rattle.micro_m.specs.Reads.{Reads, IsCycle, BeginsWithLeast}
 use Rattle.rule_order.specs.declared.search.Frame.{Frame}
 use Rattle.rule_order.specs.inner.Marks.{cells_of}
 use Rattle.rule_order.proofs.CycleLemmas.{shown, shown-least, gathered, ring-cells}
@@ -20,7 +20,7 @@ returns-clause-cycle c = λ base distinct next last.
     let same : length (cells_of (take (length path - j) (drop j path))) ≡ length (drop j (cells_of path)) = ap length (ring-cells path j) in
     let low = c.place_of.ensures.within in
     let within = c.place_of_least-least.ensures.within in
-    subst (λ (cs : List ℕ). IsCycle base cs) (sym is)
+    subst (λ (cs : List ℕ). IsCycle (Reads base) cs) (sym is)
     (shown base (cells_of path) c.args.cell j l distinct next last (omega arith) c.place_of.ensures.here (omega arith))
 
 pub returns-clause-least : goal.returns-clause-least
