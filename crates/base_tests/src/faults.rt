@@ -20,7 +20,7 @@ fn an_input_that_is_too_long(rt: HostRuntime) {
     assert!(rt;
         is_reported(
             rt.alloc(),
-            Fault::InputTooLong,
+            Fault::Words(b"refused input too long"),
             99,
             true,
             b"refused input too long\n"
@@ -31,5 +31,13 @@ fn an_input_that_is_too_long(rt: HostRuntime) {
 /// A line whose third write fails has the bytes of the first two.
 #[test]
 fn a_line_that_is_cut(rt: HostRuntime) {
-    assert!(rt; is_reported(rt.alloc(), Fault::ListLine(2), 3, false, b"re"));
+    assert!(rt;
+        is_reported(
+            rt.alloc(),
+            Fault::OfNumber(b"refused list line ", 2),
+            3,
+            false,
+            b"re"
+        )
+    );
 }

@@ -1,7 +1,6 @@
 -- What the `cases` command prints.
-use Rattle.std.specs.Prelude.{ℕ, zero, suc, ◌+◌, List, [], ◌∷◌, ◌++◌, length, Option, Some, None}
-use Rattle.tax_print.specs.FaultLines.{household_header_line, household_line, too_many_rows_line}
-use Rattle.tax_print.specs.declared.fault.RowFault.TheVariants as row
+use Rattle.std.specs.Prelude.{ℕ, zero, suc, ◌+◌, List, [], ◌∷◌, ◌++◌, length, Option, Some, None, codes}
+use Rattle.tax_print.specs.FaultLines.{at_line, input_line}
 use Rattle.household.specs.declared.table.Row.{Row}
 use Rattle.m_cases.specs.Cases.{cases_of}
 use Rattle.m_cases.specs.Mismatches.{count_line, mismatch_count, mismatch_lines, observation_values}
@@ -18,15 +17,15 @@ use Rattle.code_answers.specs.Schemes.{Scheme, observation_for}
 -- The line of a fault of a table of cases; none for out of memory. A field `=IR` in the first record, where `IR` isn't
 -- requested, has `refused household line 1: unknown output`.
 abbrev pub cases_fault_line : CasesFault → Option (List ℕ)
-cases_fault_line BadHeader = Some household_header_line
-cases_fault_line TooManyRows = Some too_many_rows_line
-cases_fault_line (BadRow line) = Some (household_line line row.BadRow)
-cases_fault_line (UnknownCode line) = Some (household_line line row.UnknownCode)
-cases_fault_line (UnknownOutput line) = Some (household_line line row.UnknownOutput)
-cases_fault_line (CodeTwice line) = Some (household_line line row.CodeTwice)
-cases_fault_line (BadAmount line) = Some (household_line line row.BadAmount)
-cases_fault_line (NotOfType line) = Some (household_line line row.NotOfType)
-cases_fault_line (BadExpected line) = Some (household_line line row.BadExpected)
+cases_fault_line BadHeader = Some (input_line (codes "household") (codes "bad header"))
+cases_fault_line TooManyRows = Some (input_line (codes "household") (codes "too many rows"))
+cases_fault_line (BadRow line) = Some (at_line (codes "household") line (codes "bad row"))
+cases_fault_line (UnknownCode line) = Some (at_line (codes "household") line (codes "unknown code"))
+cases_fault_line (UnknownOutput line) = Some (at_line (codes "household") line (codes "unknown output"))
+cases_fault_line (CodeTwice line) = Some (at_line (codes "household") line (codes "code twice"))
+cases_fault_line (BadAmount line) = Some (at_line (codes "household") line (codes "bad amount"))
+cases_fault_line (NotOfType line) = Some (at_line (codes "household") line (codes "not of its type"))
+cases_fault_line (BadExpected line) = Some (at_line (codes "household") line (codes "bad expected"))
 cases_fault_line Memory = None
 
 -- the lines of cases, in order: for each case, its expectations that aren't met

@@ -1,7 +1,6 @@
 -- The answer of `exec`.
-use Rattle.std.specs.Prelude.{◌≡◌, ℕ, List, [], Option, Some, None}
-use Rattle.tax_print.specs.FaultLines.{code_header_line, code_line}
-use Rattle.tax_print.specs.declared.fault.CodeFault.TheVariants as word
+use Rattle.std.specs.Prelude.{◌≡◌, ℕ, List, [], Option, Some, None, codes}
+use Rattle.tax_print.specs.FaultLines.{at_line, input_line}
 use Rattle.reg_machine.specs.Machine.{machine_run}
 use Rattle.household.specs.Household.{household_of}
 use Rattle.code_file.specs.Reading.{IsFormOf, IsCodeFault}
@@ -16,9 +15,9 @@ use Rattle.code_answers.specs.Schemes.{Scheme}
 -- The line of a fault of a code file; none for out of memory. A register read in line 7 before it is written has
 -- `refused code line 7: read before write`.
 abbrev pub code_fault_line : CodeFault → Option (List ℕ)
-code_fault_line BadHeader = Some code_header_line
-code_fault_line (BadLine line) = Some (code_line line word.BadLine)
-code_fault_line (BadOrder line) = Some (code_line line word.ReadBeforeWrite)
+code_fault_line BadHeader = Some (input_line (codes "code") (codes "bad header"))
+code_fault_line (BadLine line) = Some (at_line (codes "code") line (codes "bad line"))
+code_fault_line (BadOrder line) = Some (at_line (codes "code") line (codes "read before write"))
 code_fault_line Memory = None
 
 -- The answer of a code file: the line of its first fault; or the file is the form of some code with its face, a scheme

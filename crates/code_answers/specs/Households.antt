@@ -1,7 +1,6 @@
 -- The line of each fault of a household or a table, and the status of an observation.
-use Rattle.std.specs.Prelude.{ℕ, List, Option, Some, None}
-use Rattle.tax_print.specs.FaultLines.{household_header_line, household_line, too_many_rows_line}
-use Rattle.tax_print.specs.declared.fault.RowFault.TheVariants as row
+use Rattle.std.specs.Prelude.{ℕ, List, Option, Some, None, codes}
+use Rattle.tax_print.specs.FaultLines.{at_line, input_line}
 use Rattle.observables.specs.Answers.{Observation, values, stopped}
 use Rattle.observables.specs.declared.answer.Answer.{Answer}
 use Rattle.observables.specs.declared.answer.Answer.TheVariants.{Values, Stopped as AnswerStopped}
@@ -10,17 +9,21 @@ use Rattle.household.specs.declared.fault.HouseholdFault.TheVariants.{BadHeader,
 use Rattle.command_plans.specs.declared.status.Status.{Status}
 use Rattle.command_plans.specs.declared.status.Status.TheVariants.{Done, Stopped}
 
--- The line of a fault; none for out of memory. An unknown code in record 2 has `refused household line 2: unknown
--- code`.
+-- The line of a fault of records, which the input is named for; none for out of memory. An unknown code in record 2 of a
+-- household has `refused household line 2: unknown code`.
+abbrev pub records_fault_line : (input : List ℕ) → HouseholdFault → Option (List ℕ)
+records_fault_line input BadHeader = Some (input_line input (codes "bad header"))
+records_fault_line input TooManyRows = Some (input_line input (codes "too many rows"))
+records_fault_line input (BadRow line) = Some (at_line input line (codes "bad row"))
+records_fault_line input (UnknownCode line) = Some (at_line input line (codes "unknown code"))
+records_fault_line input (BadAmount line) = Some (at_line input line (codes "bad amount"))
+records_fault_line input (NotOfType line) = Some (at_line input line (codes "not of its type"))
+records_fault_line input (CodeTwice line) = Some (at_line input line (codes "code twice"))
+records_fault_line input Memory = None
+
+-- the line of a fault of a household or a table
 abbrev pub household_fault_line : HouseholdFault → Option (List ℕ)
-household_fault_line BadHeader = Some household_header_line
-household_fault_line TooManyRows = Some too_many_rows_line
-household_fault_line (BadRow line) = Some (household_line line row.BadRow)
-household_fault_line (UnknownCode line) = Some (household_line line row.UnknownCode)
-household_fault_line (BadAmount line) = Some (household_line line row.BadAmount)
-household_fault_line (NotOfType line) = Some (household_line line row.NotOfType)
-household_fault_line (CodeTwice line) = Some (household_line line row.CodeTwice)
-household_fault_line Memory = None
+household_fault_line fault = records_fault_line (codes "household") fault
 
 -- the status of an observation: the values, or what stopped the run
 abbrev pub observation_status : Observation → Status

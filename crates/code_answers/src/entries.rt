@@ -5,7 +5,7 @@ ghost use Rattle.tax_print.specs.FaultLines.{fault_line};
 ghost use Rattle.command_plans.specs.Views.{output_view};
 ghost use Rattle.code_answers.specs.Cases.{cases_fault_line};
 ghost use Rattle.code_answers.specs.Execs.{code_fault_line};
-ghost use Rattle.code_answers.specs.Households.{answer_status, household_fault_line};
+ghost use Rattle.code_answers.specs.Households.{answer_status, household_fault_line, records_fault_line};
 ghost use Rattle.code_answers.specs.inner.Refusals.{ReportsLine};
 
 use code_file::CodeFault;
@@ -14,7 +14,7 @@ use household::HouseholdFault;
 use m_cases::CasesFault;
 use m_ports::Sink;
 use observables::Answer;
-use tax_print::{CodeFault as Words, Fault, RowFault};
+use tax_print::Fault;
 
 /// Reports why the input is rejected, or nothing for out of memory, and gives the status.
 pub fn report_refusal<K: Sink>(out: &mut K, reported: Option<Fault<'_>>) -> Status
@@ -26,22 +26,27 @@ pub fn report_refusal<K: Sink>(out: &mut K, reported: Option<Fault<'_>>) -> Stat
     }
 }
 
+/// Maps a fault of the records of an input to its line; none for out of memory.
+pub fn records_entry<'a>(input: &'a [u8], fault: HouseholdFault) -> Option<Fault<'a>>
+    ensures { option_map fault_line result ≡ records_fault_line input.now fault }
+{
+    match fault {
+        HouseholdFault::BadHeader => Some(Fault::InInput(input, b"bad header")),
+        HouseholdFault::TooManyRows => Some(Fault::InInput(input, b"too many rows")),
+        HouseholdFault::BadRow(line) => Some(Fault::AtLine(input, line, b"bad row")),
+        HouseholdFault::UnknownCode(line) => Some(Fault::AtLine(input, line, b"unknown code")),
+        HouseholdFault::BadAmount(line) => Some(Fault::AtLine(input, line, b"bad amount")),
+        HouseholdFault::NotOfType(line) => Some(Fault::AtLine(input, line, b"not of its type")),
+        HouseholdFault::CodeTwice(line) => Some(Fault::AtLine(input, line, b"code twice")),
+        HouseholdFault::Memory => None,
+    }
+}
+
 /// Maps a fault of a household or a table to its line; none for out of memory.
 pub fn household_entry<'a>(fault: HouseholdFault) -> Option<Fault<'a>>
     ensures { option_map fault_line result ≡ household_fault_line fault }
 {
-    match fault {
-        HouseholdFault::BadHeader => Some(Fault::HouseholdHeader),
-        HouseholdFault::TooManyRows => Some(Fault::TooManyRows),
-        HouseholdFault::BadRow(line) => Some(Fault::HouseholdLine(line, RowFault::BadRow)),
-        HouseholdFault::UnknownCode(line) => {
-            Some(Fault::HouseholdLine(line, RowFault::UnknownCode))
-        }
-        HouseholdFault::BadAmount(line) => Some(Fault::HouseholdLine(line, RowFault::BadAmount)),
-        HouseholdFault::NotOfType(line) => Some(Fault::HouseholdLine(line, RowFault::NotOfType)),
-        HouseholdFault::CodeTwice(line) => Some(Fault::HouseholdLine(line, RowFault::CodeTwice)),
-        HouseholdFault::Memory => None,
-    }
+    records_entry(b"household", fault)
 }
 
 /// Maps a fault of a table of cases to its line; none for out of memory.
@@ -49,17 +54,19 @@ pub(crate) fn cases_entry<'a>(fault: CasesFault) -> Option<Fault<'a>>
     ensures { option_map fault_line result ≡ cases_fault_line fault }
 {
     match fault {
-        CasesFault::BadHeader => Some(Fault::HouseholdHeader),
-        CasesFault::TooManyRows => Some(Fault::TooManyRows),
-        CasesFault::BadRow(line) => Some(Fault::HouseholdLine(line, RowFault::BadRow)),
-        CasesFault::UnknownCode(line) => Some(Fault::HouseholdLine(line, RowFault::UnknownCode)),
-        CasesFault::UnknownOutput(line) => {
-            Some(Fault::HouseholdLine(line, RowFault::UnknownOutput))
-        }
-        CasesFault::CodeTwice(line) => Some(Fault::HouseholdLine(line, RowFault::CodeTwice)),
-        CasesFault::BadAmount(line) => Some(Fault::HouseholdLine(line, RowFault::BadAmount)),
-        CasesFault::NotOfType(line) => Some(Fault::HouseholdLine(line, RowFault::NotOfType)),
-        CasesFault::BadExpected(line) => Some(Fault::HouseholdLine(line, RowFault::BadExpected)),
+        CasesFault::BadHeader => Some(Fault::InInput(b"household", b"bad header")),
+        CasesFault::TooManyRows => Some(Fault::InInput(b"household", b"too many rows")),
+        CasesFault::BadRow(line) => Some(Fault::AtLine(b"household", line, b"bad row")),
+        CasesFault::UnknownCode(line) => Some(Fault::AtLine(b"household", line, b"unknown code")),
+        CasesFault::UnknownOutput(line) => Some(Fault::AtLine(
+            b"household",
+            line,
+            b"unknown output",
+        )),
+        CasesFault::CodeTwice(line) => Some(Fault::AtLine(b"household", line, b"code twice")),
+        CasesFault::BadAmount(line) => Some(Fault::AtLine(b"household", line, b"bad amount")),
+        CasesFault::NotOfType(line) => Some(Fault::AtLine(b"household", line, b"not of its type")),
+        CasesFault::BadExpected(line) => Some(Fault::AtLine(b"household", line, b"bad expected")),
         CasesFault::Memory => None,
     }
 }
@@ -69,9 +76,9 @@ pub fn code_entry<'a>(fault: CodeFault) -> Option<Fault<'a>>
     ensures { option_map fault_line result ≡ code_fault_line fault }
 {
     match fault {
-        CodeFault::BadHeader => Some(Fault::CodeHeader),
-        CodeFault::BadLine(line) => Some(Fault::CodeLine(line, Words::BadLine)),
-        CodeFault::BadOrder(line) => Some(Fault::CodeLine(line, Words::ReadBeforeWrite)),
+        CodeFault::BadHeader => Some(Fault::InInput(b"code", b"bad header")),
+        CodeFault::BadLine(line) => Some(Fault::AtLine(b"code", line, b"bad line")),
+        CodeFault::BadOrder(line) => Some(Fault::AtLine(b"code", line, b"read before write")),
         CodeFault::Memory => None,
     }
 }

@@ -18,7 +18,7 @@ mod texts;
 
 pub use batch::{answer_batch, rows_of, status_of_rows};
 pub use cases::answer_cases;
-pub use entries::{code_entry, household_entry, report_refusal};
+pub use entries::{code_entry, household_entry, records_entry, report_refusal};
 pub use exec::exec_code;
 pub use given::read_given;
 pub use large::answer_large;

@@ -42,8 +42,16 @@ fn serve_counted<R: Replier, S: Source, K: Sink, L: Ledger>(
     let mut steps = Steps::<L>::begin(blank);
     match serve(replier, input, out, &mut steps) {
         ServeEnd::Done => Status::Done,
-        ServeEnd::ReadFault => print_fault(out, Fault::UnreadableInput, Status::ReadFault),
+        ServeEnd::ReadFault => {
+            print_fault(out, Fault::Words(b"unreadable input"), Status::ReadFault)
+        }
         ServeEnd::WriteFault => Status::WriteFault,
-        ServeEnd::TooLong => print_fault(out, Fault::InputTooLong, Status::Refused),
+        ServeEnd::TooLong => {
+            print_fault(
+                out,
+                Fault::Words(b"refused input too long"),
+                Status::Refused,
+            )
+        }
     }
 }

@@ -33,7 +33,8 @@ pub fn report_ending<K: Sink>(out: &mut K, ending: &Ending) -> Status
     match ending {
         Ending::Refused(refusal) => print_fault(out, refusal.fault(), Status::Refused),
         Ending::Unreadable(name) => {
-            print_fault(out, Fault::Unreadable(name.bytes()), Status::ReadFault)
+            let fault = Fault::OfName(b"unreadable ", name.bytes());
+            print_fault(out, fault, Status::ReadFault)
         }
         Ending::Memory => Status::Memory,
     }

@@ -22,9 +22,9 @@ impl Refusal {
         ensures { fault_line result ≡ refusal_line self.now }
     {
         match self {
-            Refusal::ListLine(line) => Fault::ListLine(*line),
-            Refusal::TooManyFiles => Fault::TooManyFiles,
-            Refusal::FileTooLong(name) => Fault::FileTooLong(name.bytes()),
+            Refusal::ListLine(line) => Fault::OfNumber(b"refused list line ", (*line).into()),
+            Refusal::TooManyFiles => Fault::Words(b"refused too many files"),
+            Refusal::FileTooLong(name) => Fault::OfName(b"refused file too long ", name.bytes()),
         }
     }
 }

@@ -1,8 +1,6 @@
 -- `check` has one answer.
-use Rattle.std.proofs.Common.{◌≡◌, ℕ, ◌+◌, ℤ, List, Ok, refl, ap, subst}
+use Rattle.std.proofs.Common.{◌≡◌, ℕ, ℤ, List, Ok, refl, ap, subst}
 use Rattle.m_places.specs.declared.source.Source.{Source}
-use Rattle.tax_print.specs.FaultLines.{report_line}
-use Rattle.tax_print.specs.declared.fault.ReportFault.TheVariants as words
 use Rattle.household.specs.Household.{household_of}
 use Rattle.m_symbols.specs.Declarations.{Declared}
 use Rattle.micro_m.specs.declared.base.Base.{Base}
@@ -15,7 +13,7 @@ use Rattle.m_compile.proofs.OneLaws.{no_base_and_base_fault, one_base_fault, one
 use Rattle.command_plans.specs.Status.{IsComplete}
 use Rattle.code_answers.specs.Households.{household_fault_line}
 use Rattle.command_plans.specs.declared.status.Status.{Status}
-use Rattle.rule_answers.specs.Checks.{CheckHasAnswer, CheckReplies, ReportReplies, given_by, report_fault_line}
+use Rattle.rule_answers.specs.Checks.{CheckHasAnswer, CheckReplies, ReportReplies, given_by, report_fault_line, unsound_line}
 use Rattle.rule_answers.specs.Checks as check
 use Rattle.m_commands.specs.Output.{AreOneOutput, the_same}
 use Rattle.command_plans.proofs.PrintedLemmas.{one_line as one_line_of}
@@ -45,7 +43,7 @@ one_report declared base rows report t u s r (check.is_unsound pairs lines posit
 one_report declared base rows report t u s r (check.is_unsound pairs lines position g i k) (check.is_unsound given others place h j l) =
     let p : pairs ≡ given = cc (g, h) in
     let q : lines ≡ others = cc (i, j) in
-    the_same (ap (λ n. report_line (n + 1) words.NotSound)
+    the_same (ap unsound_line
     (one_unsound base (given_by declared given) others position place (moved declared base pairs given lines others position p q k) l)) refl
 one_report declared base rows report t u s r (check.is_unsound pairs lines position g i k) (check.is_sound given others h j l) =
     let p : pairs ≡ given = cc (g, h) in

@@ -21,6 +21,10 @@ use std::alloc::Global;
 use std::thread::Threads;
 use tax_print::Fault;
 
+/// The line that is printed if the command line isn't a command.
+const USAGE: &[u8] =
+    b"usage: m_tax run|serve LIST DRIVER REQUESTS HOUSEHOLD, batch LIST DRIVER REQUESTS TABLE, compile LIST DRIVER REQUESTS, exec CODEFILE HOUSEHOLD, large N, check LIST HOUSEHOLD REPORT, lint LIST DRIVER REQUESTS, cases LIST DRIVER REQUESTS TABLE";
+
 // Executes the command of these words.
 fn perform<R: Threads + Sync, F: Files, S: Source, K: Sink>(
     rt: &R,
@@ -40,7 +44,7 @@ fn perform<R: Threads + Sync, F: Files, S: Source, K: Sink>(
             drop(command);
             status
         }
-        Ok(None) => print_fault(out, Fault::Usage, Status::Usage),
+        Ok(None) => print_fault(out, Fault::Words(USAGE), Status::Usage),
         Err(_) => Status::Memory,
     }
 }

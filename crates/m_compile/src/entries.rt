@@ -1,8 +1,8 @@
 //! Maps each fault of a source to its message. Takes no memory.
 
-ghost use Rattle.std.specs.Prelude.{◌≡◌};
+ghost use Rattle.std.specs.Prelude.{◌≡◌, ◌++◌, codes};
 ghost use Rattle.std.specs.Option.{option_map};
-ghost use Rattle.tax_print.specs.FaultLines.{fault_line, place_line, name_line, driver_name_line};
+ghost use Rattle.tax_print.specs.FaultLines.{fault_line, at_line, at_place};
 ghost use Rattle.m_compile.specs.Lines.{file_of, source_line, rule_line, lex_line, parse_line, declare_line};
 ghost use Rattle.m_compile.specs.Lines.{expand_line, resolve_line, driver_fault_line, core_line, request_fault_line};
 
@@ -16,7 +16,7 @@ use m_symbols::{DeclareFault, RequestFault};
 use mpp_core::CoreFault;
 use mpp_lexer::DriverFault;
 use rule_base::RuleFault;
-use tax_print::{DriverFault as LineFault, DriverNameFault, Fault, NameFault, PlaceFault};
+use tax_print::Fault;
 
 /// Maps a fault of a source with these rule files to its message, which names the file, the line
 /// and the byte; `None` for running out of memory.
@@ -28,7 +28,10 @@ pub fn fault_entry<'a>(texts: &'a [Text], fault: &'a SourceFault) -> Option<Faul
         SourceFault::Driver(fault) => observation_lines(*fault),
         SourceFault::Core(fault) => core_entry(fault),
         SourceFault::Requests(fault) => requests_entry(*fault),
-        SourceFault::DriverTooLarge(weight) => Some(Fault::DriverTooLarge(*weight)),
+        SourceFault::DriverTooLarge(weight) => Some(Fault::OfNumber(
+            b"refused driver too large ",
+            *weight,
+        )),
         SourceFault::Memory => None,
     }
 }
@@ -42,7 +45,7 @@ fn rules_entry<'a>(texts: &'a [Text], fault: &'a RuleFault) -> Option<Fault<'a>>
         RuleFault::Declare(fault) => declarations_entry(texts, fault),
         RuleFault::Expand(fault) => loops_entry(texts, *fault),
         RuleFault::Resolve(fault) => names_entry(texts, fault),
-        RuleFault::Cycle(names) => Some(Fault::Cycle(names.as_slice())),
+        RuleFault::Cycle(names) => Some(Fault::OfNames(b"refused cycle", names.as_slice())),
         RuleFault::Memory => None,
     }
 }
@@ -51,9 +54,9 @@ fn tokens_entry(texts: &[Text], fault: LexFault) -> Option<Fault<'_>>
     ensures { option_map fault_line result ≡ lex_line texts.now fault }
 {
     match fault {
-        LexFault::BadByte(place) => Some(at_place(texts, place, PlaceFault::BadByte)),
-        LexFault::OpenString(place) => Some(at_place(texts, place, PlaceFault::OpenString)),
-        LexFault::NumberTooGreat(place) => Some(at_place(texts, place, PlaceFault::NumberTooGreat)),
+        LexFault::BadByte(place) => Some(at_place(texts, place, b"bad byte")),
+        LexFault::OpenString(place) => Some(at_place(texts, place, b"open string")),
+        LexFault::NumberTooGreat(place) => Some(at_place(texts, place, b"number too great")),
         LexFault::Memory => None,
     }
 }
@@ -62,8 +65,8 @@ fn items_entry(texts: &[Text], fault: ParseFault) -> Option<Fault<'_>>
     ensures { option_map fault_line result ≡ parse_line texts.now fault }
 {
     match fault {
-        ParseFault::TooDeep(place) => Some(at_place(texts, place, PlaceFault::TooDeep)),
-        ParseFault::Syntax(place) => Some(at_place(texts, place, PlaceFault::Syntax)),
+        ParseFault::TooDeep(place) => Some(at_place(texts, place, b"too deep")),
+        ParseFault::Syntax(place) => Some(at_place(texts, place, b"syntax")),
         ParseFault::Memory => None,
     }
 }
@@ -72,16 +75,20 @@ fn declarations_entry<'a>(texts: &'a [Text], fault: &'a DeclareFault) -> Option<
     ensures { option_map fault_line result ≡ declare_line texts.now fault.now }
 {
     match fault {
-        DeclareFault::DeclaredTwice(name, _, place) => {
-            Some(at_name(texts, *place, NameFault::DeclaredTwice, name))
-        }
-        DeclareFault::AliasTwice(code, _, place) => {
-            Some(at_name(texts, *place, NameFault::AliasTwice, code))
-        }
-        DeclareFault::TableSize(place) => Some(at_place(texts, *place, PlaceFault::TableSize)),
-        DeclareFault::TooManyCells(place) => {
-            Some(at_place(texts, *place, PlaceFault::TooManyCells))
-        }
+        DeclareFault::DeclaredTwice(name, _, place) => Some(at_name(
+            texts,
+            *place,
+            b"declared twice ",
+            name,
+        )),
+        DeclareFault::AliasTwice(code, _, place) => Some(at_name(
+            texts,
+            *place,
+            b"alias twice ",
+            code,
+        )),
+        DeclareFault::TableSize(place) => Some(at_place(texts, *place, b"table size")),
+        DeclareFault::TooManyCells(place) => Some(at_place(texts, *place, b"too many cells")),
         DeclareFault::Memory => None,
     }
 }
@@ -90,10 +97,10 @@ fn loops_entry(texts: &[Text], fault: ExpandFault) -> Option<Fault<'_>>
     ensures { option_map fault_line result ≡ expand_line texts.now fault }
 {
     match fault {
-        ExpandFault::BadRange(place) => Some(at_place(texts, place, PlaceFault::BadRange)),
-        ExpandFault::LoopTooLarge(place) => Some(at_place(texts, place, PlaceFault::LoopTooLarge)),
-        ExpandFault::UnboundIndex(place) => Some(at_place(texts, place, PlaceFault::UnboundIndex)),
-        ExpandFault::TooManyParts(place) => Some(at_place(texts, place, PlaceFault::TooManyParts)),
+        ExpandFault::BadRange(place) => Some(at_place(texts, place, b"bad range")),
+        ExpandFault::LoopTooLarge(place) => Some(at_place(texts, place, b"loop too large")),
+        ExpandFault::UnboundIndex(place) => Some(at_place(texts, place, b"unbound index")),
+        ExpandFault::TooManyParts(place) => Some(at_place(texts, place, b"too many parts")),
         ExpandFault::Memory => None,
     }
 }
@@ -102,24 +109,27 @@ fn names_entry<'a>(texts: &'a [Text], fault: &'a ResolveFault) -> Option<Fault<'
     ensures { option_map fault_line result ≡ resolve_line texts.now fault.now }
 {
     match fault {
-        ResolveFault::UnknownName(name, place) => {
-            Some(at_name(texts, *place, NameFault::UnknownName, name))
-        }
-        ResolveFault::NotATable(name, place) => {
-            Some(at_name(texts, *place, NameFault::NotATable, name))
-        }
-        ResolveFault::IsATable(name, place) => {
-            Some(at_name(texts, *place, NameFault::IsATable, name))
-        }
-        ResolveFault::BadTarget(name, place) => {
-            Some(at_name(texts, *place, NameFault::BadTarget, name))
-        }
-        ResolveFault::DefinedTwice(name, place) => {
-            Some(at_name(texts, *place, NameFault::DefinedTwice, name))
-        }
-        ResolveFault::UnknownError(name, place) => {
-            Some(at_name(texts, *place, NameFault::UnknownError, name))
-        }
+        ResolveFault::UnknownName(name, place) => Some(at_name(
+            texts,
+            *place,
+            b"unknown name ",
+            name,
+        )),
+        ResolveFault::NotATable(name, place) => Some(at_name(texts, *place, b"not a table ", name)),
+        ResolveFault::IsATable(name, place) => Some(at_name(texts, *place, b"is a table ", name)),
+        ResolveFault::BadTarget(name, place) => Some(at_name(texts, *place, b"bad target ", name)),
+        ResolveFault::DefinedTwice(name, place) => Some(at_name(
+            texts,
+            *place,
+            b"defined twice ",
+            name,
+        )),
+        ResolveFault::UnknownError(name, place) => Some(at_name(
+            texts,
+            *place,
+            b"unknown error ",
+            name,
+        )),
         ResolveFault::Memory => None,
     }
 }
@@ -128,9 +138,9 @@ fn observation_lines<'a>(fault: DriverFault) -> Option<Fault<'a>>
     ensures { option_map fault_line result ≡ driver_fault_line fault }
 {
     match fault {
-        DriverFault::DriverToken(line) => Some(Fault::DriverLine(line, LineFault::BadToken)),
-        DriverFault::DriverTooDeep(line) => Some(Fault::DriverLine(line, LineFault::TooDeep)),
-        DriverFault::DriverSyntax(line) => Some(Fault::DriverLine(line, LineFault::Syntax)),
+        DriverFault::DriverToken(line) => Some(Fault::AtLine(b"driver", line, b"bad token")),
+        DriverFault::DriverTooDeep(line) => Some(Fault::AtLine(b"driver", line, b"too deep")),
+        DriverFault::DriverSyntax(line) => Some(Fault::AtLine(b"driver", line, b"syntax")),
         DriverFault::Memory => None,
     }
 }
@@ -139,17 +149,14 @@ fn core_entry(fault: &CoreFault) -> Option<Fault<'_>>
     ensures { option_map fault_line result ≡ core_line fault.now }
 {
     match fault {
-        CoreFault::FunctionTwice(name, line) => {
-            Some(of_name(*line, DriverNameFault::FunctionTwice, name))
-        }
-        CoreFault::NoMain => Some(Fault::NoMain),
-        CoreFault::UnknownInDriver(name, line) => {
-            Some(of_name(*line, DriverNameFault::Unknown, name))
-        }
-        CoreFault::BadTargetInDriver(name, line) => {
-            Some(of_name(*line, DriverNameFault::BadTarget, name))
-        }
-        CoreFault::DriverRecursion(names) => Some(Fault::DriverRecursion(names.as_slice())),
+        CoreFault::FunctionTwice(name, line) => Some(of_name(*line, b"function twice ", name)),
+        CoreFault::NoMain => Some(Fault::InInput(b"driver", b"no main")),
+        CoreFault::UnknownInDriver(name, line) => Some(of_name(*line, b"unknown ", name)),
+        CoreFault::BadTargetInDriver(name, line) => Some(of_name(*line, b"bad target ", name)),
+        CoreFault::DriverRecursion(names) => Some(Fault::OfNames(
+            b"refused driver recursion",
+            names.as_slice(),
+        )),
         CoreFault::Memory => None,
     }
 }
@@ -158,31 +165,34 @@ fn requests_entry<'a>(fault: RequestFault) -> Option<Fault<'a>>
     ensures { option_map fault_line result ≡ request_fault_line fault }
 {
     match fault {
-        RequestFault::BadRequest(line) => Some(Fault::RequestLine(line)),
-        RequestFault::TooManyRequests => Some(Fault::TooManyRequests),
+        RequestFault::BadRequest(line) => Some(Fault::OfNumber(
+            b"refused requests line ",
+            line.into(),
+        )),
+        RequestFault::TooManyRequests => Some(Fault::Words(b"refused too many requests")),
         RequestFault::Memory => None,
     }
 }
 
 // A fault in a line of the driver, with the name in question.
-fn of_name(line: u32, fault: DriverNameFault, name: &Name) -> Fault<'_>
-    ensures { fault_line result ≡ driver_name_line line fault name.now }
+fn of_name<'a>(line: u32, words: &'a [u8], name: &'a Name) -> Fault<'a>
+    ensures { fault_line result ≡ at_line (codes "driver") line (words.now ++ name.now) }
 {
-    Fault::DriverName(line, fault, name.bytes())
+    Fault::AtLineName(b"driver", line, words, name.bytes())
 }
 
 // A fault at a place in a rule file.
-fn at_place(texts: &[Text], place: Place, fault: PlaceFault) -> Fault<'_>
-    ensures { fault_line result ≡ place_line (file_of texts.now place) place fault }
+fn at_place<'a>(texts: &'a [Text], place: Place, words: &'a [u8]) -> Fault<'a>
+    ensures { fault_line result ≡ at_place (file_of texts.now place) place words.now }
 {
-    Fault::AtPlace(file_of(texts, place), place, fault)
+    Fault::AtPlace(file_of(texts, place), place, words)
 }
 
 // A fault at a place in a rule file, with the name in question.
-fn at_name<'a>(texts: &'a [Text], place: Place, fault: NameFault, name: &'a Name) -> Fault<'a>
-    ensures { fault_line result ≡ name_line (file_of texts.now place) place fault name.now }
+fn at_name<'a>(texts: &'a [Text], place: Place, words: &'a [u8], name: &'a Name) -> Fault<'a>
+    ensures { fault_line result ≡ at_place (file_of texts.now place) place (words.now ++ name.now) }
 {
-    Fault::AtName(file_of(texts, place), place, fault, name.bytes())
+    Fault::AtPlaceName(file_of(texts, place), place, words, name.bytes())
 }
 
 // The name of the file of a place.

@@ -1,8 +1,7 @@
 -- The answer of `check`.
 use Rattle.std.specs.Prelude.{◌≡◌, ℕ, ◌+◌, ℤ, List, [], ◌∷◌, length, codes, Option, None, Some, Ok, Err}
 use Rattle.m_text.specs.Pieces.{joined, new_line}
-use Rattle.tax_print.specs.FaultLines.{report_line}
-use Rattle.tax_print.specs.declared.fault.ReportFault.TheVariants as words
+use Rattle.tax_print.specs.FaultLines.{at_line}
 use Rattle.m_places.specs.declared.source.Source.{Source}
 use Rattle.household.specs.Household.{household_of, values_of}
 use Rattle.household.specs.declared.fault.HouseholdFault.{HouseholdFault}
@@ -27,8 +26,12 @@ use Rattle.code_answers.specs.Households.{household_fault_line}
 -- The line of a fault of a report; none for out of memory. A malformed second line has `refused report line 2: bad
 -- line`.
 abbrev pub report_fault_line : ReportFault → Option (List ℕ)
-report_fault_line (BadLine number) = Some (report_line number words.BadLine)
+report_fault_line (BadLine number) = Some (at_line (codes "report") number (codes "bad line"))
 report_fault_line Memory = None
+
+-- the line of a derivation whose line at this position isn't sound: `refused report line 2: not sound`
+abbrev pub unsound_line : ℕ → List ℕ
+unsound_line position = at_line (codes "report") (position + 1) (codes "not sound")
 
 -- the line of a derivation that is sound
 abbrev pub sound_line : List ℕ
@@ -49,7 +52,7 @@ pub data ReportReplies (declared : Declared) (base : Base) (rows report : List �
       → parsed_report declared report ≡ Err fault → report_fault_line fault ≡ Some line → ReportReplies declared base rows report line Refused
   is_unsound : (pairs : List (ℕ × ℤ)) (lines : List ReportLine) (position : ℕ) → household_of (inputs_declared declared) rows ≡ Ok pairs
       → parsed_report declared report ≡ Ok lines → IsFirstUnsound base (given_by declared pairs) lines position
-      → ReportReplies declared base rows report (report_line (position + 1) words.NotSound) Refused
+      → ReportReplies declared base rows report (unsound_line position) Refused
   is_sound : (pairs : List (ℕ × ℤ)) (lines : List ReportLine) → household_of (inputs_declared declared) rows ≡ Ok pairs
       → parsed_report declared report ≡ Ok lines → IsSound base (given_by declared pairs) lines → ReportReplies declared base rows report sound_line Done
 

@@ -33,7 +33,7 @@ use observables::Coded;
 use rule_base::RuleBase;
 use std::alloc::{AllocError, Global};
 use std::thread::Threads;
-use tax_print::{Fault, ReportFault};
+use tax_print::Fault;
 use why_report::{ReportLine, first_unsound, read_report};
 
 /// Makes the base of the rules of a source, and prints whether the report of these bytes is a sound derivation over
@@ -188,7 +188,7 @@ fn report_found<K: Sink>(found: Option<u32>, out: &mut K) -> Status
         None => printed(give_pieces(out, &[b"sound\n"]), Status::Done),
         Some(position) => print_fault(
             out,
-            Fault::ReportLine(position + 1, ReportFault::NotSound),
+            Fault::AtLine(b"report", position + 1, b"not sound"),
             Status::Refused,
         ),
     }

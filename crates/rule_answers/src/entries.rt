@@ -12,7 +12,7 @@ use command_plans::Status;
 use m_compile::{SourceFault, fault_entry};
 use m_places::Source;
 use m_ports::Sink;
-use tax_print::{Fault, ReportFault as ReportWords};
+use tax_print::Fault;
 use why_report::ReportFault;
 
 /// Reports the fault of a source by its line, or out of memory by no line. It takes the fault by value, so that the
@@ -30,7 +30,7 @@ pub(crate) fn report_entry<'a>(fault: ReportFault) -> Option<Fault<'a>>
     ensures { option_map fault_line result ≡ report_fault_line fault }
 {
     match fault {
-        ReportFault::BadLine(line) => Some(Fault::ReportLine(line, ReportWords::BadLine)),
+        ReportFault::BadLine(line) => Some(Fault::AtLine(b"report", line, b"bad line")),
         ReportFault::Memory => None,
     }
 }

@@ -1,13 +1,11 @@
 -- The answer of `facts`.
-use Rattle.std.specs.Prelude.{◌≡◌, ℕ, List, [], ◌∷◌, Option, Some, None, Result, Ok, Err, codes, decimal}
-use Rattle.m_text.specs.Pieces.{joined, new_line}
+use Rattle.std.specs.Prelude.{◌≡◌, ℕ, List, Option, Some, None, Result, Ok, Err, codes}
 use Rattle.m_places.specs.declared.source.Source.{Source}
 use Rattle.definedness.specs.Facts.{Possible}
 use Rattle.observables.specs.declared.inputs.Coded.{Coded}
 use Rattle.m_symbols.specs.Declarations.{Declared}
 use Rattle.micro_m.specs.declared.base.Base.{Base}
 use Rattle.household.specs.declared.fault.HouseholdFault.{HouseholdFault}
-use Rattle.household.specs.declared.fault.HouseholdFault.TheVariants.{BadHeader, TooManyRows, BadRow, UnknownCode, BadAmount, NotOfType, CodeTwice, Memory}
 use Rattle.input_ranges.specs.Ranges.{ranges_of, type_facts}
 use Rattle.m_facts.specs.Lines.{facts_text}
 use Rattle.m_compile.specs.Compiled.{IsProgramOf}
@@ -18,6 +16,7 @@ use Rattle.m_compile.specs.declared.compiling.Program.{Program}
 use Rattle.m_compile.specs.declared.fault.SourceFault.{SourceFault}
 use Rattle.command_plans.specs.declared.status.Status.{Status}
 use Rattle.command_plans.specs.declared.status.Status.TheVariants.{Done, Refused}
+use Rattle.code_answers.specs.Households.{records_fault_line}
 use Rattle.code_answers.specs.Replies.{HasGiven}
 use Rattle.code_answers.specs.Schemes.{Scheme}
 use Rattle.command_answers.specs.Sources.{IsScheme}
@@ -29,23 +28,9 @@ abbrev pub given_by : List Coded → Option (List ℕ) → Result (List Possible
 given_by inputs None = Ok (type_facts inputs)
 given_by inputs (Some bytes) = ranges_of inputs bytes
 
-abbrev pub file_line : List ℕ → List ℕ
-file_line words = joined (codes "refused ranges: " ∷ words ∷ new_line ∷ [])
-
-abbrev pub row_line : ℕ → List ℕ → List ℕ
-row_line line words = joined (codes "refused ranges line " ∷ decimal line ∷ codes ": " ∷ words ∷ new_line ∷ [])
-
--- The line of a fault of ranges; none for out of memory. An unknown code in record 2 has `refused ranges line 2:
--- unknown code`.
+-- the line of a fault of ranges; none for out of memory
 abbrev pub ranges_fault_line : HouseholdFault → Option (List ℕ)
-ranges_fault_line BadHeader = Some (file_line (codes "bad header"))
-ranges_fault_line TooManyRows = Some (file_line (codes "too many rows"))
-ranges_fault_line (BadRow line) = Some (row_line line (codes "bad row"))
-ranges_fault_line (UnknownCode line) = Some (row_line line (codes "unknown code"))
-ranges_fault_line (BadAmount line) = Some (row_line line (codes "bad amount"))
-ranges_fault_line (NotOfType line) = Some (row_line line (codes "not of its type"))
-ranges_fault_line (CodeTwice line) = Some (row_line line (codes "code twice"))
-ranges_fault_line Memory = None
+ranges_fault_line fault = records_fault_line (codes "ranges") fault
 
 -- ---- answers
 

@@ -11,7 +11,8 @@ ghost use Rattle.survey_commands.specs.Facts.{FactsReplies};
 ghost use Rattle.survey_commands.specs.inner.Finding.{IsFactsBy, IsFactsOf};
 
 use crate::found::give_found;
-use crate::ranges::{given_facts, report_ranges};
+use crate::ranges::given_facts;
+use code_answers::{records_entry, report_refusal};
 use command_plans::{Status, printed};
 use definedness::Fact;
 use m_compile::{Program, compile_with_rules};
@@ -67,7 +68,7 @@ fn answer_facts<K: Sink>(
             drop(given);
             status
         }
-        Err(fault) => report_ranges(fault, out),
+        Err(fault) => report_refusal(out, records_entry(b"ranges", fault)),
     }
 }
 

@@ -12,7 +12,7 @@ use Rattle.observables.specs.declared.face.FaceLabel.{FaceLabel}
 use Rattle.observables.specs.declared.face.FaceOutput.{FaceOutput}
 use Rattle.observables.specs.declared.face.FaceOutput.TheVariants.{Named, Noted}
 use Rattle.observables.specs.Answers.{reported_note, reported_notes}
-use Rattle.observables.specs.Outputs.{are_named, names_of, notes_of, notes_stand_first, verif_at}
+use Rattle.observables.specs.Outputs.{are_named, names_of, notes_of, notes_stand_first}
 use Rattle.tax_print.specs.Lines.{label_lines, notes_lines, output_lines, outputs_lines, value_line, values_lines}
 
 -- ---- from one output on

@@ -2,22 +2,19 @@
 //! of a household, and the line of each error.
 //!
 //! Uses the outputs of `m_ports` and the answers and interfaces of `observables`. Knows nothing of
-//! files or commands, nor of what an error means: each crate maps its own errors to a `Fault`, for
-//! which one definition, `fault_line`, gives the line.
+//! files or commands, nor of what an error means: each crate maps its own errors to a `Fault`, with
+//! their words, and one definition, `fault_line`, gives the line.
 #![tactic(auto)]
 
 mod answer;
 mod fault;
 mod fault_line;
-mod fault_words;
 mod note;
 mod stop;
 mod value;
 
 pub use answer::{print_answer, print_household};
-pub use fault::{
-    CodeFault, DriverFault, DriverNameFault, Fault, NameFault, PlaceFault, ReportFault, RowFault,
-};
+pub use fault::Fault;
 pub use fault_line::give_fault;
 pub use note::reported_note;
 pub use stop::{label_number, print_stop};

@@ -22,4 +22,4 @@ returns-in-Ok g c =
 pub returns-in-Err : goal.returns-in-Err
 returns-in-Err g c =
     ranges_refused c.args.base.now c.args.program.now c.args.ranges.now c.in-Err.fault _ _ _ (rw c.as_slice-inputs.ensures at c.in-Err.ensures)
-    c.report_ranges.ensures
+    (rw c.records_entry.ensures at c.report_refusal.ensures)

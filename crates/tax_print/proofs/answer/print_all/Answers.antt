@@ -1,4 +1,4 @@
-use Rattle.std.proofs.Common.{◌<◌, length, refl, ◌∙◌, arith}
+use Rattle.std.proofs.Common.{◌<◌, length, refl, arith}
 use Rattle.std.proofs.lemmas.Result.{err_from_is_err_and}
 use Rattle.m_ports.proofs.GivingLemmas.{piece_given, piece_failed, all_given}
 use Rattle.tax_print.proofs.ValuesLemmas.{outputs_at, outputs_end}

@@ -1,5 +1,3 @@
-use Rattle.std.proofs.Common.{◌≡◌}
-use Rattle.observables.specs.Outputs.{names_of, notes_of}
 use Rattle.tax_print.proofs.ValuesLemmas.{outputs_reported}
 use Rattle.tax_print.proofs.answer.print_answer.Goals as goal
 
