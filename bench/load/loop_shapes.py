@@ -33,18 +33,18 @@ def _(n):
 TABLE = 'T : tableau[2] calculee : "" ;\n'
 
 
-@shape("pour headers of two over each cell of a table", 1_001, stacks=DEEP)
+@shape("pour headers of two over each cell of a table", 1_001, stacks=DEEP, little=True)
 def _(n):
     return case([TABLE, RULE, *many("pour i = 1..2 : ", n), "T[X] = 1 ;"], refused("too many parts", line=2, byte=len(TABLE)), 1)
 
 
-@shape("pour headers of 13 letters over each cell of a table", 1_000, stacks=DEEP)
+@shape("pour headers of 13 letters over each cell of a table", 1_000, stacks=DEEP, little=True)
 def _(n):
     header = "pour " + ";".join(f"{chr(97 + k)} = 1..2" for k in range(13)) + " : "
     return case([TABLE, RULE, *many(header, n), "T[X] = 1 ;"], refused("too many parts", line=2, byte=len(TABLE)), 1)
 
 
-@shape("one long name in each instance of a sum", 40_000)
+@shape("a name of 40 KB in 10,000 instances, declared", 40_000, little=True)
 def _(n):
     name = "B" * n
     return case([ONE, f'{name} : calculee : "" ;\n', RULE, f"A = somme(i=1..10000: {name}) ;\n", f"{name} = 2 ;\n"], "A = 20000\n")
@@ -123,7 +123,7 @@ def _(n):
     )
 
 
-@shape("a name of 40 KB in 10,000 instances, unknown", 40_000)
+@shape("a name of 40 KB in 10,000 instances, unknown", 40_000, little=True)
 def _(n):
     # An instance is its word and the value of its letter, and the name is written out once: 200 MB are enough.
     return case(

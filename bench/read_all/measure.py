@@ -5,6 +5,9 @@ FOLDER gets the files of generate.py. A whole `run` is timed, and one of files w
 the clock, the least of three runs by turns, of one run on all processors, of one run on one processor (`taskset -c 0`), and of four runs on a processor
 each at once. What all processors can give for one run's work is a quarter of the last: the aim is 1.15 times that. The bytes and the status of all must be
 equal, and those of the fault at its place.
+
+Then the peak of resident memory is measured of files of the shortest formulas, of which an error ends the run once they are read: the aim is 60 bytes for a
+byte of them.
 """
 import os
 import subprocess
@@ -15,6 +18,11 @@ sys.path.append(os.path.dirname(HERE))
 from measured import alone, figure, machine, processors, side_by_side, timed  # noqa: E402
 
 RUNS = 3
+ONE, RULE = 'A : calculee restituee : "" ;\n', "regle 1 : application : iliad ;\n"
+TWICE = f"refused s0.m line 3 byte {len(ONE) + len(RULE) + 4}: defined twice A\n"
+MANY = "refused s1.m line 1 byte 0: too many parts\n"  # a formula is two parts: a file of 4 MB has as many as there may be
+# How many files of how many bytes, whether on one processor, and what is printed.
+SHORTEST = [(1, 1_000_000, False, TWICE), (4, 1_000_000, False, TWICE), (1, 4_000_000, False, TWICE), (4, 4_000_000, False, MANY), (4, 4_000_000, True, MANY)]
 
 
 def clock(words, folder):
@@ -38,6 +46,28 @@ def ratio(name, program, folder, listed, wanted):
             (f"{name}_{count}_processors_to_one", min(many) / min(one))]
 
 
+def memory(program, folder):
+    """The greatest peak for a byte of rules, of files of the shortest formulas."""
+    print("\n| Files of `A=1;` | bytes | peak, MB | bytes of memory a byte |\n|---|---:|---:|---:|")
+    most = 0
+    for count, size, single, wanted in SHORTEST:
+        for k in range(count):
+            head = ONE * (k == 0) + RULE
+            with open(os.path.join(folder, f"s{k}.m"), "w", encoding="ascii") as out:
+                out.write(head + "A=1;" * ((size - len(head)) // 4))
+        with open(os.path.join(folder, "short.txt"), "w", encoding="ascii") as out:
+            out.write("\n".join(["iliad", *(f"s{k}.m" for k in range(count)), ""]))
+        words = [program, "run", "short.txt", "-", "-", "household.csv"]
+        _, peak, status, text, _ = timed(alone(words) if single else words, folder)
+        if (status, text.decode("latin-1")) != (1, wanted):
+            sys.exit(f"{count} files of {size}: status {status}, {text[:200]}")
+        read = sum(os.path.getsize(os.path.join(folder, f"s{k}.m")) for k in range(count))
+        print(f"| {count} of {size / 1e6:.0f} MB, on {'one processor' if single else 'all'} | {read:,} | {peak / 1e6:.0f} | {peak / read:.0f} |", flush=True)
+        most = max(most, peak / read)
+    print()
+    return most
+
+
 def main():
     program, folder = os.path.abspath(sys.argv[1]), sys.argv[2]
     subprocess.run([sys.executable, os.path.join(HERE, "generate.py"), folder, *sys.argv[3:4]], check=True, stdout=subprocess.DEVNULL)
@@ -51,6 +81,7 @@ def main():
           "|---|---:|---:|---:|---:|---:|---:|")
     found = ratio("run", program, folder, "list.txt", lambda status, out: status == 0 and out.startswith(b"RESULTAT = "))
     found += ratio("reading", program, folder, "fault.txt", lambda status, out: status == 1 and out == b"refused fault.m " + place)
+    found.append(("bytes_of_memory_a_byte_of_the_shortest_formulas", memory(program, folder), "<=60"))
     for name, *rest in found:
         figure(f"read_all.{name}", *rest)
 
