@@ -50,6 +50,13 @@ def _(n):
     return case([ONE, f'{name} : calculee : "" ;\n', RULE, f"A = somme(i=1..10000: {name}) ;\n", f"{name} = 2 ;\n"], "A = 20000\n")
 
 
+@shape("a declared name of 1 MB in 1,000,000 instances", 1_000_000, grows=False)
+def _(n):
+    # 1,000,000 names, a sum between two, and 1 for the formula: the most parts. A constant has none.
+    name = "B" * n
+    return case([ONE, name, ":const=2;\n", RULE, "A = somme(i=1..1000: somme(j=1..1000: ", name, ")) ;"], "A = 2000000\n")
+
+
 @shape("255 sums in one another, of 26 letters each", 255, grows=False, stacks=DEEP)
 def _(n):
     header = ";".join(f"{chr(97 + k)}=1" for k in range(26))
