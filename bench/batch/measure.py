@@ -14,35 +14,15 @@ import os
 import subprocess
 import sys
 
-sys.path.insert(0, os.path.dirname(os.path.dirname(os.path.abspath(__file__))))
-from measured import alone, figure, machine, processors, side_by_side, timed
-
 HERE = os.path.dirname(os.path.abspath(__file__))
-ROWS = 100_000
+sys.path[:0] = [os.path.dirname(HERE), HERE]
+from measured import alone, figure, machine, processors, side_by_side, timed  # noqa: E402
+from tables import CODES, ROWS, amount, write_table  # noqa: E402
+
 ROW_AIMS = {"plain": 1.0, "straight": 3.0}
 WHOLE_AIM = 2
 TABLE_BYTES = 16_777_216
-CODES = {
-    "examples/impots": ["A01", "A02", "A03", "A04", "B01", "B02", "B03", "B04"],
-    "examples/impot2023": ["0AM", "0BT", "0CF", "1AJ", "1BJ", "1AS", "1BS", "7UD", "7UF"],
-}
 BASES = [("examples/impots", "-"), ("examples/impots", "driver.mpp"), ("examples/impot2023", "driver.mpp")]
-SMALL = {"0AM": 2, "0BT": 1, "0CF": 4}
-
-
-def amount(row, column, code):
-    """An amount that the verifications let pass: a second person and box T only where they may be."""
-    if code in SMALL:
-        return row % SMALL[code]
-    if code in ("1BJ", "1BS") and row % 2 == 0:
-        return 0
-    return (row * 7919 + column * 104729) % 40000
-
-
-def table(path, codes, rows, cell=amount):
-    with open(path, "w", encoding="ascii") as out:
-        out.write("name," + ",".join(codes) + "\n")
-        out.writelines(f"h{r}," + ",".join(str(cell(r, c, code)) for c, code in enumerate(codes)) + "\n" for r in range(rows))
 
 
 def done(words, taken, wanted=None):
@@ -71,8 +51,8 @@ def base(program, folder, example, driver, rows):
     with open(code, "wb") as out:
         subprocess.run([program, "compile", *source], stdout=out, check=True)
     full, none = (os.path.join(folder, f"{name}_{n}.csv") for n in (rows, 0))
-    table(full, CODES[example], rows)
-    table(none, CODES[example], 0)
+    write_table(full, CODES[example], rows)
+    write_table(none, CODES[example], 0)
     batch = [program, "batch", *source]
     programs = {
         "m_tax": alone(batch),
@@ -116,7 +96,7 @@ def long_amount(row, column, _code):
 def memory(program, folder, name, words, codes, cell, rows, aim):
     """The peak of one batch over a table of this many rows, cut at the limit of a table's bytes."""
     path = os.path.join(folder, "memory.csv")
-    table(path, codes, rows, cell)
+    write_table(path, codes, rows, cell)
     with open(path, "rb+") as file:
         text = file.read()
         if len(text) > TABLE_BYTES:

@@ -11,3 +11,4 @@ trap 'rm -rf "$work"' EXIT
 trap 'exit 1' HUP INT TERM
 cd "$root"
 python3 "$here/measure.py" "$program" "$work" ${2+"$2"}
+python3 "$here/parts.py" "$program" "$work" ${2+"$2"}

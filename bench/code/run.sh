@@ -9,20 +9,8 @@ root=$(cd "$here/../.." && pwd)
 work=$(mktemp -d "${TMPDIR:-/tmp}/bench_code.XXXXXX")
 trap 'rm -rf "$work"' EXIT
 trap 'exit 1' HUP INT TERM
-mkdir -p "$work/repository/crates"
-: >"$work/repository/crates.txt"
-copy() {
-    if [ ! -d "$root/crates/$1" ] || [ -d "$work/repository/crates/$1" ]; then return; fi
-    mkdir "$work/repository/crates/$1"
-    for below in $(sed -n "s/^$1: *//p" "$root/crates.txt"); do copy "$below"; done
-    for part in src specs proofs; do
-        if [ -d "$root/crates/$1/$part" ]; then cp -r "$root/crates/$1/$part" "$work/repository/crates/$1/"; fi
-    done
-    grep "^$1:" "$root/crates.txt" >>"$work/repository/crates.txt"
-}
-copy m_compile
+sh "$root/bench/copied.sh" "$work/repository" m_compile
 echo "bench_code: m_places m_fixed observables flat_code reg_machine register_alloc rule_base code_file m_compile anyhow" >>"$work/repository/crates.txt"
-cp "$root/HANDLES" "$work/repository/"
 bench=$work/repository/crates/bench_code
 mkdir -p "$bench/src" "$bench/proofs/are_below"
 cp "$here/main.rt.txt" "$bench/src/main.rt"

@@ -10,7 +10,7 @@ root=$(cd "$here/../.." && pwd)
 work=$(mktemp -d "${TMPDIR:-/tmp}/bench_expand.XXXXXX")
 trap 'rm -rf "$work"' EXIT
 trap 'exit 1' HUP INT TERM
-sh "$root/bench/copied.sh" "$work/repository" m_places m_fixed m_names m_text m_lexer m_ast m_terms m_items m_symbols loop_values index_expand
+sh "$root/bench/copied.sh" "$work/repository" m_items index_expand
 echo "bench_expand: m_places m_lexer m_ast m_items m_symbols index_expand anyhow" >>"$work/repository/crates.txt"
 bench=$work/repository/crates/bench_expand
 mkdir -p "$bench/src" "$bench/proofs/expanded"
@@ -18,7 +18,7 @@ cp "$here/main.rt.txt" "$bench/src/main.rt"
 cp "$here/main.antt.txt" "$bench/proofs/expanded/Answers.antt"
 (cd "$bench" && sh "$root/bench/built.sh" >"$work/rt.log" 2>&1) || { cat "$work/rt.log" >&2; exit 1; }
 
-# The instructions of the program up to this step, in thousands.
+# The instructions of the program up to this step, in thousands. (Counts run side by side, since nothing else that runs changes them.)
 instructions() {
     valgrind --tool=cachegrind --cache-sim=no --cachegrind-out-file=/dev/null "$bench/out/bench_expand" "$@" 2>&1 >/dev/null |
         awk '/I *refs/ { gsub(",", "", $NF); printf "%d", $NF / 1000 }'
@@ -39,8 +39,10 @@ for kind in short sums long headers; do
         for _ in 1 2 3; do
             echo "items, definitions, microseconds of expand: $("$bench/out/bench_expand" expand "$file")"
         done
+        for step in items expand; do instructions "$step" "$file" >"$work/count.$step" & done
+        wait
         for step in items expand; do
-            echo "up to $step: $(instructions "$step" "$file") thousand instructions, $(peak "$step" "$file") KiB"
+            echo "up to $step: $(cat "$work/count.$step") thousand instructions, $(peak "$step" "$file") KiB"
         done | tee "$work/counts.$size"
         echo
     done

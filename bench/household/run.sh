@@ -20,29 +20,10 @@ done
 rustc -O -o "$work/plain" "$here/plain.rs" 2>"$work/rustc.log" || { cat "$work/rustc.log" >&2; exit 1; }
 
 # The reader runs in a program of its own, proved and built in a copy of the repository.
-crates=$(sed -n 's/^household: *//p' "$root/crates.txt")
-mkdir -p "$work/repository/crates"
-: >"$work/repository/crates.txt"
-copy() {
-    [ -d "$root/crates/$1" ] && [ ! -d "$work/repository/crates/$1" ] || return 0
-    for below in $(sed -n "s/^$1: *//p" "$root/crates.txt"); do
-        copy "$below"
-    done
-    mkdir "$work/repository/crates/$1"
-    for part in src specs proofs; do
-        if [ -d "$root/crates/$1/$part" ]; then
-            cp -r "$root/crates/$1/$part" "$work/repository/crates/$1/"
-        fi
-    done
-    grep "^$1:" "$root/crates.txt" >>"$work/repository/crates.txt"
-}
-for crate in $crates household; do
-    copy "$crate"
-done
+sh "$root/bench/copied.sh" "$work/repository" household
 driver=$work/repository/crates/bench_household
 mkdir -p "$driver/src" "$driver/proofs/inputs_of"
 echo 'bench_household: household m_names m_places observables anyhow' >>"$work/repository/crates.txt"
-cp "$root/HANDLES" "$work/repository/"
 cat >"$driver/proofs/inputs_of/Invariants.antt" <<'INVARIANTS'
 use Rattle.std.proofs.Common.{◌≡◌, take}
 use Rattle.observables.specs.Inputs.{codes_of}
@@ -147,10 +128,10 @@ fn main(rt: HostRuntime) -> Result<()> {
 DRIVER
 (cd "$driver" && sh "$root/bench/built.sh" >"$work/rt.log" 2>&1) || { cat "$work/rt.log" >&2; exit 1; }
 
-# How many instructions a program carries out.
+# How many instructions a program carries out. (Counts run side by side, since nothing else that runs changes them.)
 instructions() {
-    valgrind --tool=callgrind --callgrind-out-file=/dev/null "$@" 2>&1 >/dev/null |
-        sed -n 's/^.*Collected : *//p'
+    valgrind --tool=cachegrind --cache-sim=no --cachegrind-out-file=/dev/null "$@" 2>&1 >/dev/null |
+        awk '/I *refs/ { gsub(",", "", $NF); print $NF }'
 }
 
 # The least time of a program's five runs in milliseconds, its megabytes a second, the millions of instructions of one of them,
@@ -167,8 +148,11 @@ row() {
     esac
     /usr/bin/time -f '%M' -o "$work/least" "$@" "$kind" "$work/empty" >/dev/null
     /usr/bin/time -f '%M' -o "$work/peak" "$@" "$kind" "$file" >"$work/times"
-    none=$(instructions "$@" "$kind" "$work/empty")
-    all=$(instructions "$@" "$kind" "$file")
+    instructions "$@" "$kind" "$work/empty" >"$work/none.count" &
+    instructions "$@" "$kind" "$file" >"$work/all.count"
+    wait
+    none=$(cat "$work/none.count")
+    all=$(cat "$work/all.count")
     awk -v name="$name" -v size="$(wc -c <"$file")" -v peak="$(cat "$work/peak")" -v least="$(cat "$work/least")" \
         -v none="$none" -v all="$all" -v to="$work/all" '
         NR == 1 || $2 < best { best = $2; count = $1 }

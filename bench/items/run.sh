@@ -20,7 +20,7 @@ python3 "$here/generate.py" 1600000 1 "$work/small"
 python3 "$here/generate.py" 16000000 1 "$work/great"
 python3 "$here/generate.py" 64000000 64 "$work/many"
 
-# The instructions of the program up to this step, in thousands.
+# The instructions of the program up to this step, in thousands. (Counts run side by side, since nothing else that runs changes them.)
 instructions() {
     valgrind --tool=cachegrind --cache-sim=no --cachegrind-out-file=/dev/null "$bench/out/bench_items" "$@" 2>&1 >/dev/null |
         awk '/I *refs/ { gsub(",", "", $NF); printf "%d", $NF / 1000 }'
@@ -39,7 +39,9 @@ for kind in small great many; do
         echo "tokens, items, names, microseconds of lex, parse, declare: $("$bench/out/bench_items" declare "$work/$kind"/*.m)"
     done
     if [ "$kind" != many ]; then
-        for step in lex parse declare; do echo "up to $step: $(instructions "$step" "$work/$kind"/*.m) thousand instructions"; done | tee "$work/counts"
+        for step in lex parse declare; do instructions "$step" "$work/$kind"/*.m >"$work/count.$step" & done
+        wait
+        for step in lex parse declare; do echo "up to $step: $(cat "$work/count.$step") thousand instructions"; done | tee "$work/counts"
         awk -v kind="$kind" '{ n[NR] = $4 } END { printf "figure items.%s_to_lex %.3g <=3.5\n", kind, n[3] / n[1] }' "$work/counts"
     fi
     echo "peak: $(peak lex "$work/$kind"/*.m) KiB with lex alone, $(peak declare "$work/$kind"/*.m) KiB with all"

@@ -33,21 +33,28 @@ def _(n):
 TABLE = 'T : tableau[2] calculee : "" ;\n'
 
 
-@shape("pour headers of two over each cell of a table", 1_001, stacks=DEEP)
+@shape("pour headers of two over each cell of a table", 1_001, stacks=DEEP, little=True)
 def _(n):
     return case([TABLE, RULE, *many("pour i = 1..2 : ", n), "T[X] = 1 ;"], refused("too many parts", line=2, byte=len(TABLE)), 1)
 
 
-@shape("pour headers of 13 letters over each cell of a table", 1_000, stacks=DEEP)
+@shape("pour headers of 13 letters over each cell of a table", 1_000, stacks=DEEP, little=True)
 def _(n):
     header = "pour " + ";".join(f"{chr(97 + k)} = 1..2" for k in range(13)) + " : "
     return case([TABLE, RULE, *many(header, n), "T[X] = 1 ;"], refused("too many parts", line=2, byte=len(TABLE)), 1)
 
 
-@shape("one long name in each instance of a sum", 40_000)
+@shape("a name of 40 KB in 10,000 instances, declared", 40_000, little=True)
 def _(n):
     name = "B" * n
     return case([ONE, f'{name} : calculee : "" ;\n', RULE, f"A = somme(i=1..10000: {name}) ;\n", f"{name} = 2 ;\n"], "A = 20000\n")
+
+
+@shape("a declared name of 1 MB in 1,000,000 instances", 1_000_000, grows=False)
+def _(n):
+    # 1,000,000 names, a sum between two, and 1 for the formula: the most parts. A constant has none.
+    name = "B" * n
+    return case([ONE, name, ":const=2;\n", RULE, "A = somme(i=1..1000: somme(j=1..1000: ", name, ")) ;"], "A = 2000000\n")
 
 
 @shape("255 sums in one another, of 26 letters each", 255, grows=False, stacks=DEEP)
@@ -123,7 +130,7 @@ def _(n):
     )
 
 
-@shape("a name of 40 KB in 10,000 instances, unknown", 40_000)
+@shape("a name of 40 KB in 10,000 instances, unknown", 40_000, little=True)
 def _(n):
     # An instance is its word and the value of its letter, and the name is written out once: 200 MB are enough.
     return case(

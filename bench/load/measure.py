@@ -5,10 +5,11 @@
 
 Each shape of shapes.py is written into FOLDER, with what must be printed for it, which was worked out by hand. The program
 runs, and what it prints is compared byte by byte. A row is printed on standard output: user and system time at a tenth and at the full size, how
-many times as much that is, the peak of memory, the answer (its first bytes) and the status. Only shapes with one of the WORDs in their
-names run, if any are given. With --stack each shape runs once, with a stack of KB kilobytes; with --memory a run has MB megabytes of addresses instead of
-8 GB. A shape fails where it prints anything else, ends by a signal, takes more than a minute of processor or five by the clock, or takes more than 1.2 times
-as long as its size suggests: more than 12 times for 10 times the size. The status is 1 where one failed.
+many times as much that is, the peak of memory, the answer (its first bytes) and the status. A shape runs once for each stack that it names, with 8 GB of
+addresses, and one that says `little` once more with a stack of 512 KB and 200 MB of addresses. Only shapes with one of the WORDs in their names run, if any
+are given. With --stack each shape runs once, with a stack of KB kilobytes; with --memory a run has MB megabytes of addresses instead of 8 GB. A shape fails
+where it prints anything else, ends by a signal, or takes more than a minute of processor or five by the clock. It is slow where it takes more than 1.2 times
+as long as its size suggests: more than 12 times for 10 times the size. The status is 1 where one failed or is slow.
 """
 import filecmp
 import json
@@ -26,6 +27,7 @@ from measured import figure  # noqa: E402
 MINUTE = 60
 GROWTH = 1.2
 MEMORY = 8 << 30  # bytes that a run may take: past it the program reports by its status that there was no memory
+LITTLE = 512, 200  # KB of stack and MB of addresses of a shape that is also run in little memory
 
 
 def in_child(work):
@@ -118,6 +120,7 @@ def measure(program, shape, size, room, stack, memory):
 
 
 def told(program, shape, room, stack, memory):
+    """Prints the row of one shape: its faults, whether it is slow, and what was measured at its full size."""
     small = measure(program, shape, shape.full // 10, room, stack, memory) if shape.grows else None
     big = measure(program, shape, shape.full, room, stack, memory)
     faults = [*(f"at a tenth: {f}" for f in (small["faults"] if small else [])), *big["faults"]]
@@ -127,33 +130,49 @@ def told(program, shape, room, stack, memory):
         small = min(small, measure(program, shape, shape.full // 10, room, stack, memory), key=lambda one: one["seconds"])
         big = min(big, measure(program, shape, shape.full, room, stack, memory), key=lambda one: one["seconds"])
         times = big["seconds"] / small["seconds"]
-        if times > GROWTH * shape.grows:
-            faults.append(f"{times:.1f} times for {shape.grows} times the size")
+    slow = times > GROWTH * shape.grows and big["seconds"] > 0.05
     tenth = f"{small['seconds']:.3f}" if small else ""
     growth = f"{times:.1f}" if small else ""
     answer = big["answer"].replace("|", "\\|")
-    print(f"| {shape.name} | {shape.full:,} | {stack} | {tenth} | {big['seconds']:.3f} | {growth} | {big['peak'] / 1e6:.0f} "
-          f"| `{answer}` ({big['bytes']:,}) | {big['status']} | {'; '.join(faults) or 'as it must be'} |", flush=True)
-    return not faults
+    verdict = "; ".join([*faults, *([f"{times:.1f} times for {shape.grows} times the size"] if slow else [])]) or "as it must be"
+    room_of = f"{stack}" if memory == MEMORY else f"{stack}, of {memory >> 20} MB"
+    print(f"| {shape.name} | {shape.full:,} | {room_of} | {tenth} | {big['seconds']:.3f} | {growth} | {big['peak'] / 1e6:.0f} "
+          f"| `{answer}` ({big['bytes']:,}) | {big['status']} | {verdict} |", flush=True)
+    return faults, slow, big
+
+
+def runs_of(shape, stack, memory):
+    """The stacks and memories with which a shape runs, each with the figure that counts its fault. (With --stack or --memory: once each, as these say.)"""
+    if stack or memory:
+        return [(one, memory << 20 if memory else MEMORY, "fail_as_asked") for one in ([stack] if stack else shape.stacks)]
+    runs = [(one, MEMORY, "fail" if one > LITTLE[0] else f"fail_in_{one}_KB_of_stack") for one in shape.stacks]
+    return [*runs, (LITTLE[0], LITTLE[1] << 20, f"fail_with_{LITTLE[1]}_MB_and_{LITTLE[0]}_KB_of_stack")] if shape.little else runs
 
 
 def main():
     program, room, words = os.path.abspath(sys.argv[1]), os.path.abspath(sys.argv[2]), sys.argv[3:]
-    limits = {"--stack": None, "--memory": MEMORY >> 20}
+    limits = {"--stack": None, "--memory": None}
     for word in [word for word in words if word.startswith("--")]:
         name, _, number = word.partition("=")
         limits[name] = int(number)
         words.remove(word)
     print("| Shape | size | stack, KB | seconds at a tenth | seconds | times | peak, MB | answer (bytes) | status | verdict |\n"
           "|---|---:|---:|---:|---:|---:|---:|---|---:|---|")
-    bad = 0
+    bad, slow, seconds, peak = {}, 0, 0, 0
     for shape in shapes.SHAPES:
         if words and not any(word in shape.name for word in words):
             continue
-        for stack in [limits["--stack"]] if limits["--stack"] else shape.stacks:
-            bad += not told(program, shape, room, stack, limits["--memory"] << 20)
-    figure("load.shapes_that_fail", bad, "<=0")
-    sys.exit(0 if bad == 0 else 1)
+        for stack, memory, what in runs_of(shape, *limits.values()):
+            faults, is_slow, big = told(program, shape, room, stack, memory)
+            bad[what] = bad.get(what, 0) + bool(faults)
+            slow += is_slow
+            seconds, peak = max(seconds, big["seconds"]), max(peak, big["peak"])
+    for what, count in bad.items():
+        figure(f"load.shapes_that_{what}", count, "<=0")
+    figure("load.shapes_that_take_more_than_12_times_a_tenth", slow, "<=0")
+    figure("load.most_seconds", seconds, "<=60")
+    figure("load.most_MB", peak / 1e6, f"<={MEMORY / 1e6:.0f}")
+    sys.exit(1 if slow or any(bad.values()) else 0)
 
 
 if __name__ == "__main__":

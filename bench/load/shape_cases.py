@@ -7,22 +7,22 @@ pieces of it), the words of the command, what is typed, what must be printed, an
 FILE = 16_777_216  # bytes of a file
 GREATEST = 4_000_000  # weight of a driver
 PARTS = 2_000_000
-DEEP = (8192, 512)  # KB of stack, of a shape that is also run in little memory
+DEEP = (8192, 512)  # KB of stack, of a shape that is also run with a small one
 
 
 class Shape:
-    def __init__(self, name, make, full, grows, stacks):
-        self.name, self.make, self.full, self.grows, self.stacks = name, make, full, grows, stacks
+    def __init__(self, name, make, full, grows, stacks, little):
+        self.name, self.make, self.full, self.grows, self.stacks, self.little = name, make, full, grows, stacks, little
 
 
 def into(shapes):
     """The decorator that adds a shape to these."""
 
-    def shape(name, full, grows=10, stacks=(8192,)):
-        """A shape of a size; how many times as great it is as at a tenth of that, or nothing where it isn't compared."""
+    def shape(name, full, grows=10, stacks=(8192,), little=False):
+        """A shape of a size; how many times as great it is as at a tenth of that, or nothing where it isn't compared; whether it also runs in little memory."""
 
         def add(make):
-            shapes.append(Shape(name, make, full, grows, stacks))
+            shapes.append(Shape(name, make, full, grows, stacks, little))
             return make
 
         return add

@@ -4,8 +4,9 @@
 #   run.sh [N [PROGRAM [OLDER_PROGRAM]]]
 #
 # A program of its own over m_names (main.rt.txt), proved and built in a copy of the repository, keeps and finds them.
+# What both hashes take is counted in instructions (hash_price.py), of 20,000 names.
 # With PROGRAM, the built m_tax, it times whole runs too, on files of N constants of these names, by turns with an older
-# program: the time of the processor, user and system, the least of five runs. Needs rt, rustc and python3.
+# program: the time of the processor, user and system, the least of five runs. Needs rt, rustc, valgrind and python3.
 set -eu
 here=$(cd "$(dirname "$0")" && pwd)
 root=$(cd "$here/../.." && pwd)
@@ -39,6 +40,9 @@ row default random
 
 awk -F'|' 'NR == 1 { random = $3 } NR == 2 { printf "figure names.colliding_to_random %.3g <=2\n", $3 / random }' "$work/rows"
 awk -F'|' 'NR == 1 { keyed = $4 } NR == 3 { printf "figure names.keyed_find_to_default %.3g <=1.15\n", keyed / $4 }' "$work/rows"
+mkdir "$work/few"
+"$work/names" 20000 "$work/few"
+python3 "$here/hash_price.py" "$bench/out/bench_names" "$work/few/random/names.txt" "$work/few/random/asked.txt"
 [ $# -ge 2 ] || exit 0
 program=$(readlink -f "$2")
 older=$(readlink -f "${3:-$2}")

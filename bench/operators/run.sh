@@ -25,7 +25,10 @@ timer() {
         (cd "$work/$1.$place/crates/m_fixed" && rm -rf src specs proofs)
         cp -r "$2/crates/m_fixed/src" "$2/crates/m_fixed/specs" "$2/crates/m_fixed/proofs" "$work/$1.$place/crates/m_fixed/"
         cat "$work/main.rt" "$work/$place.rt" >"$work/$1.$place/crates/timer/src/main.rt"
-        (cd "$work/$1.$place/crates/timer" && KEPT= sh "$here/../built.sh") >"$work/$1.$place.first" 2>"$work/rt.log" || { tail -20 "$work/rt.log"; exit 1; }
+        kept=
+        if [ -n "${KEPT-}" ] && [ "$2" = "$top" ]; then kept=$KEPT/operators.$place; fi
+        (cd "$work/$1.$place/crates/timer" && KEPT=$kept ONLY_BUILD= sh "$here/../built.sh") >"$work/$1.$place.first" 2>"$work/rt.log" ||
+            { tail -20 "$work/rt.log"; exit 1; }
     done
 }
 
@@ -282,17 +285,18 @@ fn run_of(op: Option<Op>) -> fn(&[Value], &[Value]) -> u64 {
 }
 RUN
 timer new "$top"
-if [ "$older" = "$top" ]; then
-    for place in near far; do cp -r "$work/new.$place" "$work/old.$place"; done
-else
-    timer old "$older"
+if [ -n "${ONLY_BUILD-}" ]; then
+    echo "built and kept"
+    exit 1
 fi
+[ "$older" = "$top" ] || timer old "$older"
 rustc -O -C llvm-args=-x86-branches-within-32B-boundaries -o "$work/plain" "$here/plain.rs"
 for turn in 1 2 3 4 5; do
     "$work/plain" >"$work/plain.near.$turn"
     for place in near far; do
-        "$work/old.$place/crates/timer/out/timer" >"$work/old.$place.$turn"
+        [ "$older" = "$top" ] || "$work/old.$place/crates/timer/out/timer" >"$work/old.$place.$turn"
         "$work/new.$place/crates/timer/out/timer" >"$work/new.$place.$turn"
+        [ "$older" != "$top" ] || cp "$work/new.$place.$turn" "$work/old.$place.$turn" # (there is no older one)
     done
 done
 python3 "$here/table.py" "$work"

@@ -9,8 +9,7 @@ root=$(cd "$here/../.." && pwd)
 work=$(mktemp -d "${TMPDIR:-/tmp}/bench_order.XXXXXX")
 trap 'rm -rf "$work"' EXIT
 trap 'exit 1' HUP INT TERM
-sh "$root/bench/copied.sh" "$work/repository" m_places m_fixed m_names m_text m_lexer m_ast m_terms m_items \
-    m_symbols loop_values index_expand micro_m m_resolve rule_order rule_base
+sh "$root/bench/copied.sh" "$work/repository" rule_base
 echo "bench_order: m_places micro_m rule_order rule_base anyhow" >>"$work/repository/crates.txt"
 bench=$work/repository/crates/bench_order
 mkdir -p "$bench/src"
@@ -19,7 +18,7 @@ cp "$here/main.rt.txt" "$bench/src/main.rt"
 
 ulimit -s 8192
 
-# The instructions of the program up to this step, in thousands.
+# The instructions of the program up to this step, in thousands. (Counts run side by side, since nothing else that runs changes them.)
 instructions() {
     valgrind --tool=cachegrind --cache-sim=no --cachegrind-out-file=/dev/null "$bench/out/bench_order" "$@" 2>&1 >/dev/null |
         awk '/I *refs/ { gsub(",", "", $NF); printf "%d", $NF / 1000 }'
@@ -38,9 +37,9 @@ timed() {
 
 # The instructions of each step for a number of definitions of a kind.
 counts() {
-    for step in base order; do
-        echo "up to $step: $(instructions "$step" "$work/$1$2"/*.m) thousand instructions"
-    done
+    for step in base order; do instructions "$step" "$work/$1$2"/*.m >"$work/count.$step" & done
+    wait
+    for step in base order; do echo "up to $step: $(cat "$work/count.$step") thousand instructions"; done
     echo
 }
 

@@ -19,10 +19,10 @@ cp "$here/main.rt.txt" "$driver/src/main.rt"
 (cd "$driver" && sh "$root/bench/built.sh" >"$work/rt.log" 2>&1) || { cat "$work/rt.log" >&2; exit 1; }
 program=$driver/out/bench_terms
 
-# Millions of instructions of the program with one file.
+# Millions of instructions of the program with one file, into a file. These counts run side by side, since nothing else that runs changes them.
 instructions() {
-    valgrind --tool=callgrind --callgrind-out-file=/dev/null "$program" "$1" "$2" 2>&1 >/dev/null |
-        sed -n 's/^.*Collected : *//p' | awk '{ printf "%.0f", $1 / 1e6 }'
+    valgrind --tool=cachegrind --cache-sim=no --cachegrind-out-file=/dev/null "$program" "$1" "$2" 2>&1 >/dev/null |
+        awk '/I *refs/ { gsub(",", "", $NF); printf "%.0f", $NF / 1e6 }' >"$3"
 }
 
 # Peak memory in KiB of the program with a file three times, whose lines go to a file.
@@ -36,10 +36,14 @@ echo '| File, three times | MB in all | Tokens | Terms | `lex` | reading | `lex`
 echo '|---|---|---|---|---|---|---|---|---|'
 for kind in dense base nests; do
     for room in 1333333 13333333; do
-        file=$work/$kind.m
-        python3 "$here/generate.py" "$kind" "$room" "$file"
-        lexed=$(instructions lex "$file")
-        read=$(instructions read "$file")
+        python3 "$here/generate.py" "$kind" "$room" "$work/$kind$room.m"
+        for step in lex read; do instructions "$step" "$work/$kind$room.m" "$work/$step$room" & done
+    done
+    wait
+    for room in 1333333 13333333; do
+        file=$work/$kind$room.m
+        lexed=$(cat "$work/lex$room")
+        read=$(cat "$work/read$room")
         least=$(peak lex "$file")
         most=$(peak read "$file")
         awk -v kind="$kind" -v size="$(wc -c <"$file")" -v lexed="$lexed" -v read="$read" -v least="$least" -v most="$most" '
