@@ -1,7 +1,8 @@
 #!/bin/sh
 # Compares the documents with the repository, where a text can be compared: the crates with their first comments, the files and names that
 # pages cite, the limits with FORMATS, the usage line's copies, the reserved words with LANGUAGE, DRIVER and the files for editors, the
-# definitions that PROVED counts, links with files, words with ARCHITECTURE's table of English, and sizes of pages and of code with their limits.
+# definitions that PROVED counts, links with files, words with ARCHITECTURE's table of English, blanks of French pages, and sizes of pages and of code with
+# their limits.
 # Prints a line for each difference, and a count. The status is 0 where there is none.
 cd "$(dirname "$0")/.." || exit 1
 room=$(mktemp -d) || exit 1
@@ -123,6 +124,14 @@ for pair in README.md:LISEZMOI.md docs/FIRST_HOUR.md:docs/fr/PREMIERE_HEURE.md d
     blocks "${pair#*:}" >"$room/french"
     same "the commands and answers of ${pair%:*} and of ${pair#*:}" "$room/blocks" "$room/french"
 done
+
+# French pages have hard blanks (C2 A0) before `:`, `;`, `?`, `!`, within quotation marks and within numbers.
+for page in $(git ls-files '*LISEZMOI.md' 'docs/fr/*.md'); do
+    awk '/^```/{code = !code; next} !code' "$page" | sed 's/`[^`]*`/code/g; s/](\([^)]*\))/]/g' |
+        grep -nE ' [:;?!»]|« |[0-9] [0-9]{3}([^0-9]|$)|[0-9] [%€]' | sed "s|^|$page: |"
+done >"$room/blanks"
+[ -s "$room/blanks" ] || echo none >"$room/blanks"
+same "the blanks of the French pages and hard ones" "$room/none" "$room/blanks"
 
 # Code keeps its sizes.
 if command -v python3 >/dev/null 2>&1; then

@@ -20,6 +20,7 @@ from typing import NamedTuple
 
 from .. import case_tables, here, laws, operators, records, runs
 from ..endings import Wrong, ended
+from ..options import read_options
 
 WORDS = "words: cases LIST DRIVER TABLE.. [--tolerance COLUMN=AMOUNT].. [--here]; see --help"
 CALL = "call_m:"
@@ -35,24 +36,16 @@ class Words(NamedTuple):
 
 
 def words_of(words: list[str]) -> Words:
-    said, tolerances, is_here, at = [], dict[str, int](), False, 0
-    while at < len(words):
-        if words[at] == "--tolerance" and at + 1 < len(words):
-            at += 1
-            match = TOLERANCE.fullmatch(words[at])
-            if match is None or match[1] in tolerances:
-                raise Wrong(f"--tolerance takes COLUMN=AMOUNT, a column once, and not {words[at]}", 2)
-            tolerances[match[1]] = operators.read_amount(match[2])
-        elif words[at] == "--here":
-            is_here = True
-        elif words[at].startswith("--"):
-            raise Wrong(WORDS, 2)
-        else:
-            said.append(words[at])
-        at += 1
-    if len(said) < 3:
+    read = read_options(words, [], ["--here"], ["--tolerance"])
+    if read is None or len(read[0]) < 3:
         raise Wrong(WORDS, 2)
-    return Words(said, tolerances, is_here)
+    tolerances = dict[str, int]()
+    for text in read[1].get("--tolerance", []):
+        match = TOLERANCE.fullmatch(text)
+        if match is None or match[1] in tolerances:
+            raise Wrong(f"--tolerance takes COLUMN=AMOUNT, a column once, and not {text}", 2)
+        tolerances[match[1]] = operators.read_amount(match[2])
+    return Words(read[0], tolerances, "--here" in read[1])
 
 
 def is_met(expected: str, got: str, tolerance: int) -> bool:

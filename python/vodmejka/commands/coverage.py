@@ -31,6 +31,7 @@ import tempfile
 
 from .. import case_tables, coverage, coverage_page, here, lcov, records, source, texts
 from ..endings import Wrong, ended
+from ..options import read_options
 from ..points import Point
 
 OPTIONS = ("--least", "--except", "--page", "--lcov")
@@ -38,21 +39,10 @@ OPTIONS = ("--least", "--except", "--page", "--lcov")
 
 def options(words: list[str]) -> tuple[list[str], dict[str, str]]:
     """The words without options, and the options with their values."""
-    said, found, at = [], dict[str, str](), 0
-    while at < len(words):
-        word = words[at]
-        if word in OPTIONS and at + 1 < len(words) and word not in found:
-            found[word] = words[at + 1]
-            at += 1
-        elif word == "--here":
-            found[word] = ""
-        elif word.startswith("--"):
-            raise Wrong(texts.said("coverage.words"), 2)
-        else:
-            said.append(word)
-        at += 1
-    if len(said) < 3:
+    read = read_options(words, OPTIONS, ["--here"])
+    if read is None or len(read[0]) < 3:
         raise Wrong(texts.said("coverage.words"), 2)
+    said, found = read[0], {option: "".join(values) for option, values in read[1].items()}
     if "--least" in found and not re.fullmatch(r"(100|[0-9]{1,2})(\.[0-9]{1,3})?", found["--least"]):
         raise Wrong(texts.said("coverage.least", text=found["--least"]), 2)
     return said, found

@@ -23,31 +23,19 @@ from typing import Iterator
 
 from .. import articles, here, laws, reference, reference_pages, source, texts
 from ..endings import Wrong, ended
+from ..options import read_options
 from ..places import shown_name
 
-VALUED = ("--into", "--title", "--lang", "--articles")
+VALUED = ("--into", "--title", "--lang")
 MARK = "reference.txt"
 
 
 def options(words: list[str]) -> tuple[list[str], dict[str, str], list[articles.Article]]:
-    said, found, patterns, at = [], dict[str, str](), [], 0
-    while at < len(words):
-        word = words[at]
-        if word in VALUED and at + 1 < len(words) and (word not in found or word == "--articles"):
-            at += 1
-            found[word] = words[at]
-            if word == "--articles":
-                patterns.append(articles.article_of(words[at]))
-        elif word == "--here":
-            found[word] = ""
-        elif word.startswith("--"):
-            raise Wrong(texts.said("doc.words"), 2)
-        else:
-            said.append(word)
-        at += 1
-    if not 1 <= len(said) <= 2 or "--into" not in found:
+    read = read_options(words, VALUED, ["--here"], ["--articles"])
+    if read is None or not 1 <= len(read[0]) <= 2 or "--into" not in read[1]:
         raise Wrong(texts.said("doc.words"), 2)
-    return [*said, "-"][:2], found, patterns
+    patterns = [articles.article_of(text) for text in read[1].pop("--articles", [])]
+    return [*read[0], "-"][:2], {option: "".join(values) for option, values in read[1].items()}, patterns
 
 
 def may_be_replaced(folder: str) -> bool:

@@ -26,6 +26,7 @@ from .. import runs, source
 from ..claims import Claim, lines_of, of_line
 from ..copies import printed, text_of_error
 from ..endings import Wrong, ended, files_named
+from ..options import read_options
 from ..program import TOP, whole_folder
 from ..reasons import Rules
 
@@ -191,15 +192,8 @@ def verify(folder: str) -> int:
 
 def read_words(words: list[str]) -> tuple[list[str], dict[str, str]]:
     """The files and the options."""
-    files, options = [], {}
-    while words:
-        word = words.pop(0)
-        if word in ("--of", "--into", "--verify") and word not in options and words:
-            options[word] = words.pop(0)
-        elif word.startswith("--"):
-            raise Wrong(WORDS, 2)
-        else:
-            files.append(word)
+    files, found = read_options(words, ["--of", "--into", "--verify"]) or ([], {})
+    options = {option: value for option, [value] in found.items()}
     if set(options) not in ({"--verify"}, {"--of", "--into"}) or len(files) != (0 if "--verify" in options else 3):
         raise Wrong(WORDS, 2)
     return files, options
