@@ -39,7 +39,7 @@ static LISTS: [(&str, &str); 14] = [
     ),
     (
         "regle 1 : application : iliad ; pour i = V,C ; j = 1 : pour un k dans (1..3) : Tik = i ; U = 2 ;",
-        "rule 1 0:1 iliad |{i@37 V..V C..C}{j@47 1..1}{k@63 1..3} Tik 79:1 = i@85 | U 89:1 = 2000000\n",
+        "rule 1 0:1 iliad |{i@37 V C}{j@47 1}{k@63 1..3} Tik 79:1 = i@85 | U 89:1 = 2000000\n",
     ),
     (
         "regle 1 : application : iliad ; T[X] = X ; T[007] = 2 ; T = 3 ;",

@@ -39,7 +39,7 @@ static TERMS: [(&str, &str); 39] = [
     ("somme(i = 1..3 : Ai) ;", "({i@6 1..3} Ai@17) to 10"),
     (
         "somme(un i dans V,C et un j dans (08..10) : Aij) ;",
-        "({i@9 V..V C..C}{j@26 08..10} Aij@44) to 20",
+        "({i@9 V C}{j@26 08..10} Aij@44) to 20",
     ),
     ("-A ;", "(Neg A@1) to 2"),
     ("A - B - C ;", "[A@0 Sub B@4 Sub C@8] to 5"),
@@ -95,15 +95,16 @@ static NO_TERMS: [(&str, &str); 21] = [
 ];
 
 // Texts with the header at their start and the position after it.
-static HEADERS: [(&str, &str); 5] = [
-    ("i = V,C :", "{i@0 V..V C..C} to 5"),
+static HEADERS: [(&str, &str); 6] = [
+    ("i = V,C :", "{i@0 V C} to 5"),
+    ("i = V..V :", "{i@0 V} to 5"),
     ("i=V..X,010;j=1..3:", "{i@0 V..X 010..010}{j@11 1..3} to 13"),
     (
         "un i dans V,C et un j dans (1..3) :",
-        "{i@3 V..V C..C}{j@20 1..3} to 15",
+        "{i@3 V C}{j@20 1..3} to 15",
     ),
-    ("un z dans (9) :", "{z@3 9..9} to 6"),
-    ("a = 123456789 :", "{a@0 123456789..123456789} to 3"),
+    ("un z dans (9) :", "{z@3 9} to 6"),
+    ("a = 123456789 :", "{a@0 123456789} to 3"),
 ];
 
 // Texts that don't start with a header.
@@ -171,8 +172,10 @@ fn add_in(out: &mut Vec<u8>, negated: bool) {
 fn add_span(out: &mut Vec<u8>, span: &Span) {
     add(out, b" ");
     add(out, span.from.bytes());
-    add(out, b"..");
-    add(out, span.to.bytes());
+    if let Some(to) = &span.to {
+        add(out, b"..");
+        add(out, to.bytes());
+    }
 }
 
 fn add_index(alloc: Global, out: &mut Vec<u8>, index: &Index) {

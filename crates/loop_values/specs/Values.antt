@@ -1,6 +1,6 @@
 -- The values of an index, in the order of the source.
 use Rattle.std.specs.Prelude.{ℕ, ◌+◌, ◌-◌, Bool, true, false, ◌&&◌, List, [], ◌∷◌, ◌++◌, map, length, replicate, nat_le, slice_index, decimal, if◌then◌else◌}
-use Rattle.std.specs.Str.{bytes_eq}
+use Rattle.std.specs.Option.{option_map_or}
 use Rattle.std.specs.Str.Parse.{digits_value}
 use Rattle.std.specs.List.{flat_map, range_with_len}
 use Rattle.m_fixed.specs.Text.{is_digits}
@@ -35,19 +35,18 @@ numbers_between from to = map (number_word (length from)) (from_to (digits_value
 abbrev pub letters_between : List ℕ → List ℕ → List (List ℕ)
 letters_between from to = map letter_word (from_to (slice_index from 0) (slice_index to 0))
 
--- The values of a span. Two points with the same spelling are one value. Two whole numbers give the
--- numbers from the low one to the high one, each padded to the digits of the low one: `8..10` is 8,
--- 9, 10, and `08..10` is 08, 09, 10. Two single letters give a range of letters: `A..C` is A, B, C.
--- Any other span has no values, which makes it a bad range.
+-- The values from one to another. Two whole numbers give the numbers from the low one to the high
+-- one, each padded to the digits of the low one: `8..10` is 8, 9, 10, and `08..10` is 08, 09, 10. Two
+-- single letters give a range of letters: `A..C` is A, B, C. Any other span has no values, which makes
+-- it a bad range.
 abbrev pub values_between : List ℕ → List ℕ → List (List ℕ)
 values_between from to =
-    if bytes_eq from to then from ∷ []
-    else if is_whole from && is_whole to then numbers_between from to
+    if is_whole from && is_whole to then numbers_between from to
     else if is_capital from && is_capital to then letters_between from to
     else []
 
 abbrev pub span_values : Span → List (List ℕ)
-span_values span = values_between span.from span.to
+span_values span = option_map_or (values_between span.from) span.to (span.from ∷ [])
 
 -- the values of an index: V, 1, 2 for `i = V, 1..2`
 abbrev pub index_values : Index → List (List ℕ)

@@ -90,13 +90,10 @@ fn point(index: &Index) -> Option<&Name>
     ensures { IfSome result (λ value. index_values index.now ≡ value.now ∷ []) }
 {
     match index.values.as_slice() {
-        [span] => {
-            if span.from.bytes() == span.to.bytes() {
-                Some(&span.from)
-            } else {
-                None
-            }
-        }
+        [span] => match &span.to {
+            None => Some(&span.from),
+            Some(_) => None,
+        },
         _ => None,
     }
 }

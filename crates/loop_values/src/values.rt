@@ -56,12 +56,13 @@ pub fn has_bad_span(index: &Index) -> bool
 fn push_values(alloc: Global, values: &mut Vec<Name>, span: &Span) -> Result<(), AllocError>
     ensures { OnOk result (values.new.items ≡ values.old.items ++ spec.span_values span.now) }
 {
-    let from = span.from.bytes();
-    let to = span.to.bytes();
-    if from == to {
+    let Some(to) = &span.to else {
         values.push(span.from.copy(alloc)?)?;
-        Ok(())
-    } else if is_whole(from) && is_whole(to) {
+        return Ok(());
+    };
+    let from = span.from.bytes();
+    let to = to.bytes();
+    if is_whole(from) && is_whole(to) {
         push_numbers(alloc, values, from, to)
     } else if is_capital(from) && is_capital(to) {
         push_letters(alloc, values, from[0], to[0])
@@ -105,11 +106,12 @@ fn span_count(span: &Span) -> u64
     ensures count { result ≡ length (spec.span_values span.now) }
     ensures few { result ≤ 1000000000 }
 {
+    let Some(to) = &span.to else {
+        return 1;
+    };
     let from = span.from.bytes();
-    let to = span.to.bytes();
-    if from == to {
-        1
-    } else if is_whole(from) && is_whole(to) {
+    let to = to.bytes();
+    if is_whole(from) && is_whole(to) {
         numbers_count(from, to)
     } else if is_capital(from) && is_capital(to) {
         letters_count(from[0], to[0])

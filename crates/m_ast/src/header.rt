@@ -5,12 +5,12 @@ use crate::copies::{Duplicate, copy_all};
 use m_places::{Name, Place, Seq};
 use std::alloc::{AllocError, Global};
 
-/// Consecutive values of an index, as they are spelled: `08..10` is from `08` to `10`. The ends of
-/// a single value are equal.
+/// Consecutive values of an index, as they are spelled: `08..10` is from `08` to `10`. A single value
+/// has no other end.
 #[derive(Drop)]
 pub struct Span {
     pub from: Name,
-    pub to: Name,
+    pub to: Option<Name>,
 }
 
 /// An index of a loop: a letter and the values that it takes, in the order of the source.
@@ -37,7 +37,10 @@ impl Span {
         ensures { IfOk result (λ s. s ≡ self.now) }
     {
         let from = self.from.copy(alloc)?;
-        let to = self.to.copy(alloc)?;
+        let to = match &self.to {
+            Some(to) => Some(to.copy(alloc)?),
+            None => None,
+        };
         Ok(Span { from, to })
     }
 }

@@ -1,5 +1,6 @@
 -- The grammar of loop headers: `i = V,C ; j = 08..10`, or `un i dans V,C et un j dans (08..10)`.
 use Rattle.std.specs.Prelude.{ℕ, cond, List, [], ◌∷◌, Option, Some, None}
+use Rattle.std.specs.Str.{bytes_eq}
 use Rattle.m_places.specs.declared.place.Place.{Place}
 use Rattle.m_lexer.specs.declared.token.Token.{Token}
 use Rattle.m_lexer.specs.declared.token.Kind.{Kind}
@@ -35,8 +36,9 @@ letter_at_place None p = None
 abbrev pub letter : Token → Option (ℕ × Place)
 letter t = letter_at_place (letter_of t.kind) t.place
 
+-- the values from one to another; if both have the same spelling, one value
 abbrev pub span : List ℕ → List ℕ → Span
-span a b = record { from = a; to = b }
+span a b = record { from = a; to = cond (bytes_eq a b) None (Some b) }
 
 abbrev pub index : ℕ × Place → List Span → Index
 index l vs = record { letter = l.0; place = l.1; values = vs }

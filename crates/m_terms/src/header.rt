@@ -27,7 +27,10 @@ fn read_span(alloc: Global, cursor: &mut Cursor<'_>) -> Result<Span, TermFault>
         last = second;
     }
     let from = Name::new(alloc, first)?;
-    let to = Name::new(alloc, last)?;
+    if first == last {
+        return Ok(Span { from, to: None });
+    }
+    let to = Some(Name::new(alloc, last)?);
     Ok(Span { from, to })
 }
 
