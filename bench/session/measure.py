@@ -188,7 +188,7 @@ def main():
     for name, key in (("impots", EXAMPLES[0][0]), ("impot2023", EXAMPLES[1][0]), ("large_100000", 100_000)):
         figure(f"session.{name}_shows_a_second", 1 / each[key][0])
     figure("session.large_100000_to_large_1000", ratio, "<=1.2")
-    figure("session.bytes_a_node_above_the_program", a_node - NODE_BYTES, "<=64")
+    figure("session.bytes_a_node_above_the_program", a_node - NODE_BYTES, "<=168")
     figure("session.200000_shows_s", nothing[0] * SHOWS, "<=3")
 
 
