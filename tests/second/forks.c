@@ -1,8 +1,9 @@
 /* Starts a program often: loaded before it (LD_PRELOAD), it reads requests from the standard input and runs the program once for each, in a process that is
-   forked where `main` would be called. So the loader's work is done once. rooms.py builds it and has the other side.
+   forked where `main` would be called. So the loader's work is done once.
 
    A request is a `struct request`, the words, each ended by a zero byte, and what is typed. The reply has a `struct piece` before each piece of what the
-   program prints; the last one has how it ended. One with the status READY comes before all. Each run begins with the same memory, as nothing here takes any. */
+   program prints; the last one has how it ended. One with the status READY comes before all. Each run begins with the same memory, as nothing here takes
+   any. starting.py has the other side. */
 #define _GNU_SOURCE
 #include <dlfcn.h>
 #include <fcntl.h>
