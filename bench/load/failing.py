@@ -56,7 +56,7 @@ UNREADABLE = re.compile(rb"unreadable [a-z0-9]+\.(list|m|mpp|csv|code|txt)\n")
 
 
 def files(program, folder):
-    """The files of the commands: those of examples/impots with their code file, a table of 600 households (groups have 256), one of 20,000 over a
+    """The files of the commands: those of examples/impots with their code file, a table of 600 households (groups have 256), one of 10,000 over a
     single rule, which is more than a window has, eight rule files, and refused ones."""
     for name in ("impots.m", "driver.mpp", "household.csv"):
         with open(os.path.join(TOP, "examples", "impots", name), "rb") as it, open(os.path.join(folder, name), "wb") as out:
@@ -72,7 +72,7 @@ def files(program, folder):
         "small.m": "V : saisie revenu classe = 0 alias 7UD : \"\" ;\nA : calculee restituee : \"\" ;\nregle 1 : application : iliad ; A = V + 1 ;\n",
         "ranges.csv": "code,given,least,greatest\nA01,maybe,0,100000\n7UD,yes,0,1000\n0NB,yes,1,4\n",
         "badranges.csv": "code,given,least,greatest\n7UD,yes,1,x\n",
-        "wide.csv": "name,7UD\n" + "".join(f"h{n},{n}\n" for n in range(20_000)),
+        "wide.csv": "name,7UD\n" + "".join(f"h{n},{n}\n" for n in range(10_000)),
         "eight.list": "iliad\n" + "".join(f"r{n}.m\n" for n in range(8)),
         **{f"r{n}.m": f"A{n} : calculee restituee : \"\" ;\nregle {n + 1} : application : iliad ; A{n} = {n} ;\n" for n in range(8)},
         "none.csv": "code,amount\n",
