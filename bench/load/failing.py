@@ -1,19 +1,19 @@
 #!/usr/bin/env python3
-"""Runs the program with each of its calls for memory, and each open, read and write, failing in turn.
+"""Runs the programs with each of their calls for memory, and each open, read and write, failing in turn.
 
     failing.py PROGRAM FOLDER [COMMAND..]
 
-Each command of COMMANDS is run as it is, and then once for each call of a kind, in which that one call fails (failing.c, by
-LD_PRELOAD). docs/FORMATS.md has what must happen then:
+PROGRAM is m_tax; m_survey is beside it. Each command of COMMANDS is run as it is, and then once for each call of a kind, in which that one call fails
+(failing.c, by LD_PRELOAD). docs/FORMATS.md has what must happen then:
 
-- no memory: status 5 with nothing on the standard output, except for `batch` and `cases`, which may have written a prefix of the answer; or the same as
-  without it, if the memory was for an optional buffer (a sort's, for example);
+- no memory: status 5 with nothing on the standard output, except for `batch`, `cases` and `table`, which may have written a prefix of the answer; or the
+  same as without it, if the memory was for an optional buffer (a sort's, for example);
 - an open or a read that fails: status 3 and the line `unreadable NAME`, of a file that the command names; the same as without it, where the
   machine's own list of processors (below /sys) can't be opened or read; in a session that has begun, the replies to the lines so far
   and the line `unreadable input`;
 - a write that fails: status 4, and a prefix of the answer.
 
-Prints a line for each run that ends in another way, and a table of the counts of runs. Past 3,000 calls of a kind only some hundred are tried.
+Prints a line for each run that ends in another way, and a table of the counts of runs. Past EACH calls of a kind only some hundred are tried.
 The status is 1 where there was one.
 """
 import os
@@ -28,6 +28,8 @@ from measured import figure  # noqa: E402
 HERE = os.path.dirname(os.path.abspath(__file__))
 TOP = os.path.dirname(os.path.dirname(HERE))
 RUN = ["rules.list", "driver.mpp", "-"]
+EACH = 5_000
+SURVEYS = ("table", "facts", "version")
 COMMANDS = {
     "run": (["run", *RUN, "household.csv"], b""),
     "serve": (["serve", *RUN, "household.csv"], b"show\nset 7UD 50000\nshow\nclear 7UD\nshow\n"),
@@ -43,12 +45,18 @@ COMMANDS = {
     "a refused code file": (["exec", "cut.code", "household.csv"], b""),
     "a refused source": (["run", "refused.list", "-", "-", "household.csv"], b""),
     "a refused household": (["run", *RUN, "refused.csv"], b""),
+    "table": (["table", *RUN, "table.csv"], b""),
+    "table of a code file": (["table", "impots.code", "table.csv"], b""),
+    "a table of several windows": (["table", "small.list", "-", "-", "wide.csv"], b""),
+    "facts": (["facts", *RUN, "ranges.csv"], b""),
+    "version": (["version"], b""),
+    "refused ranges": (["facts", *RUN, "badranges.csv"], b""),
 }
 UNREADABLE = re.compile(rb"unreadable [a-z0-9]+\.(list|m|mpp|csv|code|txt)\n")
 
 
 def files(program, folder):
-    """The files of the commands: those of examples/impots with their code file, a table of 600 households (groups have 256), one of 20,000 over a
+    """The files of the commands: those of examples/impots with their code file, a table of 600 households (groups have 256), one of 10,000 over a
     single rule, which is more than a window has, eight rule files, and refused ones."""
     for name in ("impots.m", "driver.mpp", "household.csv"):
         with open(os.path.join(TOP, "examples", "impots", name), "rb") as it, open(os.path.join(folder, name), "wb") as out:
@@ -62,7 +70,9 @@ def files(program, folder):
         "cases.csv": "name,A01,=IRNET\n" + "".join(f"h{n},{100 * n},0\n" for n in range(300)),
         "small.list": "iliad\nsmall.m\n",
         "small.m": "V : saisie revenu classe = 0 alias 7UD : \"\" ;\nA : calculee restituee : \"\" ;\nregle 1 : application : iliad ; A = V + 1 ;\n",
-        "wide.csv": "name,7UD\n" + "".join(f"h{n},{n}\n" for n in range(20_000)),
+        "ranges.csv": "code,given,least,greatest\nA01,maybe,0,100000\n7UD,yes,0,1000\n0NB,yes,1,4\n",
+        "badranges.csv": "code,given,least,greatest\n7UD,yes,1,x\n",
+        "wide.csv": "name,7UD\n" + "".join(f"h{n},{n}\n" for n in range(10_000)),
         "eight.list": "iliad\n" + "".join(f"r{n}.m\n" for n in range(8)),
         **{f"r{n}.m": f"A{n} : calculee restituee : \"\" ;\nregle {n + 1} : application : iliad ; A{n} = {n} ;\n" for n in range(8)},
         "none.csv": "code,amount\n",
@@ -83,7 +93,8 @@ def done(program, folder, shim, words, typed, kind="", number=0):
     if os.path.exists(mark):
         os.remove(mark)
     env = {"LD_PRELOAD": shim, "FAIL_KIND": kind, "FAIL_AT": str(number), "FAIL_MARK": mark}
-    run = subprocess.run([program, *words], cwd=folder, env=env, input=typed, stdout=subprocess.PIPE, stderr=subprocess.PIPE, timeout=60, check=False)
+    path = os.path.join(os.path.dirname(program), "m_survey") if words[0] in SURVEYS else program
+    run = subprocess.run([path, *words], cwd=folder, env=env, input=typed, stdout=subprocess.PIPE, stderr=subprocess.PIPE, timeout=60, check=False)
     if not os.path.exists(mark):
         return None, run.returncode, run.stdout
     with open(mark, encoding="utf-8", errors="replace") as text:
@@ -92,7 +103,7 @@ def done(program, folder, shim, words, typed, kind="", number=0):
 
 def is_in_parts(command):
     """Whether a command may have printed a part of its answer when memory ends (`writes_in_parts` of m_commands)."""
-    return COMMANDS[command][0][0] in ("batch", "cases")
+    return COMMANDS[command][0][0] in ("batch", "cases", "table")
 
 
 def is_right(command, kind, name, whole, status, printed):
@@ -130,8 +141,7 @@ def main():
                     wrong += 1
                     print(f"{command}: {kind} {number} failing: status {ended}, {printed[-80:]!r}")
                 counts[command, kind] += 1
-                # past 3,000 calls not each, but some hundred of them
-                number += 1 if number < 3_000 else 1 + number // 100
+                number += 1 if number < EACH else 1 + number // 100
     print("| Command | status | calls for memory | opens | reads | writes |\n|---|---:|---:|---:|---:|---:|")
     for command in chosen:
         print(f"| {command} |", " | ".join(str(counts[command, it]) for it in ("as it is", "memory", "open", "read", "write")), "|")

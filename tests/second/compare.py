@@ -12,10 +12,8 @@ the program's answer is in `program_text` and `program_status`. The status is 0 
 
 import collections
 import os
-import random
 import re
 import shutil
-import subprocess
 import sys
 import tempfile
 import threading
@@ -23,10 +21,13 @@ import threading
 sys.dont_write_bytecode = True
 sys.path.insert(0, os.path.dirname(os.path.abspath(__file__)))
 
+from changing.drawing import Draw  # noqa: E402
 from changing.naming import Row  # noqa: E402
 from changing.rows import changed_row  # noqa: E402
 from reading.commands import output  # noqa: E402
 from reading.surveys import survey_output  # noqa: E402
+from rooms import Folder, Room  # noqa: E402, F401
+from starting import built_forks  # noqa: E402
 
 ROOT = os.path.dirname(os.path.dirname(os.path.dirname(os.path.abspath(__file__))))
 DATA = os.path.join(ROOT, "crates", "rows", "data")
@@ -35,25 +36,7 @@ WORDS = b"run l.txt - - h.csv"
 MOST_BYTES = 7_000
 SLOW = {"drivers_calls_that_double_18_times", "loops_2000000_parts", "loops_2000002_parts", "large_5000"}
 SECONDS = 60
-
-
-class Folder:
-    """The files below a folder, each read when it is requested, as the program reads them."""
-
-    def __init__(self, path):
-        self.path = os.fsencode(path)
-
-    def __contains__(self, name):
-        try:
-            return self[name] is not None
-        except (OSError, ValueError):
-            return False
-
-    def __getitem__(self, name):
-        if not name:
-            raise FileNotFoundError
-        with open(os.path.join(self.path, name), "rb") as file:
-            return file.read()
+MEMORY = 4 << 30
 
 
 # ---- rows
@@ -129,16 +112,6 @@ def answer_kind(said):
     return NAMED.sub(r"\1", re.sub(r"^(refused driver: unknown) .*", r"\1", line))
 
 
-def program_answer(program, row, folder):
-    """What a program prints for a row whose files are in a folder, and its status."""
-    words = [program] + [os.fsdecode(word) for word in row.words]
-    try:
-        done = subprocess.run(words, cwd=folder, input=row.typed, stdout=subprocess.PIPE, timeout=SECONDS, check=False)
-    except subprocess.TimeoutExpired:
-        return b"no answer within %d seconds\n" % SECONDS, -1
-    return done.stdout, done.returncode
-
-
 def write_files(files, folder):
     """Writes files into an empty folder."""
     shutil.rmtree(folder, ignore_errors=True)
@@ -153,7 +126,7 @@ def keep(name, row, said, text, status):
     folder = os.path.join(KEPT, name)
     own = {b"words": b" ".join(row.words) + b"\n", b"typed": row.typed}
     wanted = {b"text": said.text, b"status": b"%d\n" % said.status}
-    told = {b"program_text": text, b"program_status": b"%d\n" % status}
+    told = {b"program_text": text, b"program_status": b"%s\n" % str(status).encode()}
     write_files({**row.files, **own, **wanted, **told}, folder)
     print("second: different: %s: the program says %r, the reading %r" % (folder, text[:100], said.text[:100]))
 
@@ -165,14 +138,13 @@ def compare_changed(program, rows, count, seed):
     bad = [row for row, status in pool if status not in (0, 6)]
     kinds = collections.Counter()
     different = 0
-    with tempfile.TemporaryDirectory() as folder:
-        place = os.path.join(folder, "row")
+    with tempfile.TemporaryDirectory() as folder, Room(program, SECONDS, MEMORY, program and built_forks(folder, program)) as room:
         for number in range(count):
-            row = changed_row(number, random.Random("%d:%d" % (seed, number)), good, bad)
-            write_files(row.files, place)
-            said = output(row.words, Folder(place), row.typed)
+            row = changed_row(number, Draw("%d:%d" % (seed, number)), good, bad)
+            room.put(row)
+            said = output(row.words, room.files(), row.typed)
             kinds[answer_kind(said)] += 1
-            text, status = program_answer(program, row, place) if program else (said.text, said.status)
+            text, status = room.said(row) if program else (said.text, said.status)
             if program and not said.is_one_with(text, status):
                 different += 1
                 keep("%d_%d" % (seed, number), row, said, text, status)

@@ -30,6 +30,20 @@ TEXT = rb"(?:" + AMOUNT + rb"|undefined|over|stop)"
 MISMATCH = re.compile(rb"^mismatch .+ " + NAME + rb" expected " + TEXT + rb" got " + TEXT + rb"$", re.DOTALL)
 COUNTED = re.compile(rb"^cases [0-9]+ mismatches [0-9]+$")
 USAGE = b"usage: m_tax "
+USAGE_OF_SURVEYS = b"usage: m_survey "
+VERSION = re.compile(rb"^vodmejka [0-9]+\.[0-9]+\.[0-9]+$")
+REFUSED_RANGES = re.compile(
+    rb"^refused ranges(?:: (?:bad header|too many rows)| line [0-9]+: (?:bad row|unknown code|bad amount|not of its type|code twice))$"
+)
+FACT = re.compile(rb"^NAME (?:(?:AMOUNT(?: to AMOUNT)?|undefined)(?: or undefined)?(?: or over)?|over)$".replace(b"NAME", NAME).replace(b"AMOUNT", AMOUNT))
+NEVER_STOPS = re.compile(rb"^never stops [0-9]{1,9} [0-9A-Za-z_]+$")
+DEPENDS = re.compile(rb"^depends NAME(?: [0-9A-Za-z_]+)*$".replace(b"NAME", NAME))
+HEAD_OF_TABLE = re.compile(rb"^name,stop,notes(?:,NAME)*$".replace(b"NAME", NAME))
+LABEL_FIELD = re.compile(rb'^(?:[^",\r]+|"(?:[^"]|"")*"),')
+RESULT = re.compile(
+    rb"^(?:(?:failed|over verification) V|over driver line [0-9]+)?,(?:V(?:; V)*)?(?:,(?:AMOUNT|over)?)*$"
+    .replace(b"V", rb"[0-9]{1,9} [0-9A-Za-z_]+").replace(b"AMOUNT", AMOUNT)
+)
 CODE_LINE = re.compile(
     rb"^(?:slots [0-9]+|input [0-9A-Za-z_]+(?: whole| truth)?"
     rb"|label verif [0-9]{1,9} [0-9A-Za-z_]+ (?:anomalie|discordance|informative) (?:[0-9a-f]{2})+|label driver [0-9]+"
@@ -122,6 +136,46 @@ def wrong_output(command, text, status):
     return None if FORMS.get(command, lambda lines: is_answer(lines[1:]))(lines) else "a line of no form"
 
 
+def is_table(lines):
+    """Whether lines are a table of m_survey: a header, and as many fields in each record."""
+    if not lines or not HEAD_OF_TABLE.match(lines[0]):
+        return False
+    fields = lines[0].count(b",")
+    for line in lines[1:]:
+        label = LABEL_FIELD.match(line)
+        rest = line[label.end():] if label else b""
+        if not label or not RESULT.match(rest) or rest.count(b",") + 1 != fields:
+            return False
+    return True
+
+
+def are_facts(lines):
+    """Whether lines are facts: of the requested cells, of verifications, and then dependencies."""
+    kinds = ["f" if FACT.match(line) else "n" if NEVER_STOPS.match(line) else "d" if DEPENDS.match(line) else "?" for line in lines]
+    return re.match("f*n*d*$", "".join(kinds)) is not None
+
+
+def wrong_survey(command, text, status):
+    """What is wrong with an output of m_survey and its status, or None."""
+    if status in (1, 3, 5):
+        if status == 1 and REFUSED_RANGES.match(text[:-1]) and text.endswith(b"\n"):
+            return None if command == b"facts" else "status 1, and no refusal"
+        return wrong_output(b"batch" if command == b"table" else b"lint", text, status)
+    if text and not text.endswith(b"\n"):
+        return "the last line isn't ended"
+    lines = text.split(b"\n")[:-1]
+    if status == 2:
+        return None if text.startswith(USAGE_OF_SURVEYS) and len(lines) == 1 else "status 2, and no usage line"
+    if status != 0:
+        return "no documented status"
+    return None if FORMS_OF_SURVEYS.get(command, lambda _: False)(lines) else "a line of no form"
+
+
+FORMS_OF_SURVEYS = {
+    b"table": is_table,
+    b"facts": are_facts,
+    b"version": lambda lines: len(lines) == 1 and VERSION.match(lines[0]) is not None,
+}
 FORMS = {
     b"run": is_answer,
     b"serve": are_replies,

@@ -1,8 +1,9 @@
 """A folder in which a program is run on one row after another, which costs little compared with the program itself.
 
-It has only the files of a row that its words or its list name, and those that are there already aren't written again. The program is started without
-a copy of this process; what is typed waits for it in a pipe, and the limit on memory is this process's own while the program is being started, which inherits
-it. Its seconds are those of processors, since on a busy machine the clock is unreliable; the clock ends only what waits.
+It has only the files of a row that its words or its list name, and those that are there already aren't written again. Where there is a C compiler, processes
+of the program itself start it (starting.py). Else it is started without a copy of this process; what is typed waits for it in a pipe, and the limit on memory
+is this process's own while the program is being started, which inherits it. Its seconds are those of processors, since on a busy machine the clock is
+unreliable; the clock ends only what waits.
 """
 import contextlib
 import os
@@ -14,16 +15,38 @@ import subprocess
 import tempfile
 import time
 
+from starting import Starter, is_taken
+
 MEMORY_FOLDER = "/dev/shm"
 CHUNK = 1 << 20
 CLOCK = 30
 
 
+class Folder:
+    """The files below a folder, each read when it is requested, as the program reads them."""
+
+    def __init__(self, path):
+        self.path = os.fsencode(path)
+
+    def __contains__(self, name):
+        try:
+            return self[name] is not None
+        except (OSError, ValueError):
+            return False
+
+    def __getitem__(self, name):
+        if not name:
+            raise FileNotFoundError
+        with open(os.path.join(self.path, name), "rb") as file:
+            return file.read()
+
+
 class Room:
     """A folder for one program, within limits on its seconds (of processors; by the clock it is CLOCK times as many) and on its bytes of addresses.
-    This process has it as its working folder until it is closed."""
+    This process has it as its working folder until it is closed. With the path of forks.c, built, it has two starters of the program, each with addresses of
+    its own."""
 
-    def __init__(self, program, seconds, memory):
+    def __init__(self, program, seconds, memory, forks=None):
         self.program, self.seconds, self.memory = program, seconds, memory
         self.top = tempfile.mkdtemp(dir=MEMORY_FOLDER if os.access(MEMORY_FOLDER, os.W_OK | os.X_OK) else None)
         self.folder = os.path.join(self.top, "row")
@@ -33,11 +56,14 @@ class Room:
         resource.setrlimit(resource.RLIMIT_CORE, (0, 0))
         keep_descriptors()
         os.chdir(self.folder)
+        self.starters = [Starter(program, forks, (seconds, CLOCK * seconds, memory)) for _ in range(2)] if forks else None
 
     def __enter__(self):
         return self
 
     def __exit__(self, *_):
+        for starter in self.starters or []:
+            starter.close()
         os.chdir(self.before)
         os.close(self.nowhere)
         shutil.rmtree(self.top, ignore_errors=True)
@@ -54,8 +80,16 @@ class Room:
                     file.write(text)
                 self.standing[name] = text
 
-    def said(self, row):
-        """What the program prints on the row whose files are here, and its status; a status below 0 is a signal, and None that it took too long."""
+    def files(self):
+        """The files below the folder, each as it is; those that this put here aren't read again."""
+        return Standing(self.folder, self.standing)
+
+    def said(self, row, again=False):
+        """What the program prints on the row whose files are here, and its status; a status below 0 is a signal, and None that it took too long. `again` is
+        for a second run of it."""
+        if self.starters and is_taken(row):
+            text, status = self.starters[again].said(row)
+            return (b"", None) if status in (None, -signal.SIGXCPU) else (text, status)
         typed = pipe_with(row.typed)
         if typed is None:
             return self.said_to_much(row)
@@ -114,6 +148,20 @@ class Room:
         except subprocess.TimeoutExpired:
             return b"", None
         return (b"", None) if done.returncode == -signal.SIGXCPU else (done.stdout, done.returncode)
+
+
+class Standing(Folder):
+    """The files below a folder, of which some are known."""
+
+    def __init__(self, path, known):
+        super().__init__(path)
+        self.known = known
+
+    def __contains__(self, name):
+        return name in self.known or super().__contains__(name)
+
+    def __getitem__(self, name):
+        return self.known[name] if name in self.known else super().__getitem__(name)
 
 
 def keep_descriptors():

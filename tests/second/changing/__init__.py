@@ -11,6 +11,7 @@ All is drawn from a generator of random numbers that is handed in, so that the s
     codes       code files that are drawn and changed
     files       changes of lists, requests, households, tables, and of what is typed
     rows        which file of a row is changed
+    surveys     rows of m_survey: tables and facts
     bases       small rule bases that are drawn, with what each cell reads
     reports     reports of these, and changes of them
 """

@@ -130,9 +130,8 @@ def exchanged(random, word):
 
 def code_row(random, good):
     """A row of `exec`: a code file that is drawn, or one of a row, with some changes or none."""
-    own = [row for row in good if row.words[:1] == [b"exec"]]
-    if own and chance(random, 20):
-        row = random.choice(own)
+    if any(row.words[:1] == [b"exec"] for row in good) and chance(random, 20):
+        row = random.choice([row for row in good if row.words[:1] == [b"exec"]])
         text = row.files[row.words[1]]
     else:
         text = new_code(random)

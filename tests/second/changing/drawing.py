@@ -1,5 +1,6 @@
 """What changes draw from, and changes of any text: of its pieces, lines and bytes."""
 
+import functools
 import random as numbers
 import re
 
@@ -66,15 +67,21 @@ def some(random, names, other):
     return random.choice(names) if names else other
 
 
-def solid_pieces(pieces):
-    """The positions of the pieces that are neither blank nor a comment."""
-    return [at for at, piece in enumerate(pieces) if piece.strip() and not piece.startswith(b"#")]
+@functools.lru_cache(1_024)
+def cut_text(text):
+    """The pieces of a text, and the positions of those that are neither blank nor a comment. Changes begin with the same texts over and over."""
+    pieces = PIECE.findall(text)
+    return tuple(pieces), tuple(at for at, piece in enumerate(pieces) if piece.strip() and not piece.startswith(b"#"))
+
+
+def pieces_of(text):
+    """The pieces of a text, in a list of its own."""
+    return list(cut_text(text)[0])
 
 
 def change_pieces(random, text, stock):
     """A text of which a piece is dropped, doubled, swapped with another, replaced, followed by another or cut short."""
-    pieces = PIECE.findall(text)
-    solid = solid_pieces(pieces)
+    pieces, solid = pieces_of(text), cut_text(text)[1]
     put = random.choice(stock)
     if not solid:
         return put
@@ -99,8 +106,8 @@ def change_pieces(random, text, stock):
 def exchange(random, text, names):
     """A text of which a piece is exchanged for another of its sort: an operator, a number or a name of a source. In a
     rule file it is mostly after the declarations."""
-    pieces = PIECE.findall(text)
-    solid = [at for at in solid_pieces(pieces) if pieces[at] != b"="]
+    pieces = pieces_of(text)
+    solid = [at for at in cut_text(text)[1] if pieces[at] != b"="]
     first = min((at for at in solid if pieces[at] in (b"regle", b"verif")), default=0)
     if chance(random, 90):
         solid = [at for at in solid if at >= first]

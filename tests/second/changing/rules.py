@@ -4,7 +4,7 @@ import re
 
 from reading.texts import NUMBER
 
-from .drawing import ERROR_KINDS, NUMBERS, PIECE, SPOILT_NUMBERS, TYPES, chance, change_pieces, exchange
+from .drawing import ERROR_KINDS, NUMBERS, SPOILT_NUMBERS, TYPES, chance, change_pieces, exchange, pieces_of
 from .terms import rule_term, single_operator
 
 WORDS = b"""
@@ -36,7 +36,7 @@ def change_rules(random, text, names, wild):
 
 def change_gaps(random, text):
     """A text of which some gaps are others: blanks, line ends and comments."""
-    pieces = PIECE.findall(text)
+    pieces = pieces_of(text)
     for at, piece in enumerate(pieces):
         if not piece.strip() and chance(random, 30):
             pieces[at] = random.choice(GAPS)
@@ -45,7 +45,7 @@ def change_gaps(random, text):
 
 def replace_in_term(random, text, names):
     """A text of which one number or name in a formula or check is replaced by a term."""
-    pieces = PIECE.findall(text)
+    pieces = pieces_of(text)
     rule_seen, in_term, header_of = False, False, None
     found = []
     for at, piece in enumerate(pieces):

@@ -36,7 +36,7 @@ def order_of_functions(blocks):
     def calls(number):
         return [numbers[name] for name in called_in(blocks[names[number]])]
 
-    order, ring = order_or_ring(len(names), calls)
+    order, ring = order_or_ring(range(len(names)), calls)
     if ring:
         raise RingRefused(b"refused driver recursion", names, calls, ring)
     return [names[number] for number in order]

@@ -2,7 +2,8 @@
 
 The program goes by the facts (intervals.py) of what it has compiled and folded, which may be tighter than those of the rules as they are written. So what it
 prints must lie within these, and no household within the ranges may refute it. A table that is read at an index that is no number is compiled to choices
-whose facts may be looser, and so are verifications under a condition of a driver: there it is only required that no household refutes it.
+whose facts may be looser, and so are verifications under a condition of a driver, and what is set there, if either block may be done, since the value from
+before counts too: there it is only required that no household refutes it.
 """
 
 import random
@@ -144,7 +145,8 @@ class Runs:
         self.block(command.other, second)
         for cell, (one, other) in enumerate(zip(first, second)):
             if one is not cells[cell] or other is not cells[cell]:
-                cells[cell] = chosen(condition, one, other)
+                value = chosen(condition, one, other)
+                cells[cell] = value if is_one_value(condition.fact) else value._replace(exact=False)
 
     def call(self, command, cells):
         """Calls the rules, or a function on a copy; only what is received comes back."""

@@ -60,11 +60,11 @@ def at_driver_line(line, words):
     return Refused(b"refused driver line " + decimal(line) + b": " + words)
 
 
-def order_or_ring(count, follows):
-    """The members in an order in which each comes after all that it needs; and a cycle in which each needs the next, if there is one."""
+def order_or_ring(members, follows):
+    """Members, and all that they need, in an order in which each comes after all that it needs; and a cycle in which each needs the next, if there is one."""
     order = []
     done = set()
-    for start in range(count):
+    for start in members:
         if start in done:
             continue
         way = [start]

@@ -80,12 +80,12 @@ def order_of(base):
         found = set()
         if cell in base.terms:
             reads_of(base.terms[cell], found)
-        return sorted(found)
+        return sorted(found & base.terms.keys())
 
-    order, ring = order_or_ring(base.declared.cells, reads)
+    order, ring = order_or_ring(sorted(base.terms), reads)
     if ring:
         raise RingRefused(b"refused cycle", base.declared.printed_names(), reads, ring)
-    return [cell for cell in order if cell in base.terms]
+    return order
 
 
 def rules_values(base, order, environment):
