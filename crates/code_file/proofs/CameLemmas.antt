@@ -1,12 +1,10 @@
 -- Sequences of valid lines, and the first line that isn't valid.
-use Rattle.std.proofs.Common.{◌≡◌, ◌≢◌, ◌<◌, ◌≤◌, ◌+◌, ◌==◌, ℕ, suc, Bool, false, true, not, cond, IsTrue, is_some, List, [], ◌∷◌, ◌++◌, length, fold, refl}
+use Rattle.std.proofs.Common.{◌≡◌, ◌≢◌, ◌<◌, ◌≤◌, ◌+◌, ℕ, suc, false, true, not, IsTrue, is_some, List, [], ◌∷◌, ◌++◌, length, fold, refl}
 use Rattle.std.proofs.Common.{sym, ap, ◌∙◌, subst, arith, append_assoc, append-nil, length-append}
-use Rattle.std.specs.List.{AllByRecursion}
+use Rattle.std.specs.List.{AllByRecursion, flat_map}
 use Rattle.std.proofs.lemmas.Bool.{and_parts, and_from, false≢true, not_from_false, false_from_ne_true}
 use Rattle.std.proofs.lemmas.List.Sums.{fold-append}
 use Rattle.reg_machine.specs.declared.instr.Instr.TheVariants.{Take, Lit, Do, Store, Load, Check, Output}
-use Rattle.m_fixed.specs.Operators.{arity_of}
-use Rattle.m_fixed.specs.declared.amount.Value.TheVariants.{Undef, Num, Over}
 use Rattle.m_names.specs.Names.{has, AreDistinct}
 use Rattle.m_names.proofs.Distinct.{twice}
 use Rattle.observables.specs.declared.inputs.Coded.{Coded}
@@ -17,7 +15,7 @@ use Rattle.observables.specs.declared.face.FaceOutput.TheVariants.{Named, Noted}
 use Rattle.observables.specs.Inputs.{codes_of}
 use Rattle.observables.specs.Outputs.{are_named, notes_stand_first, verif_at}
 use Rattle.code_file.specs.declared.fault.CodeFault.TheVariants.{BadLine, BadOrder}
-use Rattle.code_file.specs.Text.{lines, slots_line, input_line, label_line, output_line}
+use Rattle.code_file.specs.Text.{slots_line, input_line, label_line, output_line}
 use Rattle.code_file.specs.Reading.{Entry, version, slot_count, an_input, a_label, an_output, code_start, an_instr, code_end, entry_line, IsEntry, IsShort}
 use Rattle.code_file.specs.Reading.{Draft, blank, due, stated, AreDue, Ends, ReadsUnwritten, IsCodeFault}
 use Rattle.code_file.specs.inner.Faces.{IsRightInput, IsRightLabel, IsRightOutput}
@@ -43,11 +41,6 @@ came-next bytes rest behind d n e c i t h = record {
   count = omega (arith, length-append c.entries (e ∷ []), c.count);
 }
 
-choice-long : (s t : Bool) (x y z : List ℕ) → 0 < length x → 0 < length y → 0 < length z → 0 < length (cond s x (cond t y z))
-choice-long true t x y z a b c = a
-choice-long false true x y z a b c = b
-choice-long false false x y z a b c = c
-
 -- a line has at least one byte
 pub entry-long : (e : Entry) → 0 < length (entry_line e)
 entry-long version = omega arith
@@ -59,10 +52,8 @@ entry-long (an_output (Named name)) = omega arith
 entry-long (an_output (Noted n)) = omega arith
 entry-long code_start = omega arith
 entry-long (an_instr (Take r n)) = omega arith
-entry-long (an_instr (Lit r Undef)) = omega arith
-entry-long (an_instr (Lit r (Num z))) = omega arith
-entry-long (an_instr (Lit r Over)) = omega arith
-entry-long (an_instr (Do op r a b c)) = choice-long (arity_of op == 1) (arity_of op == 2) _ _ _ (omega arith) (omega arith) (omega arith)
+entry-long (an_instr (Lit r v)) = omega arith
+entry-long (an_instr (Do op r a b c)) = omega arith
 entry-long (an_instr (Store k r)) = omega arith
 entry-long (an_instr (Load r k)) = omega arith
 entry-long (an_instr (Check g c false n)) = omega arith
@@ -70,15 +61,15 @@ entry-long (an_instr (Check g c true n)) = omega arith
 entry-long (an_instr (Output k r)) = omega arith
 entry-long code_end = omega arith
 
-pub lines-long : {X : Type 0} (line : X → List ℕ) (xs : List X) → ((x : X) → 0 < length (line x)) → length xs ≤ length (lines line xs)
+pub lines-long : {X : Type 0} (line : X → List ℕ) (xs : List X) → ((x : X) → 0 < length (line x)) → length xs ≤ length (flat_map line xs)
 lines-long line [] some = omega arith
-lines-long line (x ∷ xs) some = omega (arith, some x, lines-long line xs some, length-append (line x) (lines line xs))
+lines-long line (x ∷ xs) some = omega (arith, some x, lines-long line xs some, length-append (line x) (flat_map line xs))
 
 pub came-long : (bytes rest : List ℕ) (d : Draft) (n : ℕ) → Came bytes d n rest → n ≤ length bytes
 came-long bytes rest d n c = omega (
   arith,
   ap length c.text,
-  length-append (lines entry_line c.entries) rest,
+  length-append (flat_map entry_line c.entries) rest,
   lines-long entry_line c.entries entry-long,
   c.count,
 )
@@ -135,7 +126,7 @@ behind-line : (line tail behind rest : List ℕ) → rest ≡ (line ++ tail) ++ 
 behind-line line tail behind rest e = e ∙ append_assoc line tail behind
 
 pub came-inputs : (bytes rest behind : List ℕ) (slots n m : ℕ) (done xs all : List Coded) → Came bytes (face_so_far slots done [] []) n rest
-    → rest ≡ lines input_line xs ++ behind → AllByRecursion IsRightInput xs → AreDistinct (codes_of all) → all ≡ done ++ xs → m ≡ n + length xs
+    → rest ≡ flat_map input_line xs ++ behind → AllByRecursion IsRightInput xs → AreDistinct (codes_of all) → all ≡ done ++ xs → m ≡ n + length xs
     → Came bytes (face_so_far slots all [] []) m behind
 came-inputs bytes rest behind slots n m done [] all c e r d a k =
     let same : all ≡ done = a ∙ append-nil done in
@@ -143,15 +134,15 @@ came-inputs bytes rest behind slots n m done [] all c e r d a k =
     subst (λ l. Came bytes (face_so_far slots l [] []) m behind) (sym same) (subst (λ i. Came bytes (face_so_far slots done [] []) i behind) (sym count)
     (subst (Came bytes (face_so_far slots done [] []) n) e c))
 came-inputs bytes rest behind slots n m done (x ∷ xs) all c e r d a k =
-    let h = behind-line (input_line x) (lines input_line xs) behind rest e in
+    let h = behind-line (input_line x) (flat_map input_line xs) behind rest e in
     let fresh : not (has x.code (codes_of done)) ≡ true = not_from_false (has x.code (codes_of done))
     (not-again done xs x (subst (λ l. AreDistinct (codes_of l)) a d)) in
-    came-inputs bytes (lines input_line xs ++ behind) behind slots (suc n) m (done ++ x ∷ []) xs all
-    (came-next bytes rest (lines input_line xs ++ behind) (face_so_far slots done [] []) n (an_input x) c r.0 fresh h) refl r.1 d (a
+    came-inputs bytes (flat_map input_line xs ++ behind) behind slots (suc n) m (done ++ x ∷ []) xs all
+    (came-next bytes rest (flat_map input_line xs ++ behind) (face_so_far slots done [] []) n (an_input x) c r.0 fresh h) refl r.1 d (a
     ∙ sym (append_assoc done (x ∷ []) xs)) (omega (arith, k))
 
 pub came-labels : (bytes rest behind : List ℕ) (slots n m : ℕ) (inputs : List Coded) (done xs all : List FaceLabel)
-    → Came bytes (face_so_far slots inputs done []) n rest → rest ≡ lines label_line xs ++ behind → AllByRecursion IsRightLabel xs → all ≡ done ++ xs
+    → Came bytes (face_so_far slots inputs done []) n rest → rest ≡ flat_map label_line xs ++ behind → AllByRecursion IsRightLabel xs → all ≡ done ++ xs
     → m ≡ n + length xs → Came bytes (face_so_far slots inputs all []) m behind
 came-labels bytes rest behind slots n m inputs done [] all c e r a k =
     let same : all ≡ done = a ∙ append-nil done in
@@ -159,13 +150,13 @@ came-labels bytes rest behind slots n m inputs done [] all c e r a k =
     subst (λ l. Came bytes (face_so_far slots inputs l []) m behind) (sym same) (subst (λ i. Came bytes (face_so_far slots inputs done []) i behind) (sym count)
     (subst (Came bytes (face_so_far slots inputs done []) n) e c))
 came-labels bytes rest behind slots n m inputs done (x ∷ xs) all c e r a k =
-    let h = behind-line (label_line x) (lines label_line xs) behind rest e in
-    came-labels bytes (lines label_line xs ++ behind) behind slots (suc n) m inputs (done ++ x ∷ []) xs all
-    (came-next bytes rest (lines label_line xs ++ behind) (face_so_far slots inputs done []) n (a_label x) c r.0 refl h) refl r.1 (a
+    let h = behind-line (label_line x) (flat_map label_line xs) behind rest e in
+    came-labels bytes (flat_map label_line xs ++ behind) behind slots (suc n) m inputs (done ++ x ∷ []) xs all
+    (came-next bytes rest (flat_map label_line xs ++ behind) (face_so_far slots inputs done []) n (a_label x) c r.0 refl h) refl r.1 (a
     ∙ sym (append_assoc done (x ∷ []) xs)) (omega (arith, k))
 
 pub came-outputs : (bytes rest behind : List ℕ) (slots n m : ℕ) (inputs : List Coded) (labels : List FaceLabel) (done xs all : List FaceOutput)
-    → Came bytes (face_so_far slots inputs labels done) n rest → rest ≡ lines output_line xs ++ behind → AllByRecursion IsRightOutput xs
+    → Came bytes (face_so_far slots inputs labels done) n rest → rest ≡ flat_map output_line xs ++ behind → AllByRecursion IsRightOutput xs
     → notes_stand_first labels all ≡ true → all ≡ done ++ xs → m ≡ n + length xs → Came bytes (face_so_far slots inputs labels all) m behind
 came-outputs bytes rest behind slots n m inputs labels done [] all c e r f a k =
     let same : all ≡ done = a ∙ append-nil done in
@@ -173,10 +164,10 @@ came-outputs bytes rest behind slots n m inputs labels done [] all c e r f a k =
     subst (λ l. Came bytes (face_so_far slots inputs labels l) m behind) (sym same) (subst (λ i. Came bytes (face_so_far slots inputs labels done) i behind)
     (sym count) (subst (Came bytes (face_so_far slots inputs labels done) n) e c))
 came-outputs bytes rest behind slots n m inputs labels done (x ∷ xs) all c e r f a k =
-    let h = behind-line (output_line x) (lines output_line xs) behind rest e in
+    let h = behind-line (output_line x) (flat_map output_line xs) behind rest e in
     let parts : all ≡ (done ++ x ∷ []) ++ xs = a ∙ sym (append_assoc done (x ∷ []) xs) in
-    came-outputs bytes (lines output_line xs ++ behind) behind slots (suc n) m inputs labels (done ++ x ∷ []) xs all
-    (came-next bytes rest (lines output_line xs ++ behind) (face_so_far slots inputs labels done) n (an_output x) c r.0
+    came-outputs bytes (flat_map output_line xs ++ behind) behind slots (suc n) m inputs labels (done ++ x ∷ []) xs all
+    (came-next bytes rest (flat_map output_line xs ++ behind) (face_so_far slots inputs labels done) n (an_output x) c r.0
     (notes-prefix labels (done ++ x ∷ []) xs (subst (λ l. notes_stand_first labels l ≡ true) parts f)) h) refl r.1 f parts (omega (arith, k))
 
 -- the state after the slot count
@@ -190,10 +181,10 @@ pub came-face : (bytes rest : List ℕ) (slots n : ℕ) (inputs : List Coded) (l
     → IsRightFace slots inputs labels outputs → bytes ≡ face_text slots inputs labels outputs rest → n ≡ length inputs + (length labels + (length outputs + 2))
     → Came bytes (face_so_far slots inputs labels outputs) n rest
 came-face bytes rest slots n inputs labels outputs r e k =
-    let one = came-slots bytes (lines input_line inputs ++ (lines label_line labels ++ (lines output_line outputs ++ rest))) slots r.slots_fit e in
-    let two = came-inputs bytes _ (lines label_line labels ++ (lines output_line outputs ++ rest)) slots 2 (2 + length inputs) [] inputs inputs one refl
+    let one = came-slots bytes (flat_map input_line inputs ++ (flat_map label_line labels ++ (flat_map output_line outputs ++ rest))) slots r.slots_fit e in
+    let two = came-inputs bytes _ (flat_map label_line labels ++ (flat_map output_line outputs ++ rest)) slots 2 (2 + length inputs) [] inputs inputs one refl
     r.right_inputs r.distinct refl refl in
-    let three = came-labels bytes _ (lines output_line outputs ++ rest) slots (2 + length inputs) (2 + length inputs + length labels) inputs [] labels labels
+    let three = came-labels bytes _ (flat_map output_line outputs ++ rest) slots (2 + length inputs) (2 + length inputs + length labels) inputs [] labels labels
     two refl r.right_labels refl refl in
     came-outputs bytes _ rest slots (2 + length inputs + length labels) n inputs labels [] outputs outputs three refl r.right_outputs r.first refl
     (omega (arith, k))

@@ -1,7 +1,7 @@
 -- The instructions of a code file, and its end.
 use Rattle.std.proofs.Common.{◌≡◌, ◌≢◌, ◌<◌, ◌+◌, ℕ, zero, suc, Bool, false, true, not, cond, is_some, is_none, List, [], ◌∷◌, ◌++◌, length, get_or, codes}
 use Rattle.std.proofs.Common.{Option, Some, None, refl, sym, ap, ◌∙◌, subst, arith, append_assoc, bytes_eq}
-use Rattle.std.specs.List.{AllByRecursion}
+use Rattle.std.specs.List.{AllByRecursion, flat_map}
 use Rattle.std.specs.Option.{option_and_then}
 use Rattle.std.proofs.lemmas.Bool.{or_parts, true≢false, false≢true}
 use Rattle.std.proofs.lemmas.List.Sums.{fold-append}
@@ -21,7 +21,7 @@ use Rattle.observables.specs.declared.face.Face.{Face}
 use Rattle.observables.specs.Inputs.{codes_of}
 use Rattle.code_file.specs.declared.fault.CodeFault.TheVariants.{BadLine}
 use Rattle.code_file.specs.declared.loaded.Loaded.{Loaded}
-use Rattle.code_file.specs.Text.{lines, instr_line}
+use Rattle.code_file.specs.Text.{instr_line}
 use Rattle.code_file.specs.Printable.{IsFreeWord, IsPrintable, IsPrintableLabel, IsPrintableOutput, AreApart}
 use Rattle.code_file.specs.Reading.{version, slot_count, an_input, a_label, an_output, code_start, an_instr, code_end, IsInstr, IsShort, IsFittingLabel}
 use Rattle.code_file.specs.Reading.{IsFittingOutput, Draft, stated, Ends, IsCodeFault, IsFormOf}
@@ -144,7 +144,7 @@ pub next-text : (bytes rest text behind : List ℕ) (slots : ℕ) (face : Face) 
     → cut 10 rest ≡ Some (text, behind) → instr_of text ≡ Some i → new ≡ with_instr code i → bytes ≡ text_so_far slots face new.instrs behind
 next-text bytes rest text behind slots face code new i h e o is =
     subst (λ l. bytes ≡ text_so_far slots face l.instrs behind) (sym is)
-    (h ∙ ap (λ t. text_so_far slots face [] t) (lines-push instr_line (lines instr_line code.instrs ++ rest) rest behind code.instrs i refl
+    (h ∙ ap (λ t. text_so_far slots face [] t) (lines-push instr_line (flat_map instr_line code.instrs ++ rest) rest behind code.instrs i refl
     (instr-front rest text behind i e o)))
 
 pub next-right : (text : List ℕ) (code new : Listing) (i : Instr) → AllByRecursion IsInstr code.instrs → instr_of text ≡ Some i → new ≡ with_instr code i

@@ -1,20 +1,18 @@
 -- Lines of a code file of any kind: a text begins with at most one line that may come next.
-use Rattle.std.proofs.Common.{◌≡◌, ◌≢◌, ℕ, suc, Bool, true, false, cond, List, [], ◌∷◌, ◌++◌, length, take, Option, Some, refl, sym, ap, ◌∙◌, subst}
+use Rattle.std.proofs.Common.{◌≡◌, ◌≢◌, ℕ, suc, true, false, cond, List, [], ◌∷◌, ◌++◌, length, take, Option, Some, refl, sym, ap, ◌∙◌, subst}
 use Rattle.std.proofs.Common.{append_assoc}
-use Rattle.std.specs.Prelude.{codes, decimal, fold, ◌==◌}
+use Rattle.std.specs.Prelude.{codes, fold}
+use Rattle.std.specs.List.{flat_map}
 use Rattle.std.specs.Option.{option_map}
 use Rattle.std.specs.Str.{bytes_eq}
-use Rattle.m_fixed.specs.Operators.{arity_of}
-use Rattle.m_fixed.specs.declared.amount.Value.TheVariants.{Undef, Num, Over}
 use Rattle.observables.specs.declared.face.FaceLabel.TheVariants.{Verif, DriverLine}
 use Rattle.observables.specs.declared.face.FaceOutput.TheVariants.{Named, Noted}
 use Rattle.reg_machine.specs.declared.instr.Instr.{Instr}
 use Rattle.reg_machine.specs.declared.instr.Instr.TheVariants.{Take, Lit, Do, Store, Load, Check, Output}
 use Rattle.reg_machine.proofs.TableLemmas.{none≢some, some-is}
-use Rattle.m_text.specs.Pieces.{joined, new_line}
 use Rattle.code_file.specs.declared.fault.CodeFault.{CodeFault}
 use Rattle.code_file.specs.declared.fault.CodeFault.TheVariants.{BadHeader, BadLine, BadOrder, Memory}
-use Rattle.code_file.specs.Text.{lines, slots_line, input_line, label_line, output_line, instr_line, op_word}
+use Rattle.code_file.specs.Text.{slots_line, input_line, label_line, output_line, instr_line}
 use Rattle.code_file.specs.Reading.{AreDue, Draft, Ends, Entry, IsCodeFault, IsEntry, ReadsUnwritten, Stops, version, slot_count, an_input, a_label, an_output}
 use Rattle.code_file.specs.Reading.{code_start, an_instr, code_end, blank, draft_of, entry_line, stated}
 use Rattle.code_file.specs.inner.Faces.{slots_of, input_of, label_of, output_of}
@@ -57,21 +55,10 @@ entry_by of_end body = Some code_end
 abbrev entry_of : List ℕ → Option Entry
 entry_of body = entry_by (kind_of (body ++ 10 ∷ [])) body
 
-do-kind : (s t : Bool) (one two three : List ℕ) → kind_of (cond s (codes "do " ++ one) (cond t (codes "do " ++ two) (codes "do " ++ three))) ≡ of_instr
-do-kind true t one two three = refl
-do-kind false true one two three = refl
-do-kind false false one two three = refl
-
 instr-kind : (i : Instr) → kind_of (instr_line i) ≡ of_instr
 instr-kind (Take r n) = refl
-instr-kind (Lit r Undef) = refl
-instr-kind (Lit r (Num z)) = refl
-instr-kind (Lit r Over) = refl
-instr-kind (Do op r a b c) =
-    do-kind (arity_of op == 1) (arity_of op == 2)
-    (joined (decimal r ∷ codes " " ∷ op_word op ∷ codes " " ∷ decimal a ∷ new_line ∷ []))
-    (joined (decimal r ∷ codes " " ∷ op_word op ∷ codes " " ∷ decimal a ∷ codes " " ∷ decimal b ∷ new_line ∷ []))
-    (joined (decimal r ∷ codes " " ∷ op_word op ∷ codes " " ∷ decimal a ∷ codes " " ∷ decimal b ∷ codes " " ∷ decimal c ∷ new_line ∷ []))
+instr-kind (Lit r v) = refl
+instr-kind (Do op r a b c) = refl
 instr-kind (Store k r) = refl
 instr-kind (Load r k) = refl
 instr-kind (Check g c false label) = refl
@@ -121,16 +108,17 @@ pub never-empty : (d : Draft) → Ends d []
 never-empty d entry behind e h due = none≢some _ (cut-line entry_line entry_of entry (entry-spells entry h) [] behind e)
 
 -- two maximal lists of valid entries of one text are equal
-pub same-stops : (d : Draft) (es fs : List Entry) (rest left : List ℕ) → lines entry_line es ++ rest ≡ lines entry_line fs ++ left → AreDue d es → AreDue d fs
-    → Ends (fold stated d es) rest → Ends (fold stated d fs) left
+pub same-stops : (d : Draft) (es fs : List Entry) (rest left : List ℕ) → flat_map entry_line es ++ rest ≡ flat_map entry_line fs ++ left
+    → AreDue d es → AreDue d fs → Ends (fold stated d es) rest → Ends (fold stated d fs) left
     → (es ≡ fs) × (rest ≡ left)
 same-stops d [] [] rest left e a b s t = (refl, e)
-same-stops d [] (f ∷ fs) rest left e a b s t = absurd (s f (lines entry_line fs ++ left) (e ∙ append_assoc (entry_line f) (lines entry_line fs) left) b.0 b.1)
-same-stops d (x ∷ es) [] rest left e a b s t = absurd (t x (lines entry_line es ++ rest) (sym e ∙ append_assoc (entry_line x) (lines entry_line es) rest) a.0
-    a.1)
+same-stops d [] (f ∷ fs) rest left e a b s t =
+    absurd (s f (flat_map entry_line fs ++ left) (e ∙ append_assoc (entry_line f) (flat_map entry_line fs) left) b.0 b.1)
+same-stops d (x ∷ es) [] rest left e a b s t =
+    absurd (t x (flat_map entry_line es ++ rest) (sym e ∙ append_assoc (entry_line x) (flat_map entry_line es) rest) a.0 a.1)
 same-stops d (x ∷ es) (f ∷ fs) rest left e a b s t =
-    let u = one-front (lines entry_line (x ∷ es) ++ rest) (lines entry_line es ++ rest) (lines entry_line fs ++ left) x f a.0 b.0
-    (append_assoc (entry_line x) (lines entry_line es) rest) (e ∙ append_assoc (entry_line f) (lines entry_line fs) left) in
+    let u = one-front (flat_map entry_line (x ∷ es) ++ rest) (flat_map entry_line es ++ rest) (flat_map entry_line fs ++ left) x f a.0 b.0
+    (append_assoc (entry_line x) (flat_map entry_line es) rest) (e ∙ append_assoc (entry_line f) (flat_map entry_line fs) left) in
     let b' : AreDue (stated d x) fs = subst (λ (y : Entry). AreDue (stated d y) fs) (sym u.0) b.2 in
     let t' : Ends (fold stated (stated d x) fs) left = subst (λ (y : Entry). Ends (fold stated (stated d y) fs) left) (sym u.0) t in
     let r = same-stops (stated d x) es fs rest left u.1 a.2 b' s t' in

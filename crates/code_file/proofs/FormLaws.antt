@@ -2,7 +2,7 @@
 use Rattle.std.proofs.Common.{◌≡◌, ◌≢◌, ◌<◌, ℕ, suc, Bool, true, false, not, List, [], ◌∷◌, ◌++◌, length, map, Option, Some, None, refl, sym, ap, ◌∙◌, subst}
 use Rattle.std.proofs.Common.{append_assoc, arith}
 use Rattle.std.specs.Prelude.{codes, fold, is_some, is_none, slice_index_or, if◌then◌else◌}
-use Rattle.std.specs.List.{AllByRecursion}
+use Rattle.std.specs.List.{AllByRecursion, flat_map}
 use Rattle.std.specs.Option.{option_and_then, option_map_or}
 use Rattle.std.specs.Str.{bytes_eq}
 use Rattle.std.proofs.Common.{inl, inr}
@@ -27,7 +27,7 @@ use Rattle.code_file.specs.declared.fault.CodeFault.TheVariants.{Memory}
 use Rattle.code_file.specs.declared.loaded.Loaded.{Loaded}
 use Rattle.code_file.specs.Loading.{text_with}
 use Rattle.code_file.specs.Printable.{AreApart, IsFreeWord, IsPrintableLabel, IsPrintableOutput}
-use Rattle.code_file.specs.Text.{lines, slots_line, input_line, label_line, output_line, instr_line}
+use Rattle.code_file.specs.Text.{slots_line, input_line, label_line, output_line, instr_line}
 use Rattle.code_file.specs.Reading.{AreDue, Draft, Entry, IsCodeFault, IsFittingLabel, IsFittingOutput, IsFormOf, IsInstr, version, slot_count, an_input}
 use Rattle.code_file.specs.Reading.{a_label, an_output, code_start, an_instr, code_end, blank, draft_of, entry_line, stated}
 use Rattle.code_file.proofs.EntryLaws.{fault-stops, never-empty, same-stops}
@@ -41,13 +41,13 @@ entries_of loaded =
 
 -- lines of elements of one kind, followed by others
 lines-made : {X : Type 0} (line : X → List ℕ) (made : X → Entry) → ((x : X) → entry_line (made x) ≡ line x)
-    → (xs : List X) (behind : List Entry) (text : List ℕ) → lines entry_line behind ≡ text
-    → lines entry_line (map made xs ++ behind) ≡ lines line xs ++ text
+    → (xs : List X) (behind : List Entry) (text : List ℕ) → flat_map entry_line behind ≡ text
+    → flat_map entry_line (map made xs ++ behind) ≡ flat_map line xs ++ text
 lines-made line made is [] behind text h = h
 lines-made line made is (x ∷ xs) behind text h =
-    (λ i. is x i ++ lines-made line made is xs behind text h i) ∙ sym (append_assoc (line x) (lines line xs) text)
+    (λ i. is x i ++ lines-made line made is xs behind text h i) ∙ sym (append_assoc (line x) (flat_map line xs) text)
 
-form-text : (loaded : Loaded) → lines entry_line (entries_of loaded) ≡ text_with loaded.code loaded.face
+form-text : (loaded : Loaded) → flat_map entry_line (entries_of loaded) ≡ text_with loaded.code loaded.face
 form-text loaded =
     let instrs = lines-made instr_line an_instr (λ x. refl) loaded.code.instrs (code_end ∷ []) (codes "end\n") refl in
     let outputs = lines-made output_line an_output (λ x. refl) loaded.face.outputs (code_start ∷ (map an_instr loaded.code.instrs ++ code_end ∷ [])) _
@@ -250,7 +250,7 @@ pub no-fault-of-form : (bytes : List ℕ) (loaded : Loaded) (fault : CodeFault) 
 no-fault-of-form bytes loaded fault form is =
     let f = fault-stops bytes fault is in
     let same = same-stops blank f.0 (entries_of loaded) f.1 [] (sym f.2.text ∙ form.text ∙ sym (form-text loaded)
-    ∙ sym (append-nil (lines entry_line (entries_of loaded))))
+    ∙ sym (append-nil (flat_map entry_line (entries_of loaded))))
     f.2.due (form-due bytes loaded form) f.2.ends (never-empty (draft_of (entries_of loaded))) in
     f.2.open_end (ap {A = List Entry} {B = ℕ} (λ l. (draft_of l).part) same.0 ∙ ap {A = Draft} {B = ℕ} (λ d. d.part) (all-stated loaded)) same.1
 

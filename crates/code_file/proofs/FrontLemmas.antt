@@ -1,9 +1,8 @@
 -- The first line of a text.
 use Rattle.std.proofs.Common.{◌≡◌, ◌<◌, ℕ, true, List, [], ◌∷◌, ◌++◌, length, Option, Some, None, refl, sym, ap, ◌∙◌, arith, append_assoc, append-nil}
 use Rattle.std.proofs.Common.{length-append}
-use Rattle.std.specs.List.{AllByRecursion}
+use Rattle.std.specs.List.{AllByRecursion, flat_map}
 use Rattle.reg_machine.proofs.TableLemmas.{none≢some, some-is}
-use Rattle.code_file.specs.Text.{lines}
 use Rattle.code_file.specs.inner.Spelled.{cut}
 use Rattle.code_file.specs.inner.Faces.{IsRead, IsNoFront, IsFront}
 use Rattle.code_file.proofs.CutLemmas.{lacks, cut-at, cut-parts}
@@ -51,15 +50,15 @@ module _ {X : Type 0} (line : X → List ℕ) (of : List ℕ → Option X) (Is :
 
 -- ---- several lines
 
-pub lines-append : {X : Type 0} (line : X → List ℕ) (xs ys : List X) → lines line (xs ++ ys) ≡ lines line xs ++ lines line ys
+pub lines-append : {X : Type 0} (line : X → List ℕ) (xs ys : List X) → flat_map line (xs ++ ys) ≡ flat_map line xs ++ flat_map line ys
 lines-append line [] ys = refl
-lines-append line (x ∷ xs) ys = ap (λ l. line x ++ l) (lines-append line xs ys) ∙ sym (append_assoc (line x) (lines line xs) (lines line ys))
+lines-append line (x ∷ xs) ys = ap (λ l. line x ++ l) (lines-append line xs ys) ∙ sym (append_assoc (line x) (flat_map line xs) (flat_map line ys))
 
-pub lines-push : {X : Type 0} (line : X → List ℕ) (text rest behind : List ℕ) (xs : List X) (x : X) → text ≡ lines line xs ++ rest → rest ≡ line x ++ behind
-    → text ≡ lines line (xs ++ x ∷ []) ++ behind
+pub lines-push : {X : Type 0} (line : X → List ℕ) (text rest behind : List ℕ) (xs : List X) (x : X) → text ≡ flat_map line xs ++ rest → rest ≡ line x ++ behind
+    → text ≡ flat_map line (xs ++ x ∷ []) ++ behind
 lines-push line text rest behind xs x e h =
-    e ∙ ap (λ l. lines line xs ++ l) h ∙ sym (append_assoc (lines line xs) (line x) behind)
-    ∙ ap (λ l. l ++ behind) (ap (λ l. lines line xs ++ l) (sym (append-nil (line x))) ∙ sym (lines-append line xs (x ∷ [])))
+    e ∙ ap (λ l. flat_map line xs ++ l) h ∙ sym (append_assoc (flat_map line xs) (line x) behind)
+    ∙ ap (λ l. l ++ behind) (ap (λ l. flat_map line xs ++ l) (sym (append-nil (line x))) ∙ sym (lines-append line xs (x ∷ [])))
 
 pub all-push : {X : Type 0} (P : X → Type 0) (xs : List X) (x : X) → AllByRecursion P xs → P x → AllByRecursion P (xs ++ x ∷ [])
 all-push P [] x h p = (p, tt)

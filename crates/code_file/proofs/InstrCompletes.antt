@@ -17,7 +17,7 @@ use Rattle.m_fixed.specs.declared.amount.Value.TheVariants.{Undef, Num, Over}
 use Rattle.reg_machine.specs.declared.instr.Instr.{Instr}
 use Rattle.reg_machine.specs.declared.instr.Instr.TheVariants.{Take, Lit, Do, Store, Load, Check, Output}
 use Rattle.reg_machine.specs.Flow.{repeats_first}
-use Rattle.code_file.specs.Text.{op_word, instr_line}
+use Rattle.code_file.specs.Text.{op_word, instr_line, literal_word}
 use Rattle.code_file.specs.Reading.{IsInstr, IsLiteral, IsShort}
 use Rattle.code_file.specs.inner.Spelled.{cut, both, all_three, number, register, short, literal, millionths, below_zero, arguments, done_by, operation, check}
 use Rattle.code_file.specs.inner.Spelled.{instr_by, instr_of}
@@ -25,7 +25,7 @@ use Rattle.code_file.proofs.OptionLemmas.{both-is, three-is}
 use Rattle.code_file.proofs.CutLemmas.{lacks, not-true, cut-at}
 use Rattle.code_file.proofs.NumberLemmas.{number-complete, decimal-lacks}
 use Rattle.code_file.proofs.OpLemmas.{op-known}
-use Rattle.code_file.proofs.InstrLemmas.{onto-last, line-two, literal_word, literal-line, Spaced, written, args, reps, do-text}
+use Rattle.code_file.proofs.InstrLemmas.{onto-last, line-two, Spaced, written, args, reps, do-text}
 
 -- the line of an instruction, without its line feed, is parsed as it
 pub record Complete (i : Instr) : Type 0 where
@@ -187,7 +187,7 @@ operation-complete : (op : Op) (r a b c : ℕ) → IsInstr (Do op r a b c) → C
 operation-complete op r a b c h =
     let text = written (arity_of op == 1) (arity_of op == 2) a b c in
     two-complete (Do op r a b c) (codes "do") (decimal r) (op_word op ++ 32 ∷ text)
-    (do-text (arity_of op) op r a b c ∙ line-two (codes "do") (decimal r) (op_word op ++ 32 ∷ text))
+    (do-text op r a b c ∙ line-two (codes "do") (decimal r) (op_word op ++ 32 ∷ text))
     refl (register-lacks 32 r space h.0) refl (register-lacks 10 r feed h.0)
     (lacks-append 10 (op_word op) (32 ∷ text) (op-one-line op) (written-free (arity_of op == 1) (arity_of op == 2) a b c h.1 h.2 h.3))
     (operation-is op r a b c h.0 h.1 h.2 h.3 h.4)
@@ -198,7 +198,7 @@ instr-complete (Take r n) h =
     (short-lacks 10 n feed h.1)
     (both-is Take (register (decimal r)) (short (decimal n)) r n (register-is r h.0) (short-is n h.1))
 instr-complete (Lit r v) h =
-    two-complete (Lit r v) (codes "lit") (decimal r) (literal_word v) (literal-line r v) refl (register-lacks 32 r space h.0) refl
+    two-complete (Lit r v) (codes "lit") (decimal r) (literal_word v) refl refl (register-lacks 32 r space h.0) refl
     (register-lacks 10 r feed h.0) (literal-lacks v h.1)
     (both-is Lit (register (decimal r)) (literal (literal_word v)) r v (register-is r h.0) (literal-is v h.1))
 instr-complete (Do op r a b c) h = operation-complete op r a b c h

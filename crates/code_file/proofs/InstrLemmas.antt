@@ -1,6 +1,6 @@
 -- Instructions and the lines they are parsed from.
 use Rattle.std.proofs.Common.{◌≡◌, ◌<◌, ◌≤◌, ◌^◌, ◌==◌, ◌&&◌, ◌||◌, ℕ, zero, suc, ℤ, pos, negsuc, Bool, false, true, cond, nat_le, List, [], ◌∷◌, ◌++◌, Option}
-use Rattle.std.proofs.Common.{Some, None, codes, decimal, refl, sym, ap, ◌∙◌, subst, arith, append_assoc}
+use Rattle.std.proofs.Common.{Some, None, codes, decimal, map, take, refl, sym, ap, ◌∙◌, subst, arith, append_assoc}
 use Rattle.std.specs.Fmt.{signed_decimal}
 use Rattle.std.specs.Str.{bytes_eq}
 use Rattle.std.specs.Option.{option_and_then, option_map}
@@ -17,7 +17,7 @@ use Rattle.m_fixed.specs.declared.amount.Value.{Value}
 use Rattle.m_fixed.specs.declared.amount.Value.TheVariants.{Undef, Num, Over}
 use Rattle.reg_machine.specs.declared.instr.Instr.{Instr}
 use Rattle.reg_machine.specs.declared.instr.Instr.TheVariants.{Take, Lit, Do, Store, Load, Check, Output}
-use Rattle.code_file.specs.Text.{op_word, instr_line, do_line, check_word, literal_line}
+use Rattle.code_file.specs.Text.{op_word, instr_line, operands, check_word, literal_word}
 use Rattle.code_file.specs.Reading.{IsInstr, IsLiteral, IsShort}
 use Rattle.code_file.specs.inner.Spelled.{cut, both, all_three, number, register, short, literal, millionths, below_zero, op_among, operators, arguments}
 use Rattle.code_file.specs.inner.Spelled.{done_by, operation, check, plain, instr_by, instr_of}
@@ -65,12 +65,6 @@ short-sound text n h = number-sound 4_294_967_296 n text (omega arith) (omega ar
 pub most-sound : (text : List ℕ) (n : ℕ) → number (suc most) text ≡ Some n → (text ≡ decimal n) × (n < suc most)
 most-sound text n h = number-sound (suc most) n text (omega arith) (omega arith) h
 
--- the word of a literal
-abbrev pub literal_word : Value → List ℕ
-literal_word Undef = codes "undef"
-literal_word (Num z) = signed_decimal z
-literal_word Over = codes "over"
-
 pub below-sound : (n : ℕ) (z : ℤ) → n < suc most → below_zero n ≡ Some z → IsAmount z × (signed_decimal z ≡ 45 ∷ decimal n)
 below-sound zero z small h = absurd (none≢some z h)
 below-sound (suc n) z small h = subst (λ y. IsAmount y × (signed_decimal y ≡ 45 ∷ decimal (suc n))) (some-is (negsuc n) z h)
@@ -107,12 +101,6 @@ literal-by text v false false e f h =
 
 pub literal-sound : (text : List ℕ) (v : Value) → literal text ≡ Some v → IsLiteral v × (literal_word v ≡ text)
 literal-sound text v h = literal-by text v (bytes_eq text (codes "undef")) (bytes_eq text (codes "over")) refl refl h
-
--- the line of a literal by its word
-pub literal-line : (r : ℕ) (v : Value) → literal_line r v ≡ codes "lit" ++ 32 ∷ (decimal r ++ 32 ∷ (literal_word v ++ 10 ∷ []))
-literal-line r Undef = refl
-literal-line r (Num z) = refl
-literal-line r Over = refl
 
 -- three words with spaces between them
 abbrev pub Spaced : List ℕ → List ℕ → List ℕ → List ℕ
@@ -166,7 +154,7 @@ lit-sound x y i h =
     let b = literal-sound y k.1 k.3 in
     subst (λ j. Sound j (Spaced (codes "lit") x y)) k.4 (record {
       right = (a.1, b.0);
-      text = literal-line k.0 k.1 ∙ (λ j. codes "lit" ++ 32 ∷ (sym a.0 j ++ 32 ∷ (b.1 j ++ 10 ∷ []))) ∙ sym (line-two (codes "lit") x y);
+      text = (λ j. codes "lit" ++ 32 ∷ (sym a.0 j ++ 32 ∷ (b.1 j ++ 10 ∷ []))) ∙ sym (line-two (codes "lit") x y);
     })
 
 pub check-sound : (over_only : Bool) (x y : List ℕ) (i : Instr) → check over_only x y ≡ Some i → Sound i (Spaced (check_word over_only) x y)
@@ -232,21 +220,6 @@ args s t op r text =
 abbrev pub reps : ℕ → ℕ → ℕ → ℕ → Bool
 reps n a b c = (nat_le 2 n || (b == a)) && (nat_le 3 n || (c == a))
 
-abbrev pub done_text : Bool → Bool → Op → ℕ → ℕ → ℕ → ℕ → List ℕ
-done_text s t op r a b c =
-    cond s (codes "do " ++ (decimal r ++ (codes " " ++ (op_word op ++ (codes " " ++ (decimal a ++ 10 ∷ []))))))
-    (cond t (codes "do " ++ (decimal r ++ (codes " " ++ (op_word op ++ (codes " " ++ (decimal a ++ (codes " " ++ (decimal b ++ 10 ∷ []))))))))
-    (codes "do " ++ (decimal r ++ (codes " "
-    ++ (op_word op ++ (codes " " ++ (decimal a ++ (codes " " ++ (decimal b ++ (codes " " ++ (decimal c ++ 10 ∷ [])))))))))))
-
-pub done-by : (s t : Bool) (op : Op) (r a b c : ℕ) → done_text s t op r a b c ≡ Done r op (written s t a b c) ++ 10 ∷ []
-done-by true t op r a b c = sym (line-three (codes "do") (decimal r) (op_word op) (decimal a))
-done-by false true op r a b c = sym (line-four (codes "do") (decimal r) (op_word op) (decimal a) (decimal b))
-done-by false false op r a b c = sym (line-five (codes "do") (decimal r) (op_word op) (decimal a) (decimal b) (decimal c))
-
-pub do-text : (n : ℕ) (op : Op) (r a b c : ℕ) → do_line n op r a b c ≡ Done r op (written (n == 1) (n == 2) a b c) ++ 10 ∷ []
-do-text n op r a b c = done-by (n == 1) (n == 2) op r a b c
-
 -- an arity that is neither one nor two
 pub three-args : (op : Op) → (arity_of op == 1) ≡ false → (arity_of op == 2) ≡ false → arity_of op ≡ 3
 three-args Neg e f = absurd (true≢false e)
@@ -275,6 +248,21 @@ three-args Max e f = absurd (true≢false f)
 three-args Min e f = absurd (true≢false f)
 three-args At e f = absurd (true≢false f)
 three-args Choose e f = refl
+
+-- the line of an operator with n arguments, as it is written
+abbrev pub OfCount : ℕ → Op → ℕ → ℕ → ℕ → ℕ → List ℕ
+OfCount n op r a b c = codes "do" ++ operands (decimal r ∷ op_word op ∷ map decimal (take n (a ∷ b ∷ c ∷ [])))
+
+done-by : (s t : Bool) (n : ℕ) (op : Op) (r a b c : ℕ) → (n == 1) ≡ s → (n == 2) ≡ t → ((n == 1) ≡ false → (n == 2) ≡ false → n ≡ 3)
+    → OfCount n op r a b c ≡ Done r op (written s t a b c) ++ 10 ∷ []
+done-by true t n op r a b c e f three = ap (λ k. OfCount k op r a b c) (eqb-true n 1 e) ∙ sym (line-three (codes "do") (decimal r) (op_word op) (decimal a))
+done-by false true n op r a b c e f three =
+    ap (λ k. OfCount k op r a b c) (eqb-true n 2 f) ∙ sym (line-four (codes "do") (decimal r) (op_word op) (decimal a) (decimal b))
+done-by false false n op r a b c e f three =
+    ap (λ k. OfCount k op r a b c) (three e f) ∙ sym (line-five (codes "do") (decimal r) (op_word op) (decimal a) (decimal b) (decimal c))
+
+pub do-text : (op : Op) (r a b c : ℕ) → instr_line (Do op r a b c) ≡ Done r op (written (arity_of op == 1) (arity_of op == 2) a b c) ++ 10 ∷ []
+do-text op r a b c = done-by (arity_of op == 1) (arity_of op == 2) (arity_of op) op r a b c refl refl (three-args op)
 
 -- parsed arguments are printed as the text
 pub record Arguments (op : Op) (n r : ℕ) (s t : Bool) (text : List ℕ) (i : Instr) : Type 0 where
@@ -357,7 +345,7 @@ operation-sound x y i h =
     let g = args-sound o.0 (arity_of o.0) k.0 (arity_of o.0 == 1) (arity_of o.0 == 2) p.0.1 i refl refl (three-args o.0) o.2 in
     subst (λ j. Sound j (Spaced (codes "do") x y)) g.is (record {
       right = (a.1, g.first, g.second, g.third, g.repeats);
-      text = do-text (arity_of o.0) o.0 k.0 g.a g.b g.c ∙ (λ j. (codes "do" ++ 32 ∷ (sym a.0 j ++ 32 ∷ (sym w j ++ 32 ∷ sym g.text_is j))) ++ 10 ∷ [])
+      text = do-text o.0 k.0 g.a g.b g.c ∙ (λ j. (codes "do" ++ 32 ∷ (sym a.0 j ++ 32 ∷ (sym w j ++ 32 ∷ sym g.text_is j))) ++ 10 ∷ [])
           ∙ ap (λ l. (codes "do" ++ 32 ∷ (x ++ 32 ∷ l)) ++ 10 ∷ []) (sym q.whole);
     })
 

@@ -2,7 +2,7 @@
 -- result.
 use Rattle.std.proofs.Common.{◌≡◌, ◌<◌, ◌≤◌, ◌+◌, ◌==◌, ◌&&◌, ℕ, zero, suc, true, not, is_some, is_none, List, [], ◌∷◌, ◌++◌, length, take, drop, get_or, fold}
 use Rattle.std.proofs.Common.{codes, Some, None, refl, sym, ap, ◌∙◌, subst, arith, append_assoc, length-append}
-use Rattle.std.specs.List.{AllByRecursion}
+use Rattle.std.specs.List.{AllByRecursion, flat_map}
 use Rattle.std.proofs.lemmas.Bool.{and_parts, true≢false, false≢true, eqb-true}
 use Rattle.std.proofs.lemmas.List.{take-append-drop, drop_more}
 use Rattle.reg_machine.proofs.TableLemmas.{none≢some, some-is}
@@ -17,7 +17,7 @@ use Rattle.observables.specs.declared.face.FaceOutput.TheVariants.{Named, Noted}
 use Rattle.observables.specs.declared.face.Face.{Face}
 use Rattle.observables.specs.Inputs.{codes_of}
 use Rattle.code_file.specs.declared.fault.CodeFault.TheVariants.{BadHeader, BadLine}
-use Rattle.code_file.specs.Text.{lines, slots_line, input_line, label_line, output_line, instr_line}
+use Rattle.code_file.specs.Text.{slots_line, input_line, label_line, output_line, instr_line}
 use Rattle.code_file.specs.Reading.{Entry, version, slot_count, an_input, a_label, an_output, code_start, an_instr, code_end, entry_line, IsInstr, IsShort}
 use Rattle.code_file.specs.Reading.{Draft, blank, stated, Ends, IsCodeFault}
 use Rattle.code_file.specs.inner.Spelled.{cut}
@@ -73,7 +73,7 @@ slots-fault bytes rest m e other k =
 -- ---- the face
 
 -- the number of inputs fits 32 bits, since the text has a line for each
-pub few-inputs : (bytes rest behind : List ℕ) (slots : ℕ) (xs : List Coded) → bytes ≡ face_text slots [] [] [] rest → rest ≡ lines input_line xs ++ behind
+pub few-inputs : (bytes rest behind : List ℕ) (slots : ℕ) (xs : List Coded) → bytes ≡ face_text slots [] [] [] rest → rest ≡ flat_map input_line xs ++ behind
     → length xs ≤ length bytes
 few-inputs bytes rest behind slots xs e h =
     omega (
@@ -81,7 +81,7 @@ few-inputs bytes rest behind slots xs e h =
       ap length e,
       length-append (slots_line slots) rest,
       ap length h,
-      length-append (lines input_line xs) behind,
+      length-append (flat_map input_line xs) behind,
       lines-long input_line xs
           (λ x. omega arith),
     )
@@ -136,15 +136,15 @@ again-ends slots front x text tail r h e (an_instr i') behind q i t = false≢tr
 again-ends slots front x text tail r h e code_end behind q i t = false≢true t
 
 again-at : (bytes rest behind : List ℕ) (slots k m : ℕ) (xs front zs : List Coded) (x : Coded) → IsShort slots → bytes ≡ face_text slots [] [] [] rest
-    → rest ≡ lines input_line xs ++ behind → xs ≡ front ++ x ∷ zs → length front ≡ k
+    → rest ≡ flat_map input_line xs ++ behind → xs ≡ front ++ x ∷ zs → length front ≡ k
     → AllByRecursion IsRightInput front → IsRightInput x → AreDistinct (codes_of front) → has x.code (codes_of front) ≡ true → m ≡ k + 3
     → IsCodeFault bytes (BadLine m)
 again-at bytes rest behind slots k m xs front zs x short e h parts len all right distinct again q =
-    let tail = lines input_line zs ++ behind in
-    let text : rest ≡ lines input_line front ++ (input_line x ++ tail) =
-    h ∙ ap (λ l. lines input_line l ++ behind) parts ∙ ap (λ l. l ++ behind) (lines-append input_line front (x ∷ zs))
-    ∙ append_assoc (lines input_line front) (lines input_line (x ∷ zs)) behind
-    ∙ ap (λ l. lines input_line front ++ l) (append_assoc (input_line x) (lines input_line zs) behind) in
+    let tail = flat_map input_line zs ++ behind in
+    let text : rest ≡ flat_map input_line front ++ (input_line x ++ tail) =
+    h ∙ ap (λ l. flat_map input_line l ++ behind) parts ∙ ap (λ l. l ++ behind) (lines-append input_line front (x ∷ zs))
+    ∙ append_assoc (flat_map input_line front) (flat_map input_line (x ∷ zs)) behind
+    ∙ ap (λ l. flat_map input_line front ++ l) (append_assoc (input_line x) (flat_map input_line zs) behind) in
     let came = came-inputs bytes rest (input_line x ++ tail) slots 2 (2 + length front) [] front front (came-slots bytes rest slots short e) text all distinct
     refl refl in
     fault-line bytes (input_line x ++ tail) (face_so_far slots front [] []) (2 + length front) m came (omega arith)
@@ -161,7 +161,7 @@ length-take-of (suc k) (x ∷ xs) h = omega (arith, length-take-of k xs (omega a
 
 -- an input with a duplicate code is the first fault
 pub again-fault : (bytes rest behind : List ℕ) (slots k m : ℕ) (xs : List Coded) → IsShort slots → bytes ≡ face_text slots [] [] [] rest
-    → rest ≡ lines input_line xs ++ behind → AllByRecursion IsRightInput xs → IsAgain (codes_of xs) k → m ≡ k + 3 → IsCodeFault bytes (BadLine m)
+    → rest ≡ flat_map input_line xs ++ behind → AllByRecursion IsRightInput xs → IsAgain (codes_of xs) k → m ≡ k + 3 → IsCodeFault bytes (BadLine m)
 again-fault bytes rest behind slots k m [] short e h r a q = absurd (omega (arith, a.within))
 again-fault bytes rest behind slots k m (d ∷ ds) short e h r a q =
     let xs = d ∷ ds in
@@ -184,10 +184,10 @@ face-ends slots inputs labels outputs rest middle behind other l o (slot_count n
 face-ends slots inputs labels outputs rest middle behind other l o (an_input x) more h i t =
     let k = and_parts (length labels == 0) ((length outputs == 0) && not (has x.code (codes_of inputs))) t in
     let k' = and_parts (length outputs == 0) (not (has x.code (codes_of inputs))) k.1 in
-    absurd (other x more i (l.whole ∙ ap (λ xs. lines label_line xs ++ middle) (nothing labels k.0) ∙ o.whole
-    ∙ ap (λ xs. lines output_line xs ++ behind) (nothing outputs k'.0) ∙ h))
+    absurd (other x more i (l.whole ∙ ap (λ xs. flat_map label_line xs ++ middle) (nothing labels k.0) ∙ o.whole
+    ∙ ap (λ xs. flat_map output_line xs ++ behind) (nothing outputs k'.0) ∙ h))
 face-ends slots inputs labels outputs rest middle behind other l o (a_label x) more h i t =
-    absurd (l.ends x more i (o.whole ∙ ap (λ xs. lines output_line xs ++ behind) (nothing outputs t) ∙ h))
+    absurd (l.ends x more i (o.whole ∙ ap (λ xs. flat_map output_line xs ++ behind) (nothing outputs t) ∙ h))
 face-ends slots inputs labels outputs rest middle behind other l o (an_output x) more h i t = absurd (o.ends x more (i, t) h)
 face-ends slots inputs labels outputs rest middle behind other l o code_start more h i t = refl
 face-ends slots inputs labels outputs rest middle behind other l o (an_instr x) more h i t = absurd (false≢true t)
@@ -195,14 +195,14 @@ face-ends slots inputs labels outputs rest middle behind other l o code_end more
 
 -- the text of a face with its labels and outputs
 pub face-whole : (bytes rest middle behind : List ℕ) (slots : ℕ) (inputs : List Coded) (labels : List FaceLabel) (outputs : List FaceOutput)
-    → bytes ≡ face_text slots inputs [] [] rest → rest ≡ lines label_line labels ++ middle → middle ≡ lines output_line outputs ++ behind
+    → bytes ≡ face_text slots inputs [] [] rest → rest ≡ flat_map label_line labels ++ middle → middle ≡ flat_map output_line outputs ++ behind
     → bytes ≡ face_text slots inputs labels outputs behind
 face-whole bytes rest middle behind slots inputs labels outputs e l o =
-    e ∙ ap (λ t. codes "mcode 1\n" ++ (slots_line slots ++ (lines input_line inputs ++ t))) (l ∙ ap (λ t. lines label_line labels ++ t) o)
+    e ∙ ap (λ t. codes "mcode 1\n" ++ (slots_line slots ++ (flat_map input_line inputs ++ t))) (l ∙ ap (λ t. flat_map label_line labels ++ t) o)
 
 -- the text of a face with its inputs
 pub face-begun : (bytes rest behind : List ℕ) (slots : ℕ) (inputs : List Coded) → bytes ≡ face_text slots [] [] [] rest
-    → rest ≡ lines input_line inputs ++ behind → bytes ≡ face_text slots inputs [] [] behind
+    → rest ≡ flat_map input_line inputs ++ behind → bytes ≡ face_text slots inputs [] [] behind
 face-begun bytes rest behind slots inputs e h = e ∙ ap (λ t. codes "mcode 1\n" ++ (slots_line slots ++ t)) h
 
 -- another line than `code` after a face is the first fault
@@ -265,18 +265,18 @@ instr-long i = entry-long (an_instr i)
 pub few-instrs : (bytes rest : List ℕ) (slots : ℕ) (face : Face) (instrs : List Instr) → bytes ≡ text_so_far slots face instrs rest
     → length instrs ≤ length bytes
 few-instrs bytes rest slots face instrs e =
-    let last = lines instr_line instrs ++ rest in
+    let last = flat_map instr_line instrs ++ rest in
     let c = codes "code\n" ++ last in
-    let o = lines output_line face.outputs ++ c in
-    let l = lines label_line face.labels ++ o in
+    let o = flat_map output_line face.outputs ++ c in
+    let l = flat_map label_line face.labels ++ o in
     omega (
       arith,
       ap length e,
-      length-append (slots_line slots) (lines input_line face.inputs ++ l),
-      length-append (lines input_line face.inputs) l,
-      length-append (lines label_line face.labels) o,
-      length-append (lines output_line face.outputs) c,
-      length-append (lines instr_line instrs) rest,
+      length-append (slots_line slots) (flat_map input_line face.inputs ++ l),
+      length-append (flat_map input_line face.inputs) l,
+      length-append (flat_map label_line face.labels) o,
+      length-append (flat_map output_line face.outputs) c,
+      length-append (flat_map instr_line instrs) rest,
       lines-long instr_line instrs instr-long,
     )
 

@@ -1,7 +1,7 @@
 -- The meaning of bytes as a code file: loaded code of which they are the form, or else their first
 -- fault.
 use Rattle.std.specs.Prelude.{◌≡◌, ◌≢◌, ℕ, suc, ◌<◌, ◌==◌, ◌&&◌, not, Bool, IsTrue, is_none, is_some, List, [], ◌∷◌, ◌++◌, length, fold, codes, Some, None}
-use Rattle.std.specs.List.{AllByRecursion}
+use Rattle.std.specs.List.{AllByRecursion, flat_map}
 use Rattle.m_fixed.specs.declared.amount.Value.{Value}
 use Rattle.m_fixed.specs.declared.amount.Value.TheVariants.{Undef, Num, Over}
 use Rattle.m_fixed.specs.Amounts.{IsAmount}
@@ -21,7 +21,7 @@ use Rattle.reg_machine.specs.Flow.{Listing, code_of, with_instr, reading, code_f
 use Rattle.code_file.specs.declared.fault.CodeFault.{CodeFault}
 use Rattle.code_file.specs.declared.fault.CodeFault.TheVariants.{BadHeader, BadLine, BadOrder, Memory}
 use Rattle.code_file.specs.declared.loaded.Loaded.{Loaded}
-use Rattle.code_file.specs.Text.{lines, slots_line, input_line, label_line, output_line, instr_line}
+use Rattle.code_file.specs.Text.{slots_line, input_line, label_line, output_line, instr_line}
 use Rattle.code_file.specs.Printable.{IsFreeWord, IsPrintable, IsPrintableLabel, IsPrintableOutput}
 use Rattle.code_file.specs.Loading.{text_with}
 
@@ -154,7 +154,7 @@ Ends d rest = (entry : Entry) (behind : List ℕ) → rest ≡ entry_line entry 
 -- `entries` are all valid entries from the start. After them `rest` begins with something else, or
 -- is empty although there was no `end`.
 pub record Stops (bytes : List ℕ) (entries : List Entry) (rest : List ℕ) : Type 0 where
-  pub text : bytes ≡ lines entry_line entries ++ rest
+  pub text : bytes ≡ flat_map entry_line entries ++ rest
   pub due : AreDue blank entries
   pub ends : Ends (draft_of entries) rest
   pub open_end : (draft_of entries).part ≡ 4 → rest ≢ []

@@ -1,5 +1,6 @@
 -- Code and its face as text: the code file, byte for byte.
-use Rattle.std.specs.Prelude.{ℕ, ◌+◌, ◌/◌, ◌%◌, ◌==◌, nat_lt, Bool, true, false, List, [], ◌∷◌, ◌++◌, codes, decimal, if◌then◌else◌}
+use Rattle.std.specs.Prelude.{ℕ, ◌+◌, ◌/◌, ◌%◌, nat_lt, Bool, true, false, List, [], ◌∷◌, ◌++◌, codes, decimal, map, take, if◌then◌else◌}
+use Rattle.std.specs.List.{flat_map}
 use Rattle.std.specs.Fmt.{signed_decimal}
 use Rattle.m_fixed.specs.declared.operator.Op.{Op}
 use Rattle.m_fixed.specs.declared.operator.Op.TheVariants.{Add, Sub, Mul, Div, Neg, Eq, Ne, Lt, Le, Gt, Ge, And, Or, Not, Present, Abs, Positive}
@@ -21,11 +22,6 @@ use Rattle.reg_machine.specs.declared.instr.Instr.{Instr}
 use Rattle.reg_machine.specs.declared.instr.Instr.TheVariants.{Take, Lit, Do, Store, Load, Check, Output}
 use Rattle.reg_machine.specs.Flow.{Listing}
 use Rattle.m_text.specs.Pieces.{new_line, joined}
-
--- the lines of a list's elements, in order
-abbrev pub lines : {X : Type 0} → (X → List ℕ) → List X → List ℕ
-lines line [] = []
-lines line (x ∷ xs) = line x ++ lines line xs
 
 -- ---- the face
 
@@ -103,48 +99,37 @@ op_word TruthOf = codes "truth"
 op_word Choose = codes "choose"
 op_word At = codes "at"
 
--- a word and two operands: `in 0 3`
-abbrev pub two_numbers : List ℕ → ℕ → ℕ → List ℕ
-two_numbers word a b = joined (word ∷ codes " " ∷ decimal a ∷ codes " " ∷ decimal b ∷ new_line ∷ [])
+-- operands, each after a space, and the end of the line
+abbrev pub operands : List (List ℕ) → List ℕ
+operands [] = new_line
+operands (operand ∷ others) = codes " " ++ (operand ++ operands others)
 
--- a word and three operands: `ck 0 1 2`
-abbrev pub three_numbers : List ℕ → ℕ → ℕ → ℕ → List ℕ
-three_numbers word a b c = joined (word ∷ codes " " ∷ decimal a ∷ codes " " ∷ decimal b ∷ codes " " ∷ decimal c ∷ new_line ∷ [])
-
--- a literal: `lit 0 undef`, `lit 0 over`, or in whole millionths `lit 0 -1500000`
-abbrev pub literal_line : ℕ → Value → List ℕ
-literal_line r Undef = joined (codes "lit " ∷ decimal r ∷ codes " undef" ∷ new_line ∷ [])
-literal_line r (Num amount) = joined (codes "lit " ∷ decimal r ∷ codes " " ∷ signed_decimal amount ∷ new_line ∷ [])
-literal_line r Over = joined (codes "lit " ∷ decimal r ∷ codes " over" ∷ new_line ∷ [])
-
--- an operator with one, two or three arguments: `do 0 neg 1`, `do 0 sub 0 1`, `do 0 choose 1 2 3`
-abbrev pub do_line : ℕ → Op → ℕ → ℕ → ℕ → ℕ → List ℕ
-do_line n op r a b c =
-    if n == 1
-    then joined (codes "do " ∷ decimal r ∷ codes " " ∷ op_word op ∷ codes " " ∷ decimal a ∷ new_line ∷ [])
-    else if n == 2
-    then joined (codes "do " ∷ decimal r ∷ codes " " ∷ op_word op ∷ codes " " ∷ decimal a ∷ codes " " ∷ decimal b ∷ new_line ∷ [])
-    else joined (codes "do " ∷ decimal r ∷ codes " " ∷ op_word op ∷ codes " " ∷ decimal a ∷ codes " " ∷ decimal b ∷ codes " " ∷ decimal c ∷ new_line ∷ [])
+-- the word of a literal; a number is in whole millionths, as `-1500000`
+abbrev pub literal_word : Value → List ℕ
+literal_word Undef = codes "undef"
+literal_word (Num amount) = signed_decimal amount
+literal_word Over = codes "over"
 
 -- the word of a check; `co` stops a run only on over
 abbrev pub check_word : Bool → List ℕ
 check_word false = codes "ck"
 check_word true = codes "co"
 
--- an instruction
+-- An instruction: `in 0 3`, `lit 0 undef`, `do 0 neg 1`, `do 0 sub 0 1`, `st 0 1`, `ld 0 1`,
+-- `ck 0 1 2`, `out 0 1`. An operator has as many arguments as its arity.
 abbrev pub instr_line : Instr → List ℕ
-instr_line (Take r n) = two_numbers (codes "in") r n
-instr_line (Lit r v) = literal_line r v
-instr_line (Do op r a b c) = do_line (arity_of op) op r a b c
-instr_line (Store k r) = two_numbers (codes "st") k r
-instr_line (Load r k) = two_numbers (codes "ld") r k
-instr_line (Check g c over_only label) = three_numbers (check_word over_only) g c label
-instr_line (Output k r) = two_numbers (codes "out") k r
+instr_line (Take r n) = codes "in" ++ operands (decimal r ∷ decimal n ∷ [])
+instr_line (Lit r v) = codes "lit" ++ operands (decimal r ∷ literal_word v ∷ [])
+instr_line (Do op r a b c) = codes "do" ++ operands (decimal r ∷ op_word op ∷ map decimal (take (arity_of op) (a ∷ b ∷ c ∷ [])))
+instr_line (Store k r) = codes "st" ++ operands (decimal k ∷ decimal r ∷ [])
+instr_line (Load r k) = codes "ld" ++ operands (decimal r ∷ decimal k ∷ [])
+instr_line (Check g c over_only label) = check_word over_only ++ operands (decimal g ∷ decimal c ∷ decimal label ∷ [])
+instr_line (Output k r) = codes "out" ++ operands (decimal k ∷ decimal r ∷ [])
 
 -- ---- the file
 
 -- The text of code whose face has these inputs, labels and outputs.
 abbrev pub code_text : Listing → List Coded → List FaceLabel → List FaceOutput → List ℕ
 code_text code inputs labels outputs =
-    codes "mcode 1\n" ++ (slots_line code.counts.slots ++ (lines input_line inputs ++ (lines label_line labels
-    ++ (lines output_line outputs ++ (codes "code\n" ++ (lines instr_line code.instrs ++ codes "end\n"))))))
+    codes "mcode 1\n" ++ (slots_line code.counts.slots ++ (flat_map input_line inputs ++ (flat_map label_line labels
+    ++ (flat_map output_line outputs ++ (codes "code\n" ++ (flat_map instr_line code.instrs ++ codes "end\n"))))))

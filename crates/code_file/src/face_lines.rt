@@ -1,8 +1,9 @@
 //! Writes the lines of a face.
 ghost use Rattle.std.specs.Prelude.{◌≡◌, ◌∷◌, ◌++◌, ◌/◌, ◌%◌, [], codes, decimal};
+ghost use Rattle.std.specs.List.{flat_map};
 ghost use Rattle.m_ports.specs.Giving.{Gives};
 ghost use Rattle.m_text.specs.Pieces.{joined, new_line};
-ghost use Rattle.code_file.specs.Text.{lines, slots_line, input_line, label_line, output_line, verif_front, hex_of, hex_digit};
+ghost use Rattle.code_file.specs.Text.{slots_line, input_line, label_line, output_line, verif_front, hex_of, hex_digit};
 
 use crate::words::{hex_digit, kind_word, kind_words};
 use itoa::Buffer;
@@ -28,7 +29,7 @@ pub fn give_slots<K: Sink>(slots: u32, out: &mut K) -> Result<(), Failed>
 
 /// Writes the lines of inputs.
 pub fn give_inputs<K: Sink>(inputs: &[Coded], out: &mut K) -> Result<(), Failed>
-    ensures { Gives K.written K.faults out.old out.new result (lines input_line inputs.now) }
+    ensures { Gives K.written K.faults out.old out.new result (flat_map input_line inputs.now) }
 {
     for k in 0..inputs.len() {
         give_input(&inputs[k], out)?;
@@ -51,7 +52,7 @@ fn give_coded<'a, K: Sink>(code: &'a [u8], kind: &'a [u8], out: &mut K) -> Resul
 
 /// Writes the lines of labels.
 pub fn give_labels<K: Sink>(labels: &[FaceLabel], out: &mut K) -> Result<(), Failed>
-    ensures { Gives K.written K.faults out.old out.new result (lines label_line labels.now) }
+    ensures { Gives K.written K.faults out.old out.new result (flat_map label_line labels.now) }
 {
     for k in 0..labels.len() {
         give_label(&labels[k], out)?;
@@ -124,7 +125,7 @@ fn give_byte<K: Sink>(byte: u8, out: &mut K) -> Result<(), Failed>
 
 /// Writes the lines of outputs.
 pub fn give_outputs<K: Sink>(outputs: &[FaceOutput], out: &mut K) -> Result<(), Failed>
-    ensures { Gives K.written K.faults out.old out.new result (lines output_line outputs.now) }
+    ensures { Gives K.written K.faults out.old out.new result (flat_map output_line outputs.now) }
 {
     for k in 0..outputs.len() {
         give_output(&outputs[k], out)?;

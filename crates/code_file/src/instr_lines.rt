@@ -1,10 +1,11 @@
 //! Writes the lines of instructions.
 ghost use Rattle.std.specs.Prelude.{◌≡◌, ◌≤◌, ◌∷◌, [], codes, decimal};
+ghost use Rattle.std.specs.List.{flat_map};
 ghost use Rattle.m_ports.specs.Giving.{Gives};
 ghost use Rattle.m_text.specs.Pieces.{joined, new_line};
 ghost use Rattle.m_fixed.specs.declared.amount.Value.TheVariants.{Num};
-ghost use Rattle.m_fixed.specs.Operators.{arity_of};
-ghost use Rattle.code_file.specs.Text.{lines, instr_line, two_numbers, three_numbers, literal_line, do_line, op_word};
+ghost use Rattle.reg_machine.specs.declared.instr.Instr.TheVariants.{Lit, Do};
+ghost use Rattle.code_file.specs.Text.{instr_line, op_word};
 
 use crate::words::{check_word, op_word};
 use itoa::Buffer;
@@ -14,7 +15,7 @@ use reg_machine::{Code, Instr};
 
 /// Writes the lines of the instructions of `code`.
 pub fn give_instrs<K: Sink>(code: &Code, out: &mut K) -> Result<(), Failed>
-    ensures { Gives K.written K.faults out.old out.new result (lines instr_line code.now.instrs) }
+    ensures { Gives K.written K.faults out.old out.new result (flat_map instr_line code.now.instrs) }
 {
     for place in 0..code.len() {
         give_instr(&code.instr(place), out)?;
@@ -39,7 +40,7 @@ fn give_instr<K: Sink>(instr: &Instr, out: &mut K) -> Result<(), Failed>
 }
 
 fn give_two<K: Sink>(word: &[u8], a: u32, b: u32, out: &mut K) -> Result<(), Failed>
-    ensures { Gives K.written K.faults out.old out.new result (two_numbers word.now a b) }
+    ensures { Gives K.written K.faults out.old out.new result (joined (word.now ∷ codes " " ∷ decimal a ∷ codes " " ∷ decimal b ∷ new_line ∷ [])) }
 {
     let mut first = Buffer::new();
     let mut second = Buffer::new();
@@ -49,7 +50,8 @@ fn give_two<K: Sink>(word: &[u8], a: u32, b: u32, out: &mut K) -> Result<(), Fai
 }
 
 fn give_three<K: Sink>(word: &[u8], a: u8, b: u8, c: u32, out: &mut K) -> Result<(), Failed>
-    ensures { Gives K.written K.faults out.old out.new result (three_numbers word.now a b c) }
+    ensures { Gives K.written K.faults out.old out.new result
+        (joined (word.now ∷ codes " " ∷ decimal a ∷ codes " " ∷ decimal b ∷ codes " " ∷ decimal c ∷ new_line ∷ [])) }
 {
     let mut first = Buffer::new();
     let mut second = Buffer::new();
@@ -61,7 +63,7 @@ fn give_three<K: Sink>(word: &[u8], a: u8, b: u8, c: u32, out: &mut K) -> Result
 }
 
 fn give_literal<K: Sink>(r: u8, value: &Value, out: &mut K) -> Result<(), Failed>
-    ensures { Gives K.written K.faults out.old out.new result (literal_line r value.now) }
+    ensures { Gives K.written K.faults out.old out.new result (instr_line (Lit r value.now)) }
 {
     match value {
         Value::Undef => give_named(r, b" undef", out),
@@ -79,7 +81,7 @@ fn give_named<K: Sink>(r: u8, word: &[u8], out: &mut K) -> Result<(), Failed>
 }
 
 fn give_amount<K: Sink>(r: u8, amount: Amount, out: &mut K) -> Result<(), Failed>
-    ensures { Gives K.written K.faults out.old out.new result (literal_line r (Num amount)) }
+    ensures { Gives K.written K.faults out.old out.new result (instr_line (Lit r (Num amount))) }
 {
     let mut first = Buffer::new();
     let mut second = Buffer::new();
@@ -89,7 +91,7 @@ fn give_amount<K: Sink>(r: u8, amount: Amount, out: &mut K) -> Result<(), Failed
 }
 
 fn give_do<K: Sink>(op: Op, r: u8, a: u8, b: u8, c: u8, out: &mut K) -> Result<(), Failed>
-    ensures { Gives K.written K.faults out.old out.new result (do_line (arity_of op) op r a b c) }
+    ensures { Gives K.written K.faults out.old out.new result (instr_line (Do op r a b c)) }
 {
     let count = arity(op);
     if count == 1 {

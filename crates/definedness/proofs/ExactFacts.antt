@@ -16,7 +16,7 @@ use Rattle.definedness.specs.Ranges.{cut_to_amounts, leaves_amounts}
 use Rattle.definedness.specs.Results.{results_of}
 use Rattle.definedness.specs.Facts.{Possible, Holds, IsFact, one_number, one_of, one_value, is_over_alone, over_alone, fact_of_value, fact_of_input}
 use Rattle.definedness.specs.Facts.{bounded_fact, fact_of_ranges, presence, fact_of_one, widened, fact_of_two_widened, fact_of_two, truths_of, truth_fact}
-use Rattle.definedness.specs.Facts.{either, branches, under_condition, choice, fact_of}
+use Rattle.definedness.specs.Facts.{either, if_taken, choice, fact_of}
 use Rattle.definedness.proofs.Beyond.{bounded_amount, is_over_below, is_over_above}
 use Rattle.definedness.proofs.Cuts.{below, not_below}
 use Rattle.definedness.proofs.Holding.{results_hold, in_truths, in_alone, zero_in, other_in, not_true, not_false}

@@ -17,7 +17,8 @@ use Rattle.definedness.specs.Ranges.{cut_to_amounts, leaves_amounts}
 use Rattle.definedness.specs.Results.{results_of}
 use Rattle.definedness.specs.Facts.{Possible, Holds, IsFact, one_number, one_of, one_value, is_over_alone, over_alone, fact_of_value, fact_of_input}
 use Rattle.definedness.specs.Facts.{bounded_fact, fact_of_ranges, presence, fact_of_one, widened, fact_of_two_widened, fact_of_two, truths_of, truth_fact}
-use Rattle.definedness.specs.Facts.{either, branches, under_condition, choice, fact_of}
+use Rattle.definedness.specs.Facts.{either, if_taken, choice, fact_of}
+use Rattle.definedness.specs.inner.Branches.{branches, under_condition}
 use Rattle.definedness.proofs.Beyond.{bounded_amount, is_over_below, is_over_above}
 use Rattle.definedness.proofs.Cuts.{below, not_below}
 use Rattle.definedness.proofs.Holding.{results_hold, in_truths, in_alone, zero_in, other_in, not_true, not_false}
@@ -250,28 +251,9 @@ either_right f g Undef h = or_right f.undef g.undef h
 either_right f g Over h = or_right f.over g.over h
 either_right f g (Num x) h = in_right f.range g.range x h
 
-undef_condition : (c : Possible) (b : Option Possible) → c.undef ≡ true → Holds (under_condition c b) Undef
-undef_condition c None h = h
-undef_condition c (Some f) h = or_left c.undef f.undef h
-
-over_condition : (c : Possible) (b : Option Possible) → c.over ≡ true → Holds (under_condition c b) Over
-over_condition c None h = h
-over_condition c (Some f) h = or_left c.over f.over h
-
-branch_value : (c f : Possible) (v : Value) → Holds f v → Holds (under_condition c (Some f)) v
-branch_value c f Undef h = or_right c.undef f.undef h
-branch_value c f Over h = or_right c.over f.over h
-branch_value c f (Num x) h = h
-
-first_branch : (c f g : Possible) (p q : Bool) (v : Value) → p ≡ true → Holds f v → Holds (under_condition c (branches p q f g)) v
-first_branch c f g true true v e h = branch_value c (either f g) v (either_left f g v h)
-first_branch c f g true false v e h = branch_value c f v h
-first_branch c f g false q v e h = absurd (true≢false (sym e))
-
-second_branch : (c f g : Possible) (p q : Bool) (v : Value) → q ≡ true → Holds g v → Holds (under_condition c (branches p q f g)) v
-second_branch c f g true true v e h = branch_value c (either f g) v (either_right f g v h)
-second_branch c f g false true v e h = branch_value c g v h
-second_branch c f g p false v e h = absurd (true≢false (sym e))
+taken : (p : Bool) (f : Possible) (v : Value) → p ≡ true → Holds f v → Holds (if_taken p f) v
+taken true f v e h = h
+taken false f v e h = absurd (true≢false (sym e))
 
 is_other : (r : Option (ℤ × ℤ)) (x : ℤ) → InSome r x → is_zero x ≡ false → may_be_other r ≡ true
 is_other (Some r) x h e = other_in r x h e
@@ -282,13 +264,40 @@ is_none_other (Some r) x h e = zero_in r x h e
 is_none_other None x h e = absurd h
 
 choice_holds : (c f g : Possible) (v a b : Value) → Holds c v → Holds f a → Holds g b → Holds (choice c f g) (chosen v a b)
-choice_holds c f g Undef a b h i j = undef_condition c (branches (may_be_other c.range) (may_be_zero c.range) f g) h
-choice_holds c f g Over a b h i j = over_condition c (branches (may_be_other c.range) (may_be_zero c.range) f g) h
+choice_holds c f g Undef a b h i j = or_left c.undef (either (if_taken (may_be_other c.range) f) (if_taken (may_be_zero c.range) g)).undef h
+choice_holds c f g Over a b h i j = or_left c.over (either (if_taken (may_be_other c.range) f) (if_taken (may_be_zero c.range) g)).over h
 choice_holds c f g (Num x) a b h i j = go (is_zero x) refl
   where
     go : (z : Bool) → is_zero x ≡ z → Holds (choice c f g) (if z then b else a)
-    go true e = second_branch c f g (may_be_other c.range) (may_be_zero c.range) b (is_none_other c.range x h e) j
-    go false e = first_branch c f g (may_be_other c.range) (may_be_zero c.range) a (is_other c.range x h e) i
+    go true e =
+        let first = if_taken (may_be_other c.range) f in
+        let second = if_taken (may_be_zero c.range) g in
+        either_right (record c { range = None }) (either first second) b
+        (either_right first second b (taken (may_be_zero c.range) g b (is_none_other c.range x h e) j))
+    go false e =
+        let first = if_taken (may_be_other c.range) f in
+        let second = if_taken (may_be_zero c.range) g in
+        either_right (record c { range = None }) (either first second) a
+        (either_left first second a (taken (may_be_other c.range) f a (is_other c.range x h e) i))
+
+-- the choice as it is computed
+or_nothing : (b : Bool) → (b || false) ≡ b
+or_nothing true = refl
+or_nothing false = refl
+
+join_none : (r : Option (ℤ × ℤ)) → join r None ≡ r
+join_none None = refl
+join_none (Some r) = refl
+
+choice_by : (p q : Bool) (c a b : Possible)
+    → either (record c { range = None }) (either (if_taken p a) (if_taken q b)) ≡ under_condition c (branches p q a b)
+choice_by true true c a b = refl
+choice_by true false c a b = λ i. record { undef = c.undef || or_nothing a.undef i; over = c.over || or_nothing a.over i; range = join_none a.range i }
+choice_by false true c a b = refl
+choice_by false false c a b = λ i. record { undef = or_nothing c.undef i; over = or_nothing c.over i; range = None }
+
+pub choice_is : (c a b : Possible) → choice c a b ≡ under_condition c (branches (may_be_other c.range) (may_be_zero c.range) a b)
+choice_is c a b = choice_by (may_be_other c.range) (may_be_zero c.range) c a b
 
 -- ---- all operators
 

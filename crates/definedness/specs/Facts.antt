@@ -1,6 +1,7 @@
 -- Facts: which values a node of a program may have.
 use Rattle.std.specs.Prelude.{◌≡◌, Bool, true, false, not, ◌&&◌, ◌||◌, ◌==◌, ℤ, pos, Option, Some, None, is_some, is_none, IsTrue, if◌then◌else◌}
 use Rattle.std.specs.Ordering.{int_eq}
+use Rattle.std.specs.Option.{option_and_then, option_map_or}
 use Rattle.m_fixed.specs.declared.amount.Value.{Value}
 use Rattle.m_fixed.specs.declared.amount.Value.TheVariants.{Undef, Num, Over}
 use Rattle.m_fixed.specs.declared.operator.Op.{Op}
@@ -31,8 +32,7 @@ pub record IsFact (f : Possible) : Type 0 where
 
 -- the number of an interval that has only one
 abbrev pub one_number : Option (ℤ × ℤ) → Option Value
-one_number None = None
-one_number (Some r) = if int_eq r.0 r.1 then Some (Num r.0) else None
+one_number range = option_and_then (λ r. if int_eq r.0 r.1 then Some (Num r.0) else None) range
 
 -- the only possible value, if there is only one: undefined, Over, or the number of an interval of
 -- one number
@@ -85,8 +85,7 @@ fact_of_ranges op undef over _ _ = record { undef = undef; over = over; range = 
 
 -- Present: without 0 if the argument is never undefined, without 1 if it is never a number
 abbrev pub presence : Bool → Option (ℤ × ℤ) → ℤ × ℤ
-presence undef None = alone (pos 0)
-presence undef (Some r) = truths true undef
+presence undef range = option_map_or (λ r. truths true undef) range (alone (pos 0))
 
 abbrev pub fact_of_one : Op → Possible → Possible
 fact_of_one Present a = record { undef = false; over = a.over; range = Some (presence a.undef a.range) }
@@ -113,8 +112,7 @@ fact_of_two op a b =
 -- a truth, of an argument that may be no number: only 0 if it is never a number other than 0, only
 -- 1 if it always is one
 abbrev pub truths_of : Bool → Option (ℤ × ℤ) → ℤ × ℤ
-truths_of other None = alone (pos 0)
-truths_of other (Some r) = truths (has_other r) (other || has_zero r)
+truths_of other range = option_map_or (λ r. truths (has_other r) (other || has_zero r)) range (alone (pos 0))
 
 abbrev pub truth_fact : Possible → Possible
 truth_fact a = record { undef = false; over = false; range = Some (truths_of (a.undef || a.over) a.range) }
@@ -123,22 +121,15 @@ truth_fact a = record { undef = false; over = false; range = Some (truths_of (a.
 abbrev pub either : Possible → Possible → Possible
 either a b = record { undef = a.undef || b.undef; over = a.over || b.over; range = join a.range b.range }
 
--- the branches that may be taken, if one may be
-abbrev pub branches : Bool → Bool → Possible → Possible → Option Possible
-branches true true a b = Some (either a b)
-branches true false a b = Some a
-branches false true a b = Some b
-branches false false a b = None
+-- the values of a branch, none if it is never taken
+abbrev pub if_taken : Bool → Possible → Possible
+if_taken true f = f
+if_taken false f = record { undef = false; over = false; range = None }
 
--- undefined and Over if the condition may be, and the values of the branches
-abbrev pub under_condition : Possible → Option Possible → Possible
-under_condition c None = record { undef = c.undef; over = c.over; range = None }
-under_condition c (Some f) = record { undef = c.undef || f.undef; over = c.over || f.over; range = f.range }
-
--- a choice: of the first branch if the condition may be a number other than 0, of the second if it
--- may be 0
+-- a choice: undefined and Over if the condition may be, the values of the first branch if it may be
+-- a number other than 0, and those of the second if it may be 0
 abbrev pub choice : Possible → Possible → Possible → Possible
-choice c a b = under_condition c (branches (may_be_other c.range) (may_be_zero c.range) a b)
+choice c a b = either (record c { range = None }) (either (if_taken (may_be_other c.range) a) (if_taken (may_be_zero c.range) b))
 
 -- The fact of an operator's value, from the facts of its arguments. Except for the two operators
 -- that select, only Over is possible if that is so of an argument that the operator uses.

@@ -1,7 +1,8 @@
 //! The facts of operators.
 ghost use Rattle.std.specs.Prelude.{◌≡◌, ◌||◌, ◌&&◌, ◌≤ℤ◌, pos, IsTrue, is_some};
 ghost use Rattle.definedness.specs.Facts.{fact_of, is_over_alone, bounded_fact, fact_of_ranges, presence, fact_of_one};
-ghost use Rattle.definedness.specs.Facts.{widened, fact_of_two_widened, fact_of_two, truths_of, truth_fact, either, branches, choice};
+ghost use Rattle.definedness.specs.Facts.{widened, fact_of_two_widened, fact_of_two, truths_of, truth_fact, either, choice};
+ghost use Rattle.definedness.specs.inner.Branches.{branches};
 ghost use Rattle.definedness.specs.Ranges.{alone};
 ghost use Rattle.definedness.specs.Results.{truths};
 ghost use Rattle.definedness.specs.inner.Limits.{limited};

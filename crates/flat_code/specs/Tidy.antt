@@ -1,7 +1,7 @@
 -- The tidy form of a flat program.
 use Rattle.std.specs.Prelude.{◌≡◌, ℕ, ◌<◌, ◌==◌, Bool, true, false, not, ◌&&◌, ◌||◌, ◌⊎◌, List, length, slice_index_or, None}
 use Rattle.m_fixed.specs.declared.amount.Value.{Value}
-use Rattle.m_fixed.specs.declared.amount.Value.TheVariants.{Undef, Num, Over}
+use Rattle.m_fixed.specs.declared.amount.Value.TheVariants.{Num}
 use Rattle.m_fixed.specs.declared.operator.Op.{Op}
 use Rattle.m_fixed.specs.declared.operator.Op.TheVariants.{Add, Sub, Mul, Neg, Eq, Ne, Lt, Le, Gt, Ge, And, Or, Not, Present, Positive, PositiveOrNull, Null}
 use Rattle.m_fixed.specs.declared.operator.Op.TheVariants.{Truth, Choose, At}
@@ -25,32 +25,26 @@ IsNormal (Do op a b c) = (arity_of op < 2 → b ≡ a) × (arity_of op < 3 → c
 
 -- more than one value is possible of the node, or it is a literal
 abbrev pub IsOpen : Node → Possible → Type 0
-IsOpen (Input n) fact = one_value fact ≡ None
 IsOpen (Lit v) fact = Unit {0}
-IsOpen (Do op a b c) fact = one_value fact ≡ None
-
-abbrev pub is_literal : Node → Bool
-is_literal (Lit v) = true
-is_literal (Input n) = false
-is_literal (Do op a b c) = false
+IsOpen _ fact = one_value fact ≡ None
 
 -- the number 0
 abbrev pub is_null : Value → Bool
 is_null (Num x) = is_zero x
-is_null Undef = false
-is_null Over = false
+is_null _ = false
 
 -- a literal whose value passes the test
 abbrev pub is_literal_of : (Value → Bool) → Node → Bool
 is_literal_of test (Lit v) = test v
-is_literal_of test (Input n) = false
-is_literal_of test (Do op a b c) = false
+is_literal_of test _ = false
+
+abbrev pub is_literal : Node → Bool
+is_literal node = is_literal_of (λ v. true) node
 
 -- an operator node whose operator passes the test
 abbrev pub is_made_by : (Op → Bool) → Node → Bool
 is_made_by kind (Do op a b c) = kind op
-is_made_by kind (Input n) = false
-is_made_by kind (Lit v) = false
+is_made_by kind _ = false
 
 abbrev pub is_neg : Op → Bool
 is_neg Neg = true
@@ -97,9 +91,8 @@ form _ x y f g same = false
 
 -- whether a node, with arguments among these nodes, has one of the forms
 abbrev pub has_form : List Node → Node → Bool
-has_form nodes (Input n) = false
-has_form nodes (Lit v) = false
 has_form nodes (Do op a b c) = form op (node_at nodes a) (node_at nodes b) (entry_at facts nodes a) (entry_at facts nodes b) (b == c)
+has_form nodes _ = false
 
 -- ---- all nodes
 

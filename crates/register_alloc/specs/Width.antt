@@ -4,15 +4,14 @@ use Rattle.std.specs.Prelude.{drop}
 use Rattle.std.specs.List.{list_any, sum_by}
 use Rattle.m_fixed.specs.Operators.{arity_of}
 use Rattle.flat_code.specs.declared.program.Node.{Node}
-use Rattle.flat_code.specs.declared.program.Node.TheVariants.{Input, Lit, Do}
+use Rattle.flat_code.specs.declared.program.Node.TheVariants.{Do}
 use Rattle.flat_code.specs.declared.program.Check.{Check}
 use Rattle.flat_code.specs.declared.program.Flat.{Flat}
 
 -- whether a node reads node x
 abbrev pub reads : ℕ → Node → Bool
-reads x (Input n) = false
-reads x (Lit v) = false
 reads x (Do op a b c) = (a == x) || ((b == x) || (c == x))
+reads x _ = false
 
 -- whether a check reads node x
 abbrev pub check_reads : ℕ → Check → Bool
@@ -62,9 +61,8 @@ width_of flat = width_below flat (length flat.nodes)
 
 -- how often a node reads node x by arguments within the arity
 abbrev pub reads_by : ℕ → Node → ℕ
-reads_by x (Input n) = 0
-reads_by x (Lit v) = 0
 reads_by x (Do op a b c) = one_if (a == x) + (one_if (nat_lt 1 (arity_of op) && (b == x)) + one_if (nat_lt 2 (arity_of op) && (c == x)))
+reads_by x _ = 0
 
 -- how often a check reads node x
 abbrev pub tests_by : ℕ → Check → ℕ

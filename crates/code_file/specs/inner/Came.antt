@@ -1,6 +1,6 @@
 -- Invariants of the reader.
 use Rattle.std.specs.Prelude.{◌≡◌, ℕ, List, [], ◌++◌, length, codes, Some, true, IsTrue}
-use Rattle.std.specs.List.{AllByRecursion}
+use Rattle.std.specs.List.{AllByRecursion, flat_map}
 use Rattle.observables.specs.declared.inputs.Coded.{Coded}
 use Rattle.observables.specs.declared.face.FaceLabel.{FaceLabel}
 use Rattle.observables.specs.declared.face.FaceOutput.{FaceOutput}
@@ -14,14 +14,14 @@ use Rattle.reg_machine.specs.Flow.{Listing, State, reading, code_of}
 use Rattle.m_names.specs.Names.{AreDistinct}
 use Rattle.observables.specs.Inputs.{codes_of}
 use Rattle.observables.specs.Outputs.{notes_stand_first}
-use Rattle.code_file.specs.Text.{lines, slots_line, input_line, label_line, output_line, instr_line}
+use Rattle.code_file.specs.Text.{slots_line, input_line, label_line, output_line, instr_line}
 use Rattle.code_file.specs.inner.Faces.{IsRightInput, IsRightLabel, IsRightOutput}
 use Rattle.code_file.specs.Reading.{Entry, code_start, Draft, blank, AreDue, draft_of, IsEntry, IsShort, entry_line, due}
 
 -- the bytes are n valid lines, after which the state is d, and `rest`
 pub record Came (bytes : List ℕ) (d : Draft) (n : ℕ) (rest : List ℕ) : Type 0 where
   pub entries : List Entry
-  pub text : bytes ≡ lines entry_line entries ++ rest
+  pub text : bytes ≡ flat_map entry_line entries ++ rest
   pub due : AreDue blank entries
   pub is : draft_of entries ≡ d
   pub count : length entries ≡ n
@@ -36,7 +36,7 @@ code_so_far slots face instrs = record { part = 3; slots = slots; inputs = face.
 -- the text of a face up to its outputs, followed by `rest`
 abbrev pub face_text : ℕ → List Coded → List FaceLabel → List FaceOutput → List ℕ → List ℕ
 face_text slots inputs labels outputs rest =
-    codes "mcode 1\n" ++ (slots_line slots ++ (lines input_line inputs ++ (lines label_line labels ++ (lines output_line outputs ++ rest))))
+    codes "mcode 1\n" ++ (slots_line slots ++ (flat_map input_line inputs ++ (flat_map label_line labels ++ (flat_map output_line outputs ++ rest))))
 
 -- a face that is valid in a code file
 pub record IsRightFace (slots : ℕ) (inputs : List Coded) (labels : List FaceLabel) (outputs : List FaceOutput) : Type 0 where
@@ -49,7 +49,7 @@ pub record IsRightFace (slots : ℕ) (inputs : List Coded) (labels : List FaceLa
 
 -- the text of a face and of code so far, followed by `rest`
 abbrev pub text_so_far : ℕ → Face → List Instr → List ℕ → List ℕ
-text_so_far slots face instrs rest = face_text slots face.inputs face.labels face.outputs (codes "code\n" ++ (lines instr_line instrs ++ rest))
+text_so_far slots face instrs rest = face_text slots face.inputs face.labels face.outputs (codes "code\n" ++ (flat_map instr_line instrs ++ rest))
 
 -- only `code` may come next
 abbrev pub EndsFace : Draft → List ℕ → Type 0

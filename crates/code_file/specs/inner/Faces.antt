@@ -2,7 +2,7 @@
 use Rattle.std.specs.Prelude.{◌≡◌, ℕ, ◌+◌, ◌-◌, ◌*◌, ◌==◌, ◌<◌, nat_lt, nat_le, Bool, true, false, ◌&&◌, ◌||◌, List, [], ◌∷◌, ◌++◌, length, codes, take}
 use Rattle.std.specs.Prelude.{slice_index_or, not, Option, Some, None, is_some, if◌then◌else◌}
 use Rattle.std.specs.Option.{option_and_then, option_map}
-use Rattle.std.specs.List.{AllByRecursion}
+use Rattle.std.specs.List.{AllByRecursion, flat_map}
 use Rattle.std.specs.Str.{bytes_eq}
 use Rattle.m_places.specs.declared.verification.ErrorKind.{ErrorKind}
 use Rattle.m_places.specs.declared.verification.ErrorKind.TheVariants.{Anomalie, Discordance, Informative}
@@ -16,7 +16,7 @@ use Rattle.observables.specs.declared.face.FaceOutput.{FaceOutput}
 use Rattle.observables.specs.declared.face.FaceOutput.TheVariants.{Named, Noted}
 use Rattle.m_names.specs.Names.{has, AreDistinct}
 use Rattle.observables.specs.Outputs.{notes_stand_first, verif_at}
-use Rattle.code_file.specs.Text.{lines, output_line}
+use Rattle.code_file.specs.Text.{output_line}
 use Rattle.code_file.specs.Printable.{IsFreeWord, IsPrintableVerif, IsPrintableLabel, IsPrintableOutput}
 use Rattle.code_file.specs.Reading.{IsFittingLabel, IsFittingOutput}
 use Rattle.code_file.specs.inner.Spelled.{cut, number, short}
@@ -160,7 +160,7 @@ is_index text = index_by (cut 93 text)
 
 -- The longest run of lines of valid elements at the start of a text, and the bytes after it.
 pub record IsRun {X : Type 0} (line : X → List ℕ) (Is : X → Type 0) (text : List ℕ) (xs : List X) (behind : List ℕ) : Type 0 where
-  pub whole : text ≡ lines line xs ++ behind
+  pub whole : text ≡ flat_map line xs ++ behind
   pub right : AllByRecursion Is xs
   pub ends : IsNoFront line Is behind
 
@@ -182,7 +182,7 @@ ends_named (output ∷ next ∷ outputs) = ends_named (next ∷ outputs)
 
 -- The longest valid run of lines of outputs at the start of a text.
 pub record AreOutputs (labels : List FaceLabel) (text : List ℕ) (outputs : List FaceOutput) (behind : List ℕ) : Type 0 where
-  pub whole : text ≡ lines output_line outputs ++ behind
+  pub whole : text ≡ flat_map output_line outputs ++ behind
   pub right : AllByRecursion IsRightOutput outputs
   pub first : notes_stand_first labels outputs ≡ true
   pub ends : IsNoFront output_line (λ output. IsRightOutput output × (notes_stand_first labels (outputs ++ output ∷ []) ≡ true)) behind

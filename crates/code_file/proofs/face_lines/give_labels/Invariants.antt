@@ -1,7 +1,8 @@
 use Rattle.std.proofs.Common.{drop}
+use Rattle.std.specs.List.{flat_map}
 use Rattle.m_ports.proofs.GivingLemmas.{Given}
-use Rattle.code_file.specs.Text.{lines, label_line}
+use Rattle.code_file.specs.Text.{label_line}
 use Rattle.code_file.proofs.face_lines.give_labels.Given as goal
 
 abbrev pub invariant-loop-k : goal.invariant-loop-k
-invariant-loop-k g l = Given g.K.Sink.written g.K.Sink.faults l.initial.out l.out (lines label_line l.labels) (lines label_line (drop l.k l.labels))
+invariant-loop-k g l = Given g.K.Sink.written g.K.Sink.faults l.initial.out l.out (flat_map label_line l.labels) (flat_map label_line (drop l.k l.labels))

@@ -1,12 +1,12 @@
 use Rattle.std.proofs.Common.{◌≡◌, ◌++◌, length}
-use Rattle.std.specs.List.{AllByRecursion}
-use Rattle.code_file.specs.Text.{lines, label_line}
+use Rattle.std.specs.List.{AllByRecursion, flat_map}
+use Rattle.code_file.specs.Text.{label_line}
 use Rattle.code_file.specs.inner.Faces.{IsRightLabel}
 use Rattle.code_file.proofs.runs.read_labels.Given as goal
 
 abbrev pub invariant-loop-labels : goal.invariant-loop-labels
 invariant-loop-labels l = record {
-  whole : l.text ≡ lines label_line l.labels.items ++ l.rest;
+  whole : l.text ≡ flat_map label_line l.labels.items ++ l.rest;
   right : AllByRecursion IsRightLabel l.labels.items;
 }
 
