@@ -4,6 +4,7 @@ use mathlib.Core.Bool.{◌||◌, ◌&&◌}
 use Rattle.std.proofs.lemmas.List.{append-nil}
 use Rattle.std.proofs.lemmas.Bool.{false≢true}
 use Rattle.std.proofs.lemmas.Bool.Decides.{Decides-int_eq}
+use Rattle.std.specs.List.{list_any}
 use Rattle.std.specs.Ordering.{int_eq, int_cmp}
 use Rattle.std.specs.BTreeSet.{BTreeSet, contains}
 use Rattle.std.specs.Int.{w128, cast_unsigned, cast_signed}
@@ -14,7 +15,7 @@ use Rattle.m_names.proofs.NameLemmas.{not-true}
 use Rattle.std.specs.Prelude.{Option, Some, None}
 use Rattle.m_names.specs.Names.{index_of}
 use Rattle.m_symbols.specs.declared.variable.Variable.{Variable}
-use Rattle.m_symbols.specs.Kinds.{has_amount, is_one_of, last_value}
+use Rattle.m_symbols.specs.Kinds.{is_one_of, last_value}
 use Rattle.m_ast.specs.Items.{is_input}
 use Rattle.driver_core.specs.declared.kind_index.KindIndex.{KindIndex}
 use Rattle.driver_core.specs.Ascending.{times}
@@ -65,13 +66,13 @@ pub amount-kept : (z : ℤ) → IsAmount z → cast_signed w128 (cast_unsigned w
 amount-kept z h = to_z-of_z w128 z (fits_signed_from_abs w128 z (below_half _ (size_of_amount z h)))
 
 -- a repeated value adds nothing
-again : (y v : ℤ) (vs : List ℤ) (b : Bool) → int_eq y v ≡ b → has_amount v vs ≡ true → (b || has_amount y vs) ≡ has_amount y vs
-again y v vs true e h = let s = same-int y v e in sym (ap (λ x. has_amount x vs) s ∙ h)
+again : (y v : ℤ) (vs : List ℤ) (b : Bool) → int_eq y v ≡ b → list_any (int_eq v) vs ≡ true → (b || list_any (int_eq y) vs) ≡ list_any (int_eq y) vs
+again y v vs true e h = let s = same-int y v e in sym (ap (λ x. list_any (int_eq x) vs) s ∙ h)
 again y v vs false e h = refl
 
 -- a value that doesn't occur again differs from those after it
-apart : (y v : ℤ) (vs : List ℤ) (b : Bool) → int_eq y v ≡ b → has_amount v vs ≡ false → has_amount y vs ≡ true → b ≡ false
-apart y v vs true e h k = let s = same-int y v e in absurd (false≢true (sym h ∙ ap (λ x. has_amount x vs) (sym s) ∙ k))
+apart : (y v : ℤ) (vs : List ℤ) (b : Bool) → int_eq y v ≡ b → list_any (int_eq v) vs ≡ false → list_any (int_eq y) vs ≡ true → b ≡ false
+apart y v vs true e h k = let s = same-int y v e in absurd (false≢true (sym h ∙ ap (λ x. list_any (int_eq x) vs) (sym s) ∙ k))
 apart y v vs false e h k = refl
 
 times-two : (c n : ℕ) (a b : Bool) → (b ≡ true → a ≡ false)
@@ -82,24 +83,24 @@ times-two c n false true h = omega arith
 times-two c n false false h = refl
 
 -- the cell of one variable
-one-again : (a : List ℕ) (v : ℤ) (vs : List ℤ) (i : Bool) (o : Option ℤ) → has_amount v vs ≡ true → (i && is_one_of o (v ∷ vs)) ≡ (i && is_one_of o vs)
+one-again : (a : List ℕ) (v : ℤ) (vs : List ℤ) (i : Bool) (o : Option ℤ) → list_any (int_eq v) vs ≡ true → (i && is_one_of o (v ∷ vs)) ≡ (i && is_one_of o vs)
 one-again a v vs false o h = refl
 one-again a v vs true None h = refl
 one-again a v vs true (Some y) h = again y v vs (int_eq y v) refl h
 
-one-more : (c n : ℕ) (v : ℤ) (vs : List ℤ) (i : Bool) (o : Option ℤ) → has_amount v vs ≡ false
+one-more : (c n : ℕ) (v : ℤ) (vs : List ℤ) (i : Bool) (o : Option ℤ) → list_any (int_eq v) vs ≡ false
     → times c (cond (i && is_one_of o (v ∷ vs)) (n ∷ []) []) ≡ times c (cond (i && is_one_of o (v ∷ [])) (n ∷ []) []) + times c
     (cond (i && is_one_of o vs) (n ∷ []) [])
 one-more c n v vs false o h = refl
 one-more c n v vs true None h = refl
-one-more c n v vs true (Some y) h = times-two c n (int_eq y v) (has_amount y vs) (apart y v vs (int_eq y v) refl h)
+one-more c n v vs true (Some y) h = times-two c n (int_eq y v) (list_any (int_eq y) vs) (apart y v vs (int_eq y v) refl h)
 
-with-again : (a : List ℕ) (v : ℤ) (vs : List ℤ) (all : List Variable) → has_amount v vs ≡ true → cells_with a (v ∷ vs) all ≡ cells_with a vs all
+with-again : (a : List ℕ) (v : ℤ) (vs : List ℤ) (all : List Variable) → list_any (int_eq v) vs ≡ true → cells_with a (v ∷ vs) all ≡ cells_with a vs all
 with-again a v vs [] h = refl
 with-again a v vs (x ∷ all) h =
     λ i. cond (one-again a v vs (is_input x.item.role) (last_value a x.item.pairs) h i) (x.first_cell ∷ []) [] ++ with-again a v vs all h i
 
-with-more : (c : ℕ) (a : List ℕ) (v : ℤ) (vs : List ℤ) (all : List Variable) → has_amount v vs ≡ false
+with-more : (c : ℕ) (a : List ℕ) (v : ℤ) (vs : List ℤ) (all : List Variable) → list_any (int_eq v) vs ≡ false
     → times c (cells_with a (v ∷ vs) all) ≡ times c (cells_with a (v ∷ []) all) + times c (cells_with a vs all)
 with-more c a v vs [] h = refl
 with-more c a v vs (x ∷ all) h =
@@ -132,7 +133,7 @@ kept-turn c old now group rest s t e f h =
 -- ---- an index
 
 -- the group of one more value, unless it occurs again
-more-by : (c : ℕ) (all : List Variable) (a : List ℕ) (v : ℤ) (vs : List ℤ) (group rest : List ℕ) (b : Bool) → has_amount v vs ≡ b
+more-by : (c : ℕ) (all : List Variable) (a : List ℕ) (v : ℤ) (vs : List ℤ) (group rest : List ℕ) (b : Bool) → list_any (int_eq v) vs ≡ b
     → group ≡ cells_with a (v ∷ []) all → times c rest ≡ times c (cells_with a vs all)
     → times c (cond b [] group ++ rest) ≡ times c (cells_with a (v ∷ vs) all)
 more-by c all a v vs group rest true e g h = h ∙ sym (ap (times c) (with-again a v vs all e))
@@ -142,7 +143,7 @@ more-by c all a v vs group rest false e g h =
     let m = with-more c a v vs all e in
     omega (arith, p, h, k, m)
 
-nothing-by : (c : ℕ) (all : List Variable) (a : List ℕ) (v : ℤ) (vs : List ℤ) (b : Bool) → has_amount v vs ≡ b → [] ≡ cells_with a (v ∷ []) all
+nothing-by : (c : ℕ) (all : List Variable) (a : List ℕ) (v : ℤ) (vs : List ℤ) (b : Bool) → list_any (int_eq v) vs ≡ b → [] ≡ cells_with a (v ∷ []) all
     → times c [] ≡ times c (cells_with a vs all)
     → times c [] ≡ times c (cells_with a (v ∷ vs) all)
 nothing-by c all a v vs true e g h = h ∙ sym (ap (times c) (with-again a v vs all e))
@@ -156,9 +157,9 @@ groups-of : (c : ℕ) (all : List Variable) (index : KindIndex) (a : List ℕ) (
     → (vs : List ℤ)
     → times c (groups_of index vs n) ≡ times c (cells_with a vs all)
 groups-of c all index a None g [] = sym (ap (times c) (with-none a all))
-groups-of c all index a None g (v ∷ vs) = nothing-by c all a v vs (has_amount v vs) refl (g v) (groups-of c all index a None g vs)
+groups-of c all index a None g (v ∷ vs) = nothing-by c all a v vs (list_any (int_eq v) vs) refl (g v) (groups-of c all index a None g vs)
 groups-of c all index a (Some n) g [] = sym (ap (times c) (with-none a all))
-groups-of c all index a (Some n) g (v ∷ vs) = more-by c all a v vs (group_at index n v) (groups_at index n vs) (has_amount v vs) refl (g v)
+groups-of c all index a (Some n) g (v ∷ vs) = more-by c all a v vs (group_at index n v) (groups_at index n vs) (list_any (int_eq v) vs) refl (g v)
     (groups-of c all index a (Some n) g vs)
 
 pub groups-with : (c : ℕ) (all : List Variable) (index : KindIndex) (a : List ℕ) (vs : List ℤ) → IsIndexOf all index

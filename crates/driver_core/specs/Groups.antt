@@ -1,12 +1,12 @@
 -- Cells of inputs by an attribute and its value, in the order in which they were added.
 use Rattle.std.specs.Prelude.{ℕ, ℤ, List, [], ◌∷◌, ◌++◌, Option, Some, None, if◌then◌else◌}
 use Rattle.std.specs.declared.cmp.Ordering.{Ordering}
-use Rattle.std.specs.Ordering.{nat_cmp, int_cmp, ordering_then}
+use Rattle.std.specs.List.{list_any}
+use Rattle.std.specs.Ordering.{nat_cmp, int_cmp, int_eq, ordering_then}
 use Rattle.std.specs.BTreeMap.{get}
 use Rattle.std.specs.declared.alloc.Global.{Global}
 use Rattle.std.specs.declared.vec.Vec.{Vec}
 use Rattle.m_names.specs.Names.{index_of}
-use Rattle.m_symbols.specs.Kinds.{has_amount}
 use Rattle.driver_core.specs.declared.kind_index.KindIndex.{KindIndex}
 
 -- keys by the number of their attribute, and then by value
@@ -37,7 +37,7 @@ joined index attribute (v ∷ vs) = group_at index attribute v ++ joined index a
 -- the same for distinct values
 abbrev pub groups_at : KindIndex → ℕ → List ℤ → List ℕ
 groups_at index attribute [] = []
-groups_at index attribute (v ∷ vs) = (if has_amount v vs then [] else group_at index attribute v) ++ groups_at index attribute vs
+groups_at index attribute (v ∷ vs) = (if list_any (int_eq v) vs then [] else group_at index attribute v) ++ groups_at index attribute vs
 
 abbrev pub groups_of : KindIndex → List ℤ → Option ℕ → List ℕ
 groups_of index values None = []

@@ -31,12 +31,9 @@ name_of v = v.item.name
 abbrev pub names_of : List Variable → List (List ℕ)
 names_of = map name_of
 
-abbrev pub error_name_of : ErrorItem → List ℕ
-error_name_of e = e.name
-
 -- the names of errors in order
 abbrev pub error_names_of : List ErrorItem → List (List ℕ)
-error_names_of = map error_name_of
+error_names_of = map (λ e. e.name)
 
 -- the code of a variable, if it is an input
 abbrev pub code_of : Variable → Option (List ℕ)

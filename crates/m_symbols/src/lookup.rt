@@ -1,8 +1,10 @@
 //! Look-ups. None takes memory.
 ghost use Rattle.std.specs.Prelude.{◌≡◌, ◌<◌, ◌≤◌, All, Some, length, slice_get, slice_index, IfSome};
+ghost use Rattle.std.specs.List.{list_any};
+ghost use Rattle.std.specs.Ordering.{int_eq};
 ghost use Rattle.m_names.specs.Names.{index_of};
 ghost use Rattle.m_symbols.specs.Declarations.{names_of, error_names_of, codes_of, owners_from, inputs_from};
-ghost use Rattle.m_symbols.specs.Kinds.{is_in_kind, last_value, has_amount};
+ghost use Rattle.m_symbols.specs.Kinds.{is_in_kind, last_value};
 
 use crate::{Symbols, Variable};
 use m_ast::{ErrorItem, Role};
@@ -136,7 +138,7 @@ fn last_value(pairs: &[(Name, Amount)], attribute: &[u8]) -> Option<Amount>
 
 // Whether an amount is in a list.
 fn has_amount(amounts: &[Amount], value: Amount) -> bool
-    ensures { result ≡ has_amount value amounts.now }
+    ensures { result ≡ list_any (int_eq value) amounts.now }
 {
     for amount in amounts {
         if value.millionths() == amount.millionths() {

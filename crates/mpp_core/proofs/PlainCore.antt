@@ -8,7 +8,9 @@ use Rattle.driver_core.specs.declared.program.Core.{Core}
 use Rattle.driver_core.specs.Actions.{Action, solve}
 use Rattle.driver_core.specs.ActionView.{block_of}
 use Rattle.driver_core.specs.Valid.{body_among, BlockCalls, BlockIsWithin, Calls, IsValidCore}
-use Rattle.mpp_core.specs.Cores.{plain_core, received_cells, is_constant_cell}
+use Rattle.m_symbols.specs.Cells.{owner_of}
+use Rattle.mpp_core.specs.Cores.{plain_core, received_cells}
+use Rattle.mpp_core.specs.Names.{is_a_constant}
 
 abbrev received_alone : List ℕ → Action
 received_alone cells = solve 1 (length cells) cells
@@ -26,7 +28,7 @@ no_ring requests d (f ∷ g ∷ rest) r = no_calls (received_cells requests d) f
 plain_valid : (requests : List ℕ) (d : Declared) → All (λ c. c < length (owners_from 0 d.variables)) requests → IsValidCore (plain_core requests d)
 plain_valid requests d h =
     let all = length (owners_from 0 d.variables) in
-    let known = All-filter (λ cell. not (is_constant_cell d cell)) (λ c. c < all) requests h in
+    let known = All-filter (λ cell. not (is_a_constant (owner_of d cell))) (λ c. c < all) requests h in
     record {
       in_range = record {
         names = refl;

@@ -38,7 +38,7 @@ use Rattle.driver_core.specs.ActionView.{block_of}
 use Rattle.driver_core.specs.Valid.{ActionIsWithin, BlockIsWithin, IsInRange}
 use Rattle.mpp_core.specs.declared.fault.CoreFault.{CoreFault}
 use Rattle.mpp_core.specs.declared.fault.CoreFault.TheVariants.{FunctionTwice, BadTargetInDriver}
-use Rattle.mpp_core.specs.Names.{if_resolved, cell_at, resolved_cell, is_constant_named, resolved_target}
+use Rattle.mpp_core.specs.Names.{if_resolved, cell_at, resolved_cell, is_a_constant, resolved_target}
 use Rattle.mpp_core.specs.Names.{resolved_each, with_cell, each_once, kind_cells, resolved_name, resolved_names}
 use Rattle.mpp_core.specs.Names.{resolved_main, resolved_function, rules_name}
 use Rattle.mpp_core.specs.Bodies.{resolved_term, resolved_terms, resolved_links, resolved_call, resolved_act, resolved_acts}
@@ -100,8 +100,9 @@ no_constant false fault a c e = value_of_ok a c e
 
 target_within : (d : Declared) (line c : ℕ) (cell : CellName) → IsPlaced d → resolved_target d line cell ≡ Ok c → c < length (owners_from 0 d.variables)
 target_within d line c cell p e =
-    let k = resolved_by (λ a. cond (is_constant_named d cell.name) (Err (BadTargetInDriver cell.name line)) (Ok a)) (resolved_cell d line cell) c e in
-    cell_within d line c cell p (k.1 ∙ ap Ok (no_constant (is_constant_named d cell.name) _ k.0 c k.2))
+    let constant = is_a_constant (variable_named d cell.name) in
+    let k = resolved_by (λ a. cond constant (Err (BadTargetInDriver cell.name line)) (Ok a)) (resolved_cell d line cell) c e in
+    cell_within d line c cell p (k.1 ∙ ap Ok (no_constant constant _ k.0 c k.2))
 
 targets_within : (d : Declared) (line : ℕ) (before : List ℕ) (cells : List CellName) (stated : List ℕ) → IsPlaced d
     → AllByRecursion (λ c. c < length (owners_from 0 d.variables)) before

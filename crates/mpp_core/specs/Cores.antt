@@ -1,9 +1,7 @@
 -- The driver over cells that a driver resolves to, the errors of a driver, and the driver of a
 -- source without one.
-use Rattle.std.specs.Prelude.{◌≡◌, ◌⊎◌, ℕ, List, [], ◌∷◌, Result, Ok, Err, Bool, false, not, codes, length, map, filter, slice_get}
-use Rattle.std.specs.Option.{option_map_or, unwrap_or}
-use Rattle.m_ast.specs.Items.{is_constant}
-use Rattle.m_symbols.specs.declared.variable.Variable.{Variable}
+use Rattle.std.specs.Prelude.{◌≡◌, ◌⊎◌, ℕ, List, [], ◌∷◌, Result, Ok, Err, not, codes, length, map, filter, slice_get}
+use Rattle.std.specs.Option.{unwrap_or}
 use Rattle.m_symbols.specs.Declarations.{Declared, owners_from}
 use Rattle.micro_m.specs.Reads.{IsCycle, BeginsWithLeast}
 use Rattle.m_symbols.specs.Cells.{owner_of}
@@ -12,7 +10,7 @@ use Rattle.mpp_parser.specs.declared.command.Driver.{Driver}
 use Rattle.driver_core.specs.declared.program.Core.{Core}
 use Rattle.driver_core.specs.Actions.{solve}
 use Rattle.driver_core.specs.Valid.{Calls, HasNoRing}
-use Rattle.mpp_core.specs.Names.{if_resolved, resolved_each, resolved_names, resolved_main}
+use Rattle.mpp_core.specs.Names.{if_resolved, resolved_each, is_a_constant, resolved_names, resolved_main}
 use Rattle.mpp_core.specs.Bodies.{resolved_acts}
 use Rattle.mpp_core.specs.declared.fault.CoreFault.{CoreFault}
 use Rattle.mpp_core.specs.declared.fault.CoreFault.TheVariants.{DriverRecursion}
@@ -34,17 +32,13 @@ pub record IsCore (driver : Driver) (declared : Declared) (core : Core) : Type 0
   pub named : core_of driver declared ≡ Ok core
   pub no_ring : HasNoRing core
 
--- the name of a function
-abbrev pub function_name : List (List ℕ) → ℕ → List ℕ
-function_name names f = unwrap_or (slice_get names f) []
-
 -- These are the names of a cycle of calls: distinct functions, each calling the next and the last
 -- the first, beginning with the one that is first in the file.
 pub record ShowsRing (core : Core) (names : List (List ℕ)) : Type 0 where
   pub functions : List ℕ
   pub ring : IsCycle (Calls core) functions
   pub first : BeginsWithLeast functions
-  pub shown : names ≡ map (function_name core.names) functions
+  pub shown : names ≡ map (λ f. unwrap_or (slice_get core.names f) []) functions
 
 -- the error reports a cycle of calls
 abbrev pub IsRecursion : Core → CoreFault → Type 0
@@ -62,13 +56,9 @@ pub data AreOneCoreFault : CoreFault → CoreFault → Type 0 where
 
 -- ---- the driver of a source without one
 
--- whether a cell is a constant's
-abbrev pub is_constant_cell : Declared → ℕ → Bool
-is_constant_cell declared cell = option_map_or (λ (v : Variable). is_constant v.item.role) (owner_of declared cell) false
-
 -- the requested cells without those of constants, which no call may receive
 abbrev pub received_cells : List ℕ → Declared → List ℕ
-received_cells requests declared = filter (λ cell. not (is_constant_cell declared cell)) requests
+received_cells requests declared = filter (λ cell. not (is_a_constant (owner_of declared cell))) requests
 
 -- `main` with one call of the rules on line 1 that receives the requested cells except those of constants
 abbrev pub plain_core : List ℕ → Declared → Core

@@ -5,6 +5,7 @@ use Rattle.std.specs.Option.{ok_or, option_and_then, option_map_or}
 use Rattle.std.specs.Str.{bytes_eq}
 use Rattle.m_names.specs.Names.{has, index_of}
 use Rattle.m_ast.specs.Items.{variable_size, is_constant}
+use Rattle.m_symbols.specs.declared.variable.Variable.{Variable}
 use Rattle.m_symbols.specs.Declarations.{Declared}
 use Rattle.m_symbols.specs.Cells.{variable_named}
 use Rattle.driver_core.specs.Kinds.{of_kind}
@@ -40,12 +41,13 @@ abbrev pub resolved_cell : Declared → ℕ → CellName → Result ℕ CoreFaul
 resolved_cell declared line c =
     ok_or (option_and_then (λ v. cell_at v.first_cell c.index (variable_size v.item)) (variable_named declared c.name)) (UnknownInDriver c.name line)
 
-abbrev pub is_constant_named : Declared → List ℕ → Bool
-is_constant_named declared name = option_map_or (λ v. is_constant v.item.role) (variable_named declared name) false
+-- whether there is a variable, and it is a constant
+abbrev pub is_a_constant : Option Variable → Bool
+is_a_constant found = option_map_or (λ v. is_constant v.item.role) found false
 
 -- the cell of a target, which is assigned, deleted or received: that of any variable but a constant
 abbrev pub resolved_target : Declared → ℕ → CellName → Result ℕ CoreFault
-resolved_target declared line c = if_resolved (λ cell. if is_constant_named declared c.name then Err (BadTargetInDriver c.name line) else Ok cell)
+resolved_target declared line c = if_resolved (λ cell. if is_a_constant (variable_named declared c.name) then Err (BadTargetInDriver c.name line) else Ok cell)
     (resolved_cell declared line c)
 
 -- inserts a cell into an ascending list, unless it is in it

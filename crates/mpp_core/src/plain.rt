@@ -1,9 +1,11 @@
 //! The driver of a source without one.
 
 ghost use Rattle.std.specs.Prelude.{◌≡◌, ◌<◌, All, IfOk, length};
+ghost use Rattle.m_symbols.specs.Cells.{owner_of};
 ghost use Rattle.m_symbols.specs.Declarations.{owners_from};
 ghost use Rattle.driver_core.specs.Valid.{IsValidCore};
-ghost use Rattle.mpp_core.specs.Cores.{plain_core, received_cells, is_constant_cell};
+ghost use Rattle.mpp_core.specs.Cores.{plain_core, received_cells};
+ghost use Rattle.mpp_core.specs.Names.{is_a_constant};
 
 use driver_core::{CCommand, CCommandNode, Core};
 use m_ast::Role;
@@ -64,7 +66,7 @@ fn received_cells(
 // Whether a cell is a constant's.
 fn is_constant_cell(cell: u32, symbols: &Symbols) -> bool
     requires { cell < length (owners_from 0 symbols.now.variables) }
-    ensures { result ≡ is_constant_cell symbols.now cell }
+    ensures { result ≡ is_a_constant (owner_of symbols.now cell) }
 {
     match &symbols.variable(symbols.owner(cell)).item.role {
         Role::Constant(_) => true,

@@ -1,9 +1,10 @@
 //! Rejects cycles of calls: if the base of the calls has no order, its cycle is one of calls.
 
-ghost use Rattle.std.specs.Prelude.{◌≡◌, ◌≢◌, IfOk, length, map};
+ghost use Rattle.std.specs.Prelude.{◌≡◌, ◌≢◌, [], IfOk, length, map, slice_get};
+ghost use Rattle.std.specs.Option.{unwrap_or};
 ghost use Rattle.m_places.specs.Refusals.{Outcome};
 ghost use Rattle.driver_core.specs.Valid.{HasNoRing, IsInRange};
-ghost use Rattle.mpp_core.specs.Cores.{IsRecursion, function_name};
+ghost use Rattle.mpp_core.specs.Cores.{IsRecursion};
 ghost use Rattle.mpp_core.specs.declared.fault.CoreFault.TheVariants.{Memory, DriverRecursion};
 
 use crate::CoreFault;
@@ -32,7 +33,7 @@ pub(crate) fn no_ring(alloc: Global, core: &Core, functions: u32) -> Result<(), 
 
 // The error of a cycle of calls.
 fn recursion(alloc: Global, names: &[Name], ring: &[u32]) -> CoreFault
-    ensures { result ≢ Memory → result ≡ DriverRecursion (map (function_name names.now) ring.now) }
+    ensures { result ≢ Memory → result ≡ DriverRecursion (map (λ f. unwrap_or (slice_get names.now f) []) ring.now) }
 {
     match shown_names(alloc, names, ring) {
         Ok(shown) => CoreFault::DriverRecursion(shown),
@@ -42,7 +43,7 @@ fn recursion(alloc: Global, names: &[Name], ring: &[u32]) -> CoreFault
 
 // The names of functions.
 fn shown_names(alloc: Global, names: &[Name], functions: &[u32]) -> Result<Seq<Name>, AllocError>
-    ensures { IfOk result (λ shown. shown ≡ map (function_name names.now) functions.now) }
+    ensures { IfOk result (λ shown. shown ≡ map (λ f. unwrap_or (slice_get names.now f) []) functions.now) }
 {
     let mut shown = Vec::with_capacity(alloc, functions.len())?;
     for function in functions {
@@ -53,7 +54,7 @@ fn shown_names(alloc: Global, names: &[Name], functions: &[u32]) -> Result<Seq<N
 }
 
 fn function_name(alloc: Global, names: &[Name], function: u32) -> Result<Name, AllocError>
-    ensures { IfOk result (λ name. name ≡ function_name names.now function) }
+    ensures { IfOk result (λ name. name ≡ unwrap_or (slice_get names.now function) []) }
 {
     match names.get(function as usize) {
         Some(name) => name.copy(alloc),

@@ -11,7 +11,7 @@ use Rattle.mpp_parser.specs.declared.keyword.Keyword.{Keyword}
 use Rattle.mpp_parser.specs.declared.term.CellName.{CellName}
 use Rattle.mpp_parser.specs.declared.term.Kind.TheVariants.{Attribute}
 use Rattle.mpp_parser.specs.Keywords.{keyword_of, operator_keyword_of}
-use Rattle.mpp_parser.specs.Grammar.{is, key, found, tax_benefit, SpellsCell, plain, indexed, SpellsNumber, a_number, SpellsNumbers, numbers, SpellsKind}
+use Rattle.mpp_parser.specs.Grammar.{is, key, found, tax_benefit, SpellsCell, plain, indexed, SpellsNumber, a_number, Listed, listed, SpellsKind}
 use Rattle.mpp_parser.specs.Grammar.{benefit, attribute}
 use Rattle.mpp_parser.specs.inner.Reading.{sign_at, key_at, number_at, index_of, free, word_of, word_at, bracket_at, cell_rest_at, cell_at, numbers_at}
 use Rattle.mpp_parser.specs.inner.Reading.{benefit_of, kind_at, enclosed_at}
@@ -116,16 +116,16 @@ number_shrinks _ _ _ a_number = omega arith
 pub number_complete : Complete (λ _. Unit {0}) SpellsNumber number_at
 number_complete _ _ _ a_number h = refl
 
-pub numbers_sound : Sound SpellsNumbers numbers_at
+pub numbers_sound : Sound (Listed SpellsNumber) numbers_at
 unfolding numbers_at
 numbers_sound ts =
     bind_each (number_sound ts) (λ z d.
     each_from (chain_sound (is Comma) (λ _ x. x) SpellsNumber number_at number_sound _ _ _) (λ zs c.
-    subst (λ l. SpellsNumbers l ts zs.1) (sym c.all) (numbers d c.chain)))
+    subst (λ l. Listed SpellsNumber l ts zs.1) (sym c.all) (listed d c.chain)))
 
-pub numbers_complete : Complete (λ ts. sign_at Comma ts ≡ None) SpellsNumbers numbers_at
+pub numbers_complete : Complete (λ ts. sign_at Comma ts ≡ None) (Listed SpellsNumber) numbers_at
 unfolding numbers_at
-numbers_complete _ _ _ (numbers {z = z} {mid = mid} d c) h =
+numbers_complete _ _ _ (listed {x = z} {mid = mid} d c) h =
     rw (number_complete _ _ _ d tt) (chain_complete (is Comma) (λ _ x. x) SpellsNumber number_shrinks number_at (λ _. Unit {0}) (λ ts. sign_at Comma ts ≡ None)
     number_complete (λ t b ts e. tt) (λ ts h. tt) (λ ts h. h) (length mid) (z ∷ []) c h (omega arith))
 
@@ -150,7 +150,7 @@ kind_sound ts =
 
 pub kind_shrinks : Shrinks SpellsKind
 kind_shrinks _ _ _ benefit = omega arith
-kind_shrinks _ _ _ (attribute e (numbers d c)) = omega (arith, number_shrinks _ _ _ d, chain_shrinks (is Comma) (λ _ x. x) SpellsNumber number_shrinks c)
+kind_shrinks _ _ _ (attribute e (listed d c)) = omega (arith, number_shrinks _ _ _ d, chain_shrinks (is Comma) (λ _ x. x) SpellsNumber number_shrinks c)
 
 -- neither `,` nor `=` continues a kind
 abbrev pub EndsKind : List DriverPiece → Type 0

@@ -16,7 +16,7 @@ use Rattle.mpp_parser.specs.declared.sentence.Sentence.{Sentence}
 use Rattle.mpp_parser.specs.declared.sentence.Sentence.TheVariants as sentences
 use Rattle.mpp_parser.specs.Keywords.{keyword_of}
 use Rattle.m_lexer.specs.Chains.{Chain, ended, further}
-use Rattle.mpp_parser.specs.Grammar.{is, SpellsCell, plain, indexed, SpellsKind, SpellsTerm, SpellsCells, cells, SpellsSentence, function, set, del, call, when}
+use Rattle.mpp_parser.specs.Grammar.{is, SpellsCell, plain, indexed, SpellsKind, SpellsTerm, Listed, listed, SpellsSentence, function, set, del, call, when}
 use Rattle.mpp_parser.specs.Grammar.{otherwise, partition}
 use Rattle.mpp_parser.specs.inner.Reading.{sign_at, cell_rest_at, bracket_at, cell_at, term_at, called_at, cells_at, call_at, command_rest_at, function_rest_at}
 use Rattle.mpp_parser.specs.inner.Reading.{named_at, partition_at, worded_at, sentence_at, whole, line_at, ReadsAll}
@@ -28,7 +28,7 @@ use Rattle.mpp_parser.proofs.Cells.{key_each, word_each, cell_rest_sound, cell_s
 use Rattle.mpp_parser.proofs.Expressions.{until_sound, until_complete, term_sound, term_shrinks, term_complete}
 
 -- What is parsed is spelled so.
-called_sound : (c : CellName) (cs : List CellName) (ts us : List DriverPiece) → SpellsCells (c ∷ cs) ts us
+called_sound : (c : CellName) (cs : List CellName) (ts us : List DriverPiece) → Listed SpellsCell (c ∷ cs) ts us
     → Each (λ (s : Sentence × List DriverPiece). SpellsSentence s.0 ts s.1) (called_at (c ∷ cs) us)
 unfolding called_at
 called_sound c cs ts us d =
@@ -36,7 +36,7 @@ called_sound c cs ts us d =
     bind_each (word_each r.1) (λ w j.
     bind_each (sign_each OpenParen w.1) (λ o k.
     bind_each (sign_each CloseParen o.1) (λ q l.
-    here (call (subst (λ m. SpellsCells (c ∷ cs) ts m) (i ∙ ap (λ m. Sign Receive ∷ m) (j.1 ∙ ap (λ m. Word w.0 ∷ m) (k ∙ ap (λ m. Sign OpenParen ∷ m) l))) d)
+    here (call (subst (Listed SpellsCell (c ∷ cs) ts) (i ∙ ap (λ m. Sign Receive ∷ m) (j.1 ∙ ap (λ m. Word w.0 ∷ m) (k ∙ ap (λ m. Sign OpenParen ∷ m) l))) d)
     j.0)))))
 
 call_sound : (c : CellName) (ts us : List DriverPiece) → SpellsCell c ts us
@@ -45,7 +45,7 @@ unfolding call_at cells_at
 call_sound c ts us d =
     bind_each (chain_sound (is Comma) (λ _ x. x) SpellsCell cell_at cell_sound (length us) (c ∷ []) us) (λ cs h.
     subst (λ all. Each (λ (s : Sentence × List DriverPiece). SpellsSentence s.0 ts s.1) (called_at all cs.1)) (sym h.all)
-    (called_sound c h.others ts cs.1 (cells d h.chain)))
+    (called_sound c h.others ts cs.1 (listed d h.chain)))
 
 command_rest_sound : (w : List ℕ) (ts : List DriverPiece) → keyword_of w ≡ None
     → Each (λ (s : Sentence × List DriverPiece). SpellsSentence s.0 (Word w ∷ ts) s.1) (command_rest_at w ts)
@@ -127,8 +127,8 @@ sentence_complete _ _ (function g) = rw g refl
 sentence_complete _ _ (set (plain g) d) = rw (g, term_complete _ _ _ d (lit< tt)) refl
 sentence_complete _ _ (set (indexed g f) d) = rw (g, f, term_complete _ _ _ d (lit< tt)) refl
 sentence_complete _ _ (del g d) = rw (g, cell_complete _ _ _ d (lit< tt)) refl
-sentence_complete _ _ (call (cells (plain g) c) f) = let h = cells_end c in rw (g, h.0.0, h.0.1, h.0.2, cells_read c, f) refl
-sentence_complete _ _ (call (cells (indexed g e) c) f) = let h = cells_end c in rw (g, e, h.0.2, cells_read c, f) refl
+sentence_complete _ _ (call (listed (plain g) c) f) = let h = cells_end c in rw (g, h.0.0, h.0.1, h.0.2, cells_read c, f) refl
+sentence_complete _ _ (call (listed (indexed g e) c) f) = let h = cells_end c in rw (g, e, h.0.2, cells_read c, f) refl
 sentence_complete _ _ (when g d) = rw (g, until_complete SpellsTerm term_shrinks term_at term_complete Colon d (lit< tt) refl) refl
 sentence_complete _ _ (otherwise g) = rw g refl
 sentence_complete _ _ (partition g f d) = rw (g, f, kind_complete _ _ _ d (refl, refl)) refl

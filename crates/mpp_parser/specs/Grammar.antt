@@ -94,6 +94,12 @@ unary op a = apply op (a_term a no_terms)
 abbrev pub binary : Op → Term → Term → Term
 binary op a b = apply op (a_term a (a_term b no_terms))
 
+-- R { "," R }
+pub data Listed {A : Type 0} (R : A → List DriverPiece → List DriverPiece → Type 0) : List A → List DriverPiece → List DriverPiece → Type 0 where
+  listed : {x : A} {xs : List A} {ts mid rest : List DriverPiece}
+      → R x ts mid → Chain (is Comma) (λ _ y. y) R xs mid rest →
+      Listed R (x ∷ xs) ts rest
+
 -- Cells and kinds.
 
 -- cell := WORD [ "[" WHOLE "]" ], where WORD isn't reserved
@@ -107,12 +113,6 @@ pub data SpellsCell : CellName → List DriverPiece → List DriverPiece → Typ
 pub data SpellsNumber : ℤ → List DriverPiece → List DriverPiece → Type 0 where
   a_number : {z : ℤ} {t : List ℕ} {rest : List DriverPiece} → SpellsNumber z (Number z t ∷ rest) rest
 
--- NUMBER { "," NUMBER }
-pub data SpellsNumbers : List ℤ → List DriverPiece → List DriverPiece → Type 0 where
-  numbers : {z : ℤ} {zs : List ℤ} {ts mid rest : List DriverPiece}
-      → SpellsNumber z ts mid → Chain (is Comma) (λ _ x. x) SpellsNumber zs mid rest →
-      SpellsNumbers (z ∷ zs) ts rest
-
 -- the inputs that give a benefit: `avfisc = 1, 2`
 abbrev pub tax_benefit : Kind
 tax_benefit = Attribute (codes "avfisc") (pos 1000000 ∷ pos 2000000 ∷ [])
@@ -121,7 +121,7 @@ tax_benefit = Attribute (codes "avfisc") (pos 1000000 ∷ pos 2000000 ∷ [])
 pub data SpellsKind : Kind → List DriverPiece → List DriverPiece → Type 0 where
   benefit : {rest : List DriverPiece} → SpellsKind tax_benefit (Word (codes "taxbenefit") ∷ rest) rest
   attribute : {w : List ℕ} {zs : List ℤ} {ts rest : List DriverPiece}
-      → keyword_of w ≡ None → SpellsNumbers zs ts rest →
+      → keyword_of w ≡ None → Listed SpellsNumber zs ts rest →
       SpellsKind (Attribute w zs) (Word w ∷ Sign Assign ∷ ts) rest
 
 -- Terms.
@@ -192,12 +192,6 @@ SpellsTerm = SpellsDisjunction (SpellsInner BRACKET_DEPTH)
 
 -- Lines.
 
--- cell { "," cell }
-pub data SpellsCells : List CellName → List DriverPiece → List DriverPiece → Type 0 where
-  cells : {c : CellName} {cs : List CellName} {ts mid rest : List DriverPiece}
-      → SpellsCell c ts mid → Chain (is Comma) (λ _ x. x) SpellsCell cs mid rest →
-      SpellsCells (c ∷ cs) ts rest
-
 -- The sentence of one line, by the tokens at its start:
 --   WORD "(" ")" ":" | cell "=" term | "del" cell | cell { "," cell } "<-" WORD "(" ")"
 --   | "if" term ":" | "else" ":" | "partition" "with" kind ":"
@@ -208,8 +202,8 @@ pub data SpellsSentence : Sentence → List DriverPiece → List DriverPiece →
       SpellsSentence (sentences.Set c t) ts rest
   del : {w : List ℕ} {c : CellName} {ts rest : List DriverPiece} → keyword_of w ≡ Some keys.Del → SpellsCell c ts rest →
       SpellsSentence (sentences.Del c) (Word w ∷ ts) rest
-  call : {w : List ℕ} {cs : List CellName} {ts rest : List DriverPiece} → SpellsCells cs ts (Sign Receive ∷ Word w ∷ Sign OpenParen ∷ Sign CloseParen ∷ rest)
-      → keyword_of w ≡ None →
+  call : {w : List ℕ} {cs : List CellName} {ts rest : List DriverPiece}
+      → Listed SpellsCell cs ts (Sign Receive ∷ Word w ∷ Sign OpenParen ∷ Sign CloseParen ∷ rest) → keyword_of w ≡ None →
       SpellsSentence (sentences.Call cs w) ts rest
   when : {w : List ℕ} {t : Term} {ts rest : List DriverPiece} → keyword_of w ≡ Some keys.If → SpellsTerm t ts (Sign Colon ∷ rest) →
       SpellsSentence (sentences.If t) (Word w ∷ ts) rest

@@ -1,8 +1,8 @@
 use Rattle.std.proofs.Common.{◌≡◌, ◌-◌, ◌∷◌, drop, sym, ap, ◌∙◌, arith}
 use mathlib.Core.Bool.{◌||◌}
 use Rattle.std.specs.BTreeSet.{contains}
+use Rattle.std.specs.List.{list_any}
 use Rattle.std.specs.Ordering.{int_cmp, int_eq}
-use Rattle.m_symbols.specs.Kinds.{has_amount}
 use Rattle.driver_core.specs.Ascending.{times}
 use Rattle.driver_core.specs.Groups.{joined, group_at, groups_at}
 use Rattle.driver_core.proofs.Adding.{back-one}
@@ -22,10 +22,10 @@ loop-left-preserved c =
     let done = c.in_ok-count.ensures in
     record {
       within = omega (arith, v.within);
-      seen = λ q. done.seen q ∙ ap (λ b. int_eq q x || b) (v.seen q) ∙ ap (has_amount q) (sym front);
+      seen = λ q. done.seen q ∙ ap (λ b. int_eq q x || b) (v.seen q) ∙ ap (list_any (int_eq q)) (sym front);
       kept = λ cell.
           kept-turn cell (joined index a c.loop-left.kept.items) (joined index a c.keep_once.new.kept.items) (group_at index a x) (groups_at index a rest)
-          (contains int_cmp c.loop-left.seen x) (has_amount x rest)
+          (contains int_cmp c.loop-left.seen x) (list_any (int_eq x) rest)
           done.kept (v.seen x) (v.kept cell)
           ∙ ap (λ l. times cell (groups_at index a l)) (sym front);
       count = done.count;

@@ -1,6 +1,6 @@
 use Rattle.std.proofs.Common.{◌≡◌, [], ◌∷◌, ◌++◌, length, refl, sym, ap, ◌∙◌, length-append, arith}
 use Rattle.m_ast.specs.declared.item.ErrorItem.{ErrorItem}
-use Rattle.m_symbols.specs.Declarations.{error_name_of, error_names_of}
+use Rattle.m_symbols.specs.Declarations.{error_names_of}
 use Rattle.m_symbols.specs.inner.Tables.{declared_in}
 use Rattle.m_symbols.proofs.Faultless.{new_error}
 use Rattle.m_symbols.proofs.Indexed.{name_added}
@@ -19,7 +19,7 @@ returns-clause-indexed c =
       codes = x.codes;
       owners = x.owners;
       inputs = x.inputs;
-      error_names = name_added error_name_of t.error_names c.add.new.self c.in_ok-add.field-0 t.errors.items e x.error_names
+      error_names = name_added (λ (y : ErrorItem). y.name) t.error_names c.add.new.self c.in_ok-add.field-0 t.errors.items e x.error_names
           (new_error (declared_in t) e c.requires.good) (rw c.bytes.ensures at c.in_ok-add.ensures.fresh) (rw c.bytes.ensures at c.in_ok-add.ensures.added)
           ∙ ap error_names_of (sym pushed);
       few = x.few;
