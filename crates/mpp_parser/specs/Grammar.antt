@@ -4,6 +4,7 @@
 -- ts begin with a spelling of the sum t, and rest are the tokens after it. E is the grammar of
 -- terms in brackets. The limits of nesting are part of the grammar.
 use Rattle.std.specs.Prelude.{◌≡◌, ℕ, zero, suc, ℤ, pos, cond, List, [], ◌∷◌, Option, Some, None, option_map, codes}
+use Rattle.std.specs.Option.{option_and_then}
 use denote.Enum.Bare.{sameb}
 use Rattle.m_places.specs.declared.limits.TheConstants.{BRACKET_DEPTH}
 use Rattle.m_fixed.specs.declared.amount.Value.TheVariants.{Num}
@@ -36,8 +37,7 @@ is s (Sign t) = cond (sameb signs.the_type t s) (Some tt) None
 is s _ = None
 
 abbrev pub found : Keyword → Option Keyword → Option (Unit {0})
-found k None = None
-found k (Some j) = cond (sameb keywords.the_type j k) (Some tt) None
+found k word = option_and_then (λ j. cond (sameb keywords.the_type j k) (Some tt) None) word
 
 -- this reserved word
 abbrev pub key : Keyword → DriverPiece → Option (Unit {0})
