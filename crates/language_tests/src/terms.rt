@@ -98,7 +98,7 @@ static NO_TERMS: [(&str, &str); 21] = [
 static HEADERS: [(&str, &str); 6] = [
     ("i = V,C :", "{i@0 V C} to 5"),
     ("i = V..V :", "{i@0 V} to 5"),
-    ("i=V..X,010;j=1..3:", "{i@0 V..X 010..010}{j@11 1..3} to 13"),
+    ("i=V..X,010;j=1..3:", "{i@0 V..X 010}{j@11 1..3} to 13"),
     (
         "un i dans V,C et un j dans (1..3) :",
         "{i@3 V C}{j@20 1..3} to 15",
