@@ -6,7 +6,6 @@ inputs of a partition deleted. So every reported value is one that the program c
 from __future__ import annotations
 
 import re
-from decimal import Decimal
 from typing import NamedTuple
 
 from . import drivers, source
@@ -46,7 +45,9 @@ class Driver:
         read = drivers.Driver(content)
         if read.faults:
             raise Wrong(f"refused driver line {read.faults[0].line}: {read.faults[0].what}")
-        lines, self.functions, opened = source.lines_of(content), {}, []
+        lines = source.lines_of(content)
+        self.functions: dict[str, Command] = {}
+        opened: list[Command] = []
         for line, parts in read.said:
             text = lines[line.number - 1].partition(b"#")[0].strip().decode("latin-1")
             command = Command(line.number, line.indent, parts, text)
@@ -70,8 +71,8 @@ def last(cell: str, head: Event | None) -> Event | None:
 
 def without(found: Event | None, head: Event | None, cells: list[str]) -> Event | None:
     """The events from one back to another, without those of some cells."""
-    kept = []
-    while found is not head:
+    kept: list[Event] = []
+    while found is not None and found is not head:
         kept += [] if found.cell in cells else [found]
         found = found.history
     for event in reversed(kept):
@@ -79,12 +80,21 @@ def without(found: Event | None, head: Event | None, cells: list[str]) -> Event 
     return head
 
 
+def settable(variables: dict[str, source.Variable]) -> str:
+    """A cell that any driver may set: of a computed variable where there is one, else of a table, else an input."""
+    cells = [drivers.cell_name((name, None if variable.size is None else 0))
+             for name, variable in sorted(variables.items(), key=lambda one: (one[1].kind != "calculee", one[1].size is not None)) if variable.kind != "const"]
+    if not cells:
+        raise Wrong("refused driver: no variable that it may set")
+    return cells[0]
+
+
 class Trace:
     """Follows a driver with the program's help."""
 
     def __init__(self, rules: Rules, copies: Copies, driver: Driver):
         self.rules, self.copies, self.driver = rules, copies, driver
-        self.scratch = next((name for name, variable in rules.variables.items() if variable.kind == "calculee" and variable.size is None), None)
+        self.scratch = settable(rules.variables)
         others = [command for name, command in driver.functions.items() if name != "main"]
         self.others = [line for function in others for line in [function.text, *(line for command in function.block for line in command.lines())]]
 
@@ -120,18 +130,10 @@ class Trace:
 
     def partition(self, command: Command, before: list[str], head: Event | None, where: str) -> Event | None:
         """Follows a partition: its inputs are undefined there, and have their values again after it."""
-        inputs = self.inputs_of(command.text)
+        inputs = drivers.inputs_of_kind(self.rules.variables, *command.said[1:])
         inner = [*before, *(f"  del {name}" for name in inputs)]
         _, found = self.follow(command.block, inner, head, where + said("why.in_partition", line=command.number))
         return without(found, head, inputs)
-
-    def inputs_of(self, text: str) -> list[str]:
-        """The inputs of the kind of a partition."""
-        match = re.fullmatch(r"partition\s+with\s+(\w+)\s*(?:=\s*([0-9., ]+?))?\s*:", text)
-        attribute, values = (match[1], match[2].split(",")) if match[2] else ("avfisc", ["1", "2"])
-        wanted = {Decimal(value.strip()) for value in values}
-        return [name for name, variable in self.rules.variables.items()
-                if variable.kind == "saisie" and attribute in variable.numbers and Decimal(variable.numbers[attribute]) in wanted]
 
     def inside(self, event: Event) -> Event | None:
         """The event in the body of a function that gave a received cell its value; the body works on a copy of all cells."""

@@ -5,6 +5,8 @@ that no rule can take, and goes on with the next line.
 """
 import re
 import sys
+from collections.abc import Mapping
+from decimal import Decimal
 from typing import NamedTuple
 
 from . import grammar, source
@@ -42,9 +44,16 @@ def cell_name(cell):
     return name if index is None else f"{name}[{index}]"
 
 
+def inputs_of_kind(variables: Mapping[str, source.Variable], attribute: str, values: list[str]) -> list[str]:
+    """The inputs of a kind: those that have an attribute at one of some values."""
+    wanted = {Decimal(value) for value in values}
+    return [name for name, variable in variables.items()
+            if variable.kind == "saisie" and attribute in variable.numbers and Decimal(variable.numbers[attribute]) in wanted]
+
+
 class LineReader(grammar.Reader):
-    """The parse of one line: (`function`, name), (`if`,), (`else`,), (`partition`,), (`set`, cell), (`del`, cell) or (`call`, cells, name). `cells` and
-    `kinds` are those anywhere in it."""
+    """The parse of one line: (`function`, name), (`if`,), (`else`,), (`partition`, attribute, values), (`set`, cell), (`del`, cell) or (`call`, cells,
+    name). `cells` and `kinds` are those anywhere in it."""
 
     def __init__(self, tokens):
         super().__init__(tokens)
@@ -71,9 +80,9 @@ class LineReader(grammar.Reader):
             return ("else",)
         if self.take_if("partition"):
             self.take("with")
-            self.kind_of_inputs()
+            attribute, values, _ = self.kind_of_inputs()
             self.take(":")
-            return ("partition",)
+            return ("partition", attribute, values)
         if self.take_if("del"):
             return ("del", self.cell())
         if self.is_word() and self.peek(1).text == "(":
@@ -120,6 +129,7 @@ class LineReader(grammar.Reader):
         elif attribute.text != "taxbenefit":
             self.stuck("a kind is an attribute with its values: avfisc = 1, 2")
         self.kinds.append((attribute.text if values else "avfisc", values or ["1", "2"], attribute.byte))
+        return self.kinds[-1]
 
     def chain(self, read, *signs):
         read()

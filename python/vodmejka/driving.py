@@ -1,7 +1,6 @@
 """Drivers as programs over the rules of calculation.py, which count the commands that they do. The meaning is that of docs/DRIVER.md."""
 from __future__ import annotations
 
-from decimal import Decimal
 from typing import Any, Callable, NamedTuple
 
 from . import drivers, operators, source
@@ -78,8 +77,7 @@ class LineTerms(drivers.LineReader):
         word = self.step().text
         self.take("(")
         if word == "exists":
-            self.kind_of_inputs()
-            found = ("exists", self.kinds[-1])
+            found = ("exists", self.kind_of_inputs())
         else:
             cell = ("cell", *self.cell())
             found = ("op", "present", [cell]) if word == "present" else ("op", "+", [cell, ("number", "0")])
@@ -173,7 +171,7 @@ class Driver:
         return does
 
     def make_partition(self, command: Command, reader: LineTerms) -> Callable[..., None]:
-        cells, block = self.inputs(reader.kinds[0]), self.block(command.block)
+        cells, block = self.inputs(*command.said[1:]), self.block(command.block)
 
         def does(values: list[Value], notes: list[str]) -> None:
             before = [values[cell] for cell in cells]
@@ -209,12 +207,10 @@ class Driver:
 
     # ---- terms
 
-    def inputs(self, kind: tuple[str, list[str], int]) -> list[int]:
-        """The inputs of a kind: an attribute at one of some values."""
-        attribute, values, _ = kind
-        wanted, cells = {Decimal(value) for value in values}, self.rules.cells
-        return [cells.first[name] for name, variable in cells.variables.items()
-                if variable.kind == "saisie" and attribute in variable.numbers and Decimal(variable.numbers[attribute]) in wanted]
+    def inputs(self, attribute: str, values: list[str]) -> list[int]:
+        """The cells of the inputs of a kind."""
+        cells = self.rules.cells
+        return [cells.first[name] for name in drivers.inputs_of_kind(cells.variables, attribute, values)]
 
     def term(self, term: Any) -> Read:
         if term[0] == "number":
@@ -222,7 +218,7 @@ class Driver:
         if term[0] == "cell":
             return self.cell(self.rules.cells.number(*term[1:]))
         if term[0] == "exists":
-            return self.exists(self.inputs(term[1]))
+            return self.exists(self.inputs(*term[1][:2]))
         rest: list[tuple[str, Read]] = []
         while term[0] == "op" and len(term[2]) == 2:
             rest.append((term[1], self.term(term[2][1])))

@@ -1,6 +1,4 @@
 """By which commands a driver sets a variable: for each requested one, the lines that give it its value, and the calls that they go through."""
-from decimal import Decimal
-
 from . import drivers, source
 
 MOST = 200
@@ -89,14 +87,7 @@ class Origins:
 
     def hidden_by(self, command):
         """The codes of the inputs that the partitions round a command make undefined."""
-        for line, said, _ in command.blocks:
-            if said[0] != "partition":
-                continue
-            reader = drivers.LineReader(line.tokens)
-            reader.line()
-            for attribute, values, _ in reader.kinds:
-                wanted = {Decimal(value) for value in values}
-                for variable in self.variables.values():
-                    value = variable.numbers.get(attribute)
-                    if variable.code is not None and value is not None and Decimal(value) in wanted:
-                        yield variable.code
+        for _, said, _ in command.blocks:
+            if said[0] == "partition":
+                codes = (self.variables[name].code for name in drivers.inputs_of_kind(self.variables, *said[1:]))
+                yield from (code for code in codes if code is not None)

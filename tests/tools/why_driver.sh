@@ -49,3 +49,13 @@ printf 'code,amount\n1AJ,6000\n' >above.csv
 "$ROOT/tools/why" a.list h.csv NIX --driver driver.mpp; echo "status $?"
 printf 'main():\n  IRN = \n' >bad.mpp
 "$ROOT/tools/why" a.list h.csv IRN --driver bad.mpp; echo "status $?"
+# Rules without a computed variable that is no table: the condition holds, since 1,000 is above 5, and the driver sets T[1] to 1,000 + 1.
+cat >t.m <<'M'
+REV : saisie revenu classe = 0 alias 1AJ : "wages" ;
+T : tableau[2] calculee : "table" ;
+regle 10 : application : iliad ;
+T[0] = REV ;
+M
+printf 'iliad\nt.m\n' >t.list
+printf 'main():\n  if REV > 5:\n    T[1] = REV + 1\n' >t.mpp
+"$ROOT/tools/why" t.list none.csv 'T[1]' --driver t.mpp; echo "status $?"
