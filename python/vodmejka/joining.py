@@ -26,7 +26,7 @@ def print_columns(answers, only, out):
     with runs.workers() as pool:
         for number, (path, noted) in enumerate(answers):
             waiting.append(pool.submit(part_only, path, noted, only, number == 0))
-            if len(waiting) > 2 * os.cpu_count():
+            if len(waiting) > 2 * (os.cpu_count() or 1):
                 out.write(waiting.popleft().result())
         for piece in waiting:
             out.write(piece.result())
