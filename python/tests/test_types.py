@@ -63,6 +63,11 @@ class Types(unittest.TestCase):
         status, said = self.told()
         self.assertEqual(status, 0, said)
 
+    def test_all_modules(self):
+        """Commands and the language server too, though not strictly: what they say of types is so."""
+        status, said = self.told("--config-file", os.devnull, "--ignore-missing-imports", "vodmejka")
+        self.assertEqual(status, 0, said)
+
     def test_public_calls(self):
         """Each parameter and each result of a public call has a type, and none is `Any` alone."""
         wrong = []

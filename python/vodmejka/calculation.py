@@ -91,9 +91,12 @@ class Terms:
         """The value of a cell; that of a table counts as read."""
         number = self.cells.number(name, index)
         owner.reads.add(number)
-        point, hits = self.cell_points[number], self.points.hits
-        if point is None:
-            return lambda values: values[number]
+        point = self.cell_points[number]
+        return (lambda values: values[number]) if point is None else self.counted(number, point)
+
+    def counted(self, number: int, point: int) -> Read:
+        """The value of a cell, of which each read reaches a point."""
+        hits = self.points.hits
 
         def read(values: list[Value]) -> Value:
             hits[point] += 1

@@ -43,7 +43,7 @@ def read_claim(text: str) -> Claim:
 def of_line(line: str) -> Claim | None:
     """The claim of a line of a report."""
     match = LINE.fullmatch(line.removesuffix("\r"))
-    return match and Claim(match[1], match[3] or spelled(match[2]))
+    return None if match is None else Claim(match[1], match[3] or spelled(match[2]))
 
 
 def of_value(cell: str, value: str) -> Claim:
@@ -140,7 +140,7 @@ def lines_that_set(content: bytes, cell: str) -> list[int]:
     found = []
     for line, said in drivers.Driver(content).said:
         cells = said[1] if said and said[0] == "call" else [said[1]] if said and said[0] in ("set", "del") else []
-        if cell in [name if index is None else f"{name}[{index}]" for name, index in cells]:
+        if cell in map(drivers.cell_name, cells):
             found.append(line.number)
     return found
 

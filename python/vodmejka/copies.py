@@ -106,4 +106,4 @@ def copied(list_name: str, household: str, driver: str | None = None):
     """The rules of a list, and copies of all."""
     rules = Rules(list_name)
     with tempfile.TemporaryDirectory(prefix="copies-") as room:
-        yield rules, Copies(rules, source.fetch(household), room, None if driver in (None, "-") else source.fetch(driver))
+        yield rules, Copies(rules, source.fetch(household), room, None if driver is None or driver == "-" else source.fetch(driver))

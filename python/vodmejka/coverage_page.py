@@ -43,7 +43,7 @@ def sheet(followed: Coverage, path: str, excepted: set[str], number: int) -> str
     states, missed, lines = found.states(), found.missed(), []
     for line in range(1, len(found.lines.feeds) + 2):
         state = states.get(line)
-        begin, text = found.lines.begin(line), found.lines.line(line)
+        begin, text = found.lines.begin(line), found.lines.line(line) or b""
         mark = f"{state} " if state else "  "
         kind = f" {CLASSES[state]}" if state else ""
         lines.append(f'<span class="line{kind}" id="f{number}l{line}"><span class="no">{mark}{line}</span>{underlined(text, begin, missed)}</span>')

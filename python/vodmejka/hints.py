@@ -2,6 +2,7 @@
 from __future__ import annotations
 
 import re
+from collections.abc import Callable, Iterable
 from functools import cached_property
 
 from . import drivers, items, source
@@ -15,7 +16,8 @@ def distance(one: str, other: str, most: int) -> int:
     """The number of letters to change, insert, delete or swap with the next, at most one more than `most`."""
     if abs(len(one) - len(other)) > most:
         return most + 1
-    before, last = [], list(range(len(other) + 1))
+    before: list[int] = []
+    last = list(range(len(other) + 1))
     for k, letter in enumerate(one, 1):
         row = [k]
         for j, against in enumerate(other, 1):
@@ -29,7 +31,7 @@ def distance(one: str, other: str, most: int) -> int:
     return min(last[-1], most + 1)
 
 
-def nearest(word: str, names) -> str | None:
+def nearest(word: str, names: Iterable[str]) -> str | None:
     """The name that was probably meant: of those with the fewest changes the first. A short word may have one change."""
     best, most = None, min(MOST_CHANGES, max(len(word) // 3, 1))
     for name in names:
@@ -47,9 +49,19 @@ class Hints:
     def __init__(self, list_name: str | None, driver: str | None = None):
         self.list_name, self.driver = list_name, driver
 
+    def list_there(self) -> str:
+        """The list; a hint that needs one is none where there is none."""
+        if self.list_name is None:
+            raise source.Refused("no list is named")
+        return self.list_name
+
+    def functions(self) -> list[tuple[str, int]]:
+        """The functions of the driver, each with its line."""
+        return [] if self.driver is None or self.driver == "-" else drivers.Driver(source.fetch(self.driver)).functions
+
     @cached_property
     def base(self) -> source.RuleBase:
-        return source.RuleBase(self.list_name, bounded=False)
+        return source.RuleBase(self.list_there(), bounded=False)
 
     @cached_property
     def readers(self) -> dict[str, items.RuleReader]:
@@ -63,8 +75,9 @@ class Hints:
     def more(self, what: str, name: str | None = None, byte: int | None = None) -> str:
         """The hint for a fault, by its name in the program; nothing if there is none, or if the files can't be read."""
         kind, _, word = what.rpartition(" ")
-        known = {"unknown name": self.meant, "unknown error": self.error_meant, "declared twice": self.declared, "alias twice": self.coded,
-                 "defined twice": self.defined, "bad target": self.target, "unknown": self.in_driver, "function twice": self.function}
+        known: dict[str, Callable[[str, str | None, int | None], str]] = {
+            "unknown name": self.meant, "unknown error": self.error_meant, "declared twice": self.declared, "alias twice": self.coded,
+            "defined twice": self.defined, "bad target": self.target, "unknown": self.in_driver, "function twice": self.function}
         try:
             if what == "unbound index":
                 return self.letters(name, byte)
@@ -101,7 +114,7 @@ class Hints:
         return said("hint.first_input", name=places[0][0], place=places[0][1]) if places else ""
 
     def defined(self, word, name, byte) -> str:
-        formula = Rules(self.list_name).formulas.get(word)
+        formula = Rules(self.list_there()).formulas.get(word)
         return said("hint.first", place=formula.place()) if formula else ""
 
     def target(self, word, name, byte) -> str:
@@ -127,12 +140,11 @@ class Hints:
         return ""
 
     def in_driver(self, word, _name=None, _byte=None) -> str:
-        functions = [name for name, _ in drivers.Driver(source.fetch(self.driver)).functions] if self.driver not in (None, "-") else []
-        found = nearest(word, [*(variable.name for variable in self.base.variables), *functions])
+        found = nearest(word, [*(variable.name for variable in self.base.variables), *(name for name, _ in self.functions())])
         return said("hint.meant", name=found) if found else ""
 
     def function(self, word, _name=None, _byte=None) -> str:
-        lines = [line for name, line in drivers.Driver(source.fetch(self.driver)).functions if name == word] if self.driver not in (None, "-") else []
+        lines = [line for name, line in self.functions() if name == word]
         return said("hint.first", place=f"{self.driver} line {lines[0]}") if lines else ""
 
     def cycle(self, cells: list[str]) -> str:

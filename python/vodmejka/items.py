@@ -6,7 +6,7 @@ take, and continues after the next `;`, so that it finds the later faults too.
 from __future__ import annotations
 
 import sys
-from typing import Sequence
+from typing import Sequence, TypeVar
 
 from .grammar import RESERVED, VALUE, Stuck, Terms, meant
 from .item_types import Check, Declaration, Fault, Formula, Unread
@@ -18,6 +18,7 @@ from .texts import said
 from .tokens import Token, Tokens
 
 KINDS_OF_ERRORS = ("anomalie", "discordance", "informative")
+OneReader = TypeVar("OneReader", bound="RuleReader")
 
 
 class RuleReader(Terms):
@@ -35,7 +36,7 @@ class RuleReader(Terms):
         self.applications: list[str] = []
         self.is_chained = self.due = False
 
-    def read_all(self) -> RuleReader:
+    def read_all(self: OneReader) -> OneReader:
         while self.at < len(self.tokens) or self.due:
             self.piece_or_fault()
         return self

@@ -80,11 +80,11 @@ class Reference:
                 self.add(file, passage, found)
         for found in reader.placed_checks:
             if self.base.application in found.item.applications:
-                item = found.item
-                pieces = self.pieces(file, passage, item.condition, item.byte, {}, found.span[1])
-                comments = list(dict.fromkeys([*passage.comments_at(passage_head(passage, item.byte)), *passage.comments_at(item.byte)]))
-                reads = self.reads(item.condition, {})
-                self.checks.append(Check(found.rule, item.error, pieces, file.name, file.lines.number(item.byte), comments, reads))
+                check = found.item
+                pieces = self.pieces(file, passage, check.condition, check.byte, {}, found.span[1])
+                comments = list(dict.fromkeys([*passage.comments_at(passage_head(passage, check.byte)), *passage.comments_at(check.byte)]))
+                reads = self.reads(check.condition, {})
+                self.checks.append(Check(found.rule, check.error, pieces, file.name, file.lines.number(check.byte), comments, reads))
 
     def add(self, file: source.RuleFile, passage: passages.Passages, found: placed.Placed) -> None:
         """Adds the instances of a formula. For one of a whole table the first cell represents all."""
@@ -111,7 +111,8 @@ class Reference:
     def pieces(self, file: source.RuleFile, passage: passages.Passages, term: Any, begin: int, letters: dict[str, str], end: int) -> list[Piece]:
         """The text from a byte on in one line, with letters filled in, and what its words name."""
         bound = {byte: {letter for header in round_it for letter, _ in header} for _, _, byte, round_it in loops.reads_of(term, [])}
-        at, pieces, behind = tokens_from(passage, begin), [], begin
+        pieces: list[Piece] = []
+        at, behind = tokens_from(passage, begin), begin
         while at < len(passage.tokens) and passage.tokens[at].byte < end:
             token = passage.tokens[at]
             if token.byte > behind and pieces:

@@ -43,7 +43,7 @@ class Pages:
         """Each file with its text."""
         yield "index.html", self.index()
         for kind in LISTS:
-            yield f"{kind}.html", self.list(kind)
+            yield f"{kind}.html", self.names_of_kind(kind)
         yield "verifications.html", self.verifications()
         for name in self.reference.variables:
             yield file_of(name), self.variable(name)
@@ -113,7 +113,7 @@ class Pages:
             f'<h2>{escaped(said("doc.sources"))}</h2><ul>{"".join(files)}</ul>', f'<script type="application/json" id="names">{written}</script>']
         return self.page(self.title, "\n".join(body), "", SEARCH)
 
-    def list(self, kind: str) -> str:
+    def names_of_kind(self, kind: str) -> str:
         rows = []
         for name in self.kinds(kind):
             variable = self.reference.variables[name]

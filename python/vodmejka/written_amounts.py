@@ -41,7 +41,8 @@ class Amounts:
     """Reads amounts, and holds them to one decimal sign in a file. `doubtful` has the signs that may separate thousands if no option decides that."""
 
     def __init__(self, doubtful: str, signs: Signs):
-        self.sign, self.doubtful, self.signs, self.form = None, "" if signs.decimal else doubtful, signs, form(signs)
+        self.doubtful, self.signs, self.form = "" if signs.decimal else doubtful, signs, form(signs)
+        self.sign: tuple[str, str] | None = None  # the one of the first amount that has one, and its place
 
     def read(self, text: str, place: str) -> str:
         """An amount as the program reads it."""

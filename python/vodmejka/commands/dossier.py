@@ -87,6 +87,14 @@ def last_line(content: bytes) -> str:
     return (content.decode("latin-1").removesuffix("\n").split("\n"))[-1]
 
 
+def ends_in(name: str, line: str) -> Claim:
+    """The value that a file gives by its last line."""
+    claim = of_line(line)
+    if claim is None:
+        raise Wrong(f"{name} ends in no value: {line}")
+    return claim
+
+
 def sums(folder: str) -> bytes:
     """The digests of all files of a folder, as sha256sum prints them."""
     names = sorted(os.path.relpath(os.path.join(at, name), folder) for at, _, files in os.walk(folder) for name in files)
@@ -113,7 +121,8 @@ def report_of(folder: str, name: str) -> bytes:
     """The report of a cell by one call of the rules."""
     text, status = runs_why(folder, name)
     lines = lines_of(text)
-    if status != 0 or not lines or of_line(lines[-1]) is None or of_line(lines[-1]).cell != name:
+    last = of_line(lines[-1]) if lines else None
+    if status != 0 or last is None or last.cell != name:
         raise Wrong(f"no report of {name}: {runs.fault_of(text, status)}")
     return "".join(line + "\n" for line in lines).encode("latin-1")
 
@@ -128,8 +137,7 @@ def runs_why(folder: str, name: str) -> tuple[bytes, int]:
 
 def claims_of(folder: str, words: list[str], names: dict[str, str], name: str, driver: str) -> tuple[str, Claim]:
     """The text of claims.txt, and what is claimed."""
-    claim = of_line(last_line(source.fetch(os.path.join(folder, "answer.txt"), 1 << 30)))
-    proved = of_line(lines_of(source.fetch(os.path.join(folder, "report.txt"), 1 << 30))[-1])
+    claim, proved = (ends_in(name, last_line(source.fetch(os.path.join(folder, name), 1 << 30))) for name in ("answer.txt", "report.txt"))
     lines = [f"claim: {claim.said()}",
              f"by: a run of the rules {'without a driver' if driver == '-' else 'with the driver'} for the household",
              f"proved by the report: {proved.said()}, in one call of the rules at the start of a run",

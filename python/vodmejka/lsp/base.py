@@ -186,7 +186,7 @@ class Base:
 
 
 def slot_of(formula: Formula) -> Any:
-    return formula.slot if formula.slot in (None, "X") else loops.whole(formula.slot)
+    return formula.slot if formula.slot is None or formula.slot == "X" else loops.whole(formula.slot)
 
 
 def number_of(head: Head) -> tuple[str, int]:

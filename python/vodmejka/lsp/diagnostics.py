@@ -2,7 +2,7 @@
 from __future__ import annotations
 
 import re
-from collections.abc import Iterator
+from collections.abc import Iterator, Mapping
 from typing import Any
 
 from .. import drivers, faults, items, source
@@ -116,7 +116,7 @@ def strange_applications(text: RuleText, known: set[str]) -> Iterator[Diagnostic
                     yield diagnostic(text, begin, begin + len(application), INFORMATION, f"application {application} is of no list that is known")
 
 
-def sentence(sentences: dict[str, str], what: str) -> str:
+def sentence(sentences: Mapping[str, str], what: str) -> str:
     """What to mend."""
     return next((mend for name, mend in sentences.items() if what == name or what.startswith(name + " ")), "")
 

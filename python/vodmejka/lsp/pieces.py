@@ -87,6 +87,8 @@ class Piece:
 class PieceReader(items.RuleReader):
     """Reads a file from a piece on, some tokens at a time."""
 
+    tokens: list[source.Token]
+
     def __init__(self, text: RuleText, begin: int, state: State) -> None:
         super().__init__([])
         sys.setrecursionlimit(max(sys.getrecursionlimit(), RECURSION))
@@ -133,7 +135,8 @@ class PieceReader(items.RuleReader):
         self.inside, self.applications, self.is_chained, self.due = state.inside, list(state.applications), state.is_chained, state.due
 
     def forget(self) -> None:
-        for found in (self.formulas, self.checks, self.declarations, self.errors, self.faults):
+        lists: tuple[list[Any], ...] = (self.formulas, self.checks, self.declarations, self.errors, self.faults)
+        for found in lists:
             found.clear()
         self.kinds_of_errors.clear()
         self.cell_numbers.clear()

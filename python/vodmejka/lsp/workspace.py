@@ -165,7 +165,8 @@ class Workspace:
 
     def read_list(self, base: Base) -> None:
         """Reads a list, and takes its files in; those that it no longer names go."""
-        base.fault, application, names = "", base.application, []
+        names: list[str] = []
+        base.fault, application = "", base.application
         base.signature = signature_of(base.path)
         try:
             application, names = source.read_list_text(base.path, source.fetch(base.path).removeprefix(source.MARK))
