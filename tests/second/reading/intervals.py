@@ -3,6 +3,7 @@
 A fact states whether a value may be undefined, whether it may be over, and between which numbers it is.
 """
 
+import functools
 from typing import NamedTuple, Optional, Tuple
 
 from .amounts import GREATEST, OVER, UNDEFINED, UNIT, arr, cut, rounded, truth
@@ -97,43 +98,38 @@ def quotients(a, b):
     return min(ends), max(ends)
 
 
-def results(operator, a, b):
-    """The numbers that an operator may give of numbers of one interval, or of two."""
-    if operator == "add":
-        return a[0] + b[0], a[1] + b[1]
-    if operator == "sub":
-        return a[0] - b[1], a[1] - b[0]
-    if operator == "mul":
-        ends = [rounded(x * y, UNIT) for x in a for y in b]
-        return min(ends), max(ends)
-    if operator == "div":
-        return quotients(a, b)
-    if operator == "neg":
-        return -a[1], -a[0]
-    if operator in ("eq", "ne", "lt", "le", "gt", "ge"):
-        return compared(operator, a, b)
-    if operator == "and":
-        return tests(has_other(a) and has_other(b), has_zero(a) or has_zero(b))
-    if operator == "or":
-        return tests(has_other(a) or has_other(b), has_zero(a) and has_zero(b))
-    if operator in ("not", "null"):
-        return tests(has_zero(a), has_other(a))
-    if operator == "abs":
-        return max(a[0], -a[1], 0), max(-a[0], a[1])
-    if operator == "positif":
-        return tests(a[1] > 0, a[0] <= 0)
-    if operator == "positif_ou_nul":
-        return tests(a[1] >= 0, a[0] < 0)
-    if operator == "arr":
-        return arr(a[0]), arr(a[1])
-    if operator == "inf":
-        return tuple((end + 1) // UNIT * UNIT for end in a)
-    if operator == "max":
-        return max(a[0], b[0]), max(a[1], b[1])
-    if operator == "min":
-        return min(a[0], b[0]), min(a[1], b[1])
-    cuts = [tuple(cut(end) * UNIT for end in numbers) for numbers in (a, b)]
-    return compared("eq", *cuts)
+def products(a, b):
+    """Products: the least and the greatest are of ends."""
+    ends = [rounded(x * y, UNIT) for x in a for y in b]
+    return min(ends), max(ends)
+
+
+def cut_ends(numbers):
+    """The ends of numbers, cut to whole units."""
+    return tuple(cut(end) * UNIT for end in numbers)
+
+
+# The numbers that an operator may give of numbers of one interval (the second doesn't count), or of two.
+RESULTS = {
+    "add": lambda a, b: (a[0] + b[0], a[1] + b[1]),
+    "sub": lambda a, b: (a[0] - b[1], a[1] - b[0]),
+    "mul": products,
+    "div": quotients,
+    "neg": lambda a, _: (-a[1], -a[0]),
+    **{operator: functools.partial(compared, operator) for operator in ("eq", "ne", "lt", "le", "gt", "ge")},
+    "and": lambda a, b: tests(has_other(a) and has_other(b), has_zero(a) or has_zero(b)),
+    "or": lambda a, b: tests(has_other(a) or has_other(b), has_zero(a) and has_zero(b)),
+    "not": lambda a, _: tests(has_zero(a), has_other(a)),
+    "null": lambda a, _: tests(has_zero(a), has_other(a)),
+    "abs": lambda a, _: (max(a[0], -a[1], 0), max(-a[0], a[1])),
+    "positif": lambda a, _: tests(a[1] > 0, a[0] <= 0),
+    "positif_ou_nul": lambda a, _: tests(a[1] >= 0, a[0] < 0),
+    "arr": lambda a, _: (arr(a[0]), arr(a[1])),
+    "inf": lambda a, _: tuple((end + 1) // UNIT * UNIT for end in a),
+    "max": lambda a, b: (max(a[0], b[0]), max(a[1], b[1])),
+    "min": lambda a, b: (min(a[0], b[0]), min(a[1], b[1])),
+    "at": lambda a, b: compared("eq", cut_ends(a), cut_ends(b)),
+}
 
 
 def bounded(undefined, over, numbers):
@@ -146,9 +142,10 @@ def bounded(undefined, over, numbers):
 
 def of_numbers(operator, undefined, over, a, b):
     """What an operator gives of numbers of two intervals, apart from undefined and over."""
+    result = RESULTS[operator]
     if a is None or b is None:
         return Fact(undefined, over, None)
-    return bounded(undefined, over, results(operator, a, b))
+    return bounded(undefined, over, result(a, b))
 
 
 def of_one(operator, a):
