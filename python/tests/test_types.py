@@ -64,7 +64,7 @@ class Types(unittest.TestCase):
         self.assertEqual(status, 0, said)
 
     def test_all_modules(self):
-        """Commands and the language server too, though not strictly: what they say of types is so."""
+        """Of all modules, commands and the language server too. What has no types is not looked into here."""
         status, said = self.told("--config-file", os.devnull, "--ignore-missing-imports", "vodmejka")
         self.assertEqual(status, 0, said)
 

@@ -5,20 +5,16 @@ what orders households into tenths goes into a file without a name. So memory is
 """
 from __future__ import annotations
 
-import collections
-import concurrent.futures
 import contextlib
 import functools
-import multiprocessing
 import os
-from concurrent.futures.process import BrokenProcessPool
 from dataclasses import dataclass
-from typing import BinaryIO, Callable, Iterable, Iterator, Sequence, TypeVar
+from typing import BinaryIO, Iterator, Sequence
 
 from . import amounts, runs
 from .comparers import Comparer, Outcome, Request, Side, Step
 from .comparisons import TENTH, Comparison, check_names, sign_of
-from .errors import Broken, Failed, Interrupted, Refused
+from .errors import Broken, Failed, Refused
 from .expressions import Expression
 from .groups import Group, merge_into, merged
 from .limits import FILE_BYTES
@@ -29,8 +25,6 @@ from .rules import Rules
 from .tenths import Ordered, groups_of, names_of
 
 ROWS, BYTES, GROUPS = 20_000, 4_000_000, 10_000
-Job = TypeVar("Job")
-Result = TypeVar("Result")
 
 
 @dataclass
@@ -60,7 +54,7 @@ def compare_file(
         orders = [stack.enter_context(contextlib.closing(Ordered())) for _ in comparer.request.tenths]
         found = Outcome(comparer.empty("all"), [{} for _ in comparer.request.groups])
         others = [comparer.empty(f"no {name}") for name, _ in comparer.request.tenths]
-        for part in in_order(comparer.outcome, table.parts(ROWS, min(BYTES, FILE_BYTES // 2))):
+        for part in runs.in_order(comparer.outcome, table.parts(ROWS, min(BYTES, FILE_BYTES // 2))):
             if lines is not None:
                 lines.write(part.lines)
             add(found, part, orders, others)
@@ -144,29 +138,7 @@ def groups_in_order(comparer: Comparer, by: Sequence[str], found: Outcome, order
             continue
         order, other = next(numbers)
         names = names_of(name.removeprefix(TENTH))
-        shares = list(in_order(functools.partial(groups_of, order.file, names, sign, scale), order.shares()))
+        shares = list(runs.in_order(functools.partial(groups_of, order.file, names, sign, scale), order.shares()))
         yield from (merged(name, sign, scale, (share[k] for share in shares)) for k, name in enumerate(names))
         if other.households:
             yield other
-
-
-def in_order(work: Callable[[Job], Result], jobs: Iterable[Job]) -> Iterator[Result]:
-    """The results of jobs by workers, in their order; some jobs are under way at once, however many there are. Where one fails, all workers are ended."""
-    others = set(multiprocessing.active_children())
-    most = 2 * (os.cpu_count() or 1)
-    try:
-        with runs.workers() as pool:
-            try:
-                waiting: collections.deque[concurrent.futures.Future[Result]] = collections.deque()
-                for job in jobs:
-                    waiting.append(pool.submit(work, job))
-                    if len(waiting) >= most:
-                        yield waiting.popleft().result()
-                while waiting:
-                    yield waiting.popleft().result()
-            except BaseException:
-                for worker in set(multiprocessing.active_children()) - others:
-                    worker.kill()
-                raise
-    except BrokenProcessPool:
-        raise Interrupted("a worker ended before its work was done") from None

@@ -1,7 +1,6 @@
 """Joining the answers to the parts of a table: they are printed as one, whole or some columns of csv. An answer is a file and its noted digest."""
-import collections
+import functools
 import hashlib
-import os
 
 from . import csv_answers, runs
 from .errors import Failed
@@ -22,18 +21,14 @@ def changed(path):
 
 def print_columns(answers, only, out):
     """Prints the columns of some names of answers of csv, which other processes take out of the parts, some parts ahead of what is printed."""
-    waiting = collections.deque()
-    with runs.workers() as pool:
-        for number, (path, noted) in enumerate(answers):
-            waiting.append(pool.submit(part_only, path, noted, only, number == 0))
-            if len(waiting) > 2 * (os.cpu_count() or 1):
-                out.write(waiting.popleft().result())
-        for piece in waiting:
-            out.write(piece.result())
+    jobs = ((path, noted, number == 0) for number, (path, noted) in enumerate(answers))
+    for piece in runs.in_order(functools.partial(part_only, only), jobs):
+        out.write(piece)
 
 
-def part_only(path, noted, only, with_head):
-    """The requested columns of a part."""
+def part_only(only, part):
+    """The requested columns of a part: of its file, by its digest, with its head or without."""
+    path, noted, with_head = part
     with open(path, "rb") as file:
         text = file.read()
     if hashlib.sha256(text).hexdigest() != noted:

@@ -2,6 +2,7 @@
 with their parent."""
 from __future__ import annotations
 
+import collections
 import concurrent.futures
 import contextlib
 import errno
@@ -15,14 +16,17 @@ import subprocess
 import tempfile
 import threading
 import time
-from typing import IO, Any, Iterator, Sequence
+from concurrent.futures.process import BrokenProcessPool
+from typing import IO, Any, Callable, Iterable, Iterator, Sequence, TypeVar
 
 from . import program, source
-from .errors import Broken, Failed
+from .errors import Broken, Failed, Interrupted
 from .limits import CODE_FILE_BYTES
 from .program import Program, digest_of
 
 PIECE = 1_048_576
+Job = TypeVar("Job")
+Result = TypeVar("Result")
 
 
 def file_digest(path: str | os.PathLike[str], out: IO[bytes] | None = None, below_head: bool = False) -> str:
@@ -219,6 +223,28 @@ def workers() -> Iterator[concurrent.futures.ProcessPoolExecutor]:
         except BaseException:
             pool.shutdown(cancel_futures=True)
             raise
+
+
+def in_order(work: Callable[[Job], Result], jobs: Iterable[Job]) -> Iterator[Result]:
+    """The results of jobs by workers, in their order; some jobs are under way at once, however many there are. Where one fails, all workers are ended."""
+    others = set(multiprocessing.active_children())
+    most = 2 * (os.cpu_count() or 1)
+    try:
+        with workers() as pool:
+            try:
+                waiting: collections.deque[concurrent.futures.Future[Result]] = collections.deque()
+                for job in jobs:
+                    waiting.append(pool.submit(work, job))
+                    if len(waiting) >= most:
+                        yield waiting.popleft().result()
+                while waiting:
+                    yield waiting.popleft().result()
+            except BaseException:
+                for worker in set(multiprocessing.active_children()) - others:
+                    worker.kill()
+                raise
+    except BrokenProcessPool:
+        raise Interrupted("a worker ended before its work was done") from None
 
 
 # ---- the source
